@@ -1,0 +1,5 @@
+pub mod Numbers
+pub mod Sizes
+pub mod Theorems
+pub mod Reading
+pub mod Numerals

@@ -1,0 +1,44 @@
+// The errors that end a run, each by the name that GW-BASIC gives its number; `OutputFull` is the house's.
+ghost use mathlib.Core.Path.{_≡_};
+ghost use Rattle.whole.specs.Errors.{numberOf};
+
+pub enum Error {
+    NextWithoutFor,
+    Syntax,
+    ReturnWithoutGosub,
+    IllegalFunctionCall,
+    Overflow,
+    OutOfMemory,
+    UndefinedLine,
+    DivisionByZero,
+    TypeMismatch,
+    OutOfStringSpace,
+    StringTooLong,
+    FormulaTooComplex,
+    LineBufferOverflow,
+    InputPastEnd,
+    OutputFull,
+}
+
+// The number that the paper gives an error.
+pub fn number_of(error: Error) -> u8
+    ensures { λ r. ⌜ r ≡ numberOf error ⌝ }
+{
+    match error {
+        Error::NextWithoutFor => 1,
+        Error::Syntax => 2,
+        Error::ReturnWithoutGosub => 3,
+        Error::IllegalFunctionCall => 5,
+        Error::Overflow => 6,
+        Error::OutOfMemory => 7,
+        Error::UndefinedLine => 8,
+        Error::DivisionByZero => 11,
+        Error::TypeMismatch => 13,
+        Error::OutOfStringSpace => 14,
+        Error::StringTooLong => 15,
+        Error::FormulaTooComplex => 16,
+        Error::LineBufferOverflow => 23,
+        Error::InputPastEnd => 62,
+        Error::OutputFull => 110,
+    }
+}
