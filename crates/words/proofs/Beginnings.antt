@@ -1,0 +1,43 @@
+-- What a token is read from: the first byte that is no blank, and the run that it begins.
+use mathlib.Core.Path.{_≡_, ap}
+use mathlib.Core.Logic.{⊎-elim}
+use mathlib.Core.List.{List, [], _∷_}
+use Prim.Native.Nat.{ℕ, _+_, _-_, _≤_, _<_}
+use lib.ListN.{length, getD, take, drop, drop-of-length-le, List·getD-eq-default}
+use lib.Seq.{drop-drop}
+use Rattle.whole.specs.Bytes.{leading}
+use Rattle.whole.specs.Digits.{blanksOf}
+use Rattle.whole.proofs.Numbers.{less}
+use Rattle.whole.proofs.Reading.{drop-next}
+use Rattle.words.specs.Classes.{classOf, passes}
+use Rattle.words.specs.Vocabulary.{wordOf}
+use Rattle.words.specs.Tokens.{_upto_, markOf, marked, wordToken, begun, tokenAt}
+use Rattle.words.specs.declared.places.Place.{Place}
+use Rattle.words.specs.declared.classes.Run.the-variants.{Word}
+use Rattle.words.specs.declared.vocabulary.WordFound.{WordFound}
+use Rattle.words.specs.declared.tokens.Mark.{Mark}
+use Rattle.words.specs.declared.symbols.Token.the-variants.{EndOfLine}
+use Rattle.words.proofs.Runs.{run-part}
+
+-- past the end stands a 0, which is no mark
+pub mark-here : (s : List ℕ) (i : ℕ) → markOf (drop i s) ≡ markOf (getD s i 0 ∷ [])
+unfolding markOf
+mark-here s i =
+    ⊎-elim (λ h. ap markOf (drop-next s i h)) (λ h. rw (drop-of-length-le s h, List·getD-eq-default s 0 h)) (less i (length s))
+
+-- a word is its run, looked up, with the mark after it
+pub word-here : (s : List ℕ) (i n : ℕ) (f : WordFound) (m : Mark) → n ≡ length (leading (passes Word) (drop i s))
+    → f ≡ wordOf (take (i + n - i) (drop i s)) → m ≡ markOf (drop (i + n) s) → wordToken (length s) i (drop i s) ≡ marked f m i n (length s)
+unfolding wordToken
+word-here s i n f m e p q = rw (p, q, run-part (passes Word) s i e, e, drop-drop)
+
+module _ (line : List ℕ) (at : Place) (i : ℕ) (first : i ≡ at .0 + blanksOf (drop (at .0) line)) where
+  -- where only blanks are left, the line ends
+  pub ends-here : length line ≤ i → tokenAt line at ≡ (EndOfLine upto length line)
+  unfolding tokenAt
+  ends-here h = rw (← first, drop-of-length-le line h)
+
+  -- anywhere else a token begins by the class of its first byte
+  pub begins-here : i < length line → tokenAt line at ≡ begun (classOf (getD line i 0)) (length line) i (drop i line)
+  unfolding tokenAt
+  begins-here h = rw (← first, drop-next line i h)

@@ -1,0 +1,18 @@
+-- Each arm is a clause of `marked`.
+use borrow.Author.Needs.{needs}
+use Rattle.words.proofs.tokens.plain.Statement.{statement}
+use Rattle.words.proofs.tokens.plain.Tie as tie
+
+pub plain-spec : {M : Type 1} → statement M
+plain-spec =
+    tie.close
+    (tie.spec
+    (λ c. search needs)
+    (λ c κs. search needs)
+    (λ c. search needs)
+    (λ c κs. search needs)
+    (λ c. search needs)
+    (λ c κs. search needs)
+    (λ c. λ n end e. rw (c .before .enum-told .given .1, ← e) (c .up-to .ensures))
+    (λ c. λ n end e. rw (c .before .enum-told2 .given .1) (c .unreadable .ensures))
+    (λ c. λ n end e. rw (c .before .enum-told3 .given .1) (c .unreadable2 .ensures)))
