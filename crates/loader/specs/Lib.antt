@@ -1,0 +1,4 @@
+pub mod Refusals
+pub mod Lines
+pub mod Loading
+pub mod Examples

@@ -1,0 +1,58 @@
+-- What loading a text answers: the paper's tests in the paper's order, the last five line by line.
+use mathlib.Core.Bool.{Bool, cond, _&&_}
+use mathlib.Core.List.{List, [], _∷_}
+use Prim.Native.Nat.{ℕ, _+_}
+use Prim.Native.Char.{code}
+use lib.Dec.{leb, ltb}
+use lib.ListN.{length}
+use Rattle.whole.specs.Bytes.{leading}
+use Rattle.words.specs.Places.{place, lineNumber}
+use Rattle.loader.specs.Lines.{Line, linesOf, numberOf}
+use Rattle.loader.specs.declared.lines.NumberFound.{NumberFound}
+use Rattle.loader.specs.declared.lines.NumberFound.the-variants as number
+use Rattle.loader.specs.declared.refusals.Refusal.{Refusal}
+use Rattle.loader.specs.declared.refusals.Refusal.the-variants.{
+  TextTooLong,
+  LineTooLong,
+  ForeignByte,
+  BadNumber,
+  NotRising,
+  TooManyLines,
+}
+use Rattle.loader.specs.declared.loading.Judged.{Judged}
+use Rattle.loader.specs.declared.loading.Judged.the-variants.{Good, Bad}
+use Rattle.loader.specs.declared.loading.Loaded.{Loaded}
+use Rattle.loader.specs.declared.loading.Loaded.the-variants.{Fine, Refused}
+
+-- bytes 32 to 126, blank to tilde
+unfoldable pub isPlain : ℕ → Bool
+isPlain b = leb (code " ") b && leb b (code "~")
+
+-- a line with a number: the number must be above the one before, that is, not below `floor`, and at most 511 lines stand before it
+unfoldable pub numbered : ℕ → ℕ → ℕ → Judged
+numbered n before floor =
+    cond (ltb n floor) (Bad NotRising 0) (cond (leb 512 before) (Bad TooManyLines 0) (Good (lineNumber n)))
+
+abbrev pub withNumber : NumberFound → ℕ → ℕ → Judged
+withNumber (number.Is n count) before floor = numbered (n .0) before floor
+withNumber number.None before floor = Bad BadNumber 0
+
+-- the tests of a line, each with how far into the line its place is
+unfoldable pub judged : List ℕ → ℕ → ℕ → Judged
+judged bytes before floor =
+    cond (ltb 255 (length bytes)) (Bad LineTooLong 0)
+    (cond (ltb (length (leading isPlain bytes)) (length bytes)) (Bad ForeignByte (length (leading isPlain bytes)))
+    (withNumber (numberOf bytes) before floor))
+
+-- the first line that is bad decides; the next line's number must be above this one's
+abbrev pub after : Judged → ℕ → (ℕ → Loaded) → Loaded
+after (Good n) start next = next (n .0 + 1)
+after (Bad refusal offset) start next = Refused refusal (place (start + offset))
+
+unfoldable pub loadLines : ℕ → ℕ → List Line → Loaded
+loadLines before floor [] = Fine
+loadLines before floor (l ∷ ls) = after (judged (l .bytes) before floor) (l .start) (λ above. loadLines (before + 1) above ls)
+
+-- a text over 16,384 bytes is refused first
+unfoldable pub loadOf : List ℕ → Loaded
+loadOf text = cond (ltb 16384 (length text)) (Refused TextTooLong (place 0)) (loadLines 0 0 (linesOf text))

@@ -1,0 +1,30 @@
+// What is refused before anything is done, in the order of the paper's table.
+ghost use mathlib.Core.Path.{_≡_};
+ghost use Rattle.loader.specs.Refusals.{refusalNumber};
+
+pub enum Refusal {
+    NoVariable,
+    SpaceTooLong,
+    TextTooLong,
+    LineTooLong,
+    ForeignByte,
+    BadNumber,
+    NotRising,
+    TooManyLines,
+}
+
+// The number that the paper gives a refusal.
+pub fn refusal_number(refusal: Refusal) -> u8
+    ensures { λ r. ⌜ r ≡ refusalNumber refusal ⌝ }
+{
+    match refusal {
+        Refusal::NoVariable => 111,
+        Refusal::SpaceTooLong => 106,
+        Refusal::TextTooLong => 100,
+        Refusal::LineTooLong => 103,
+        Refusal::ForeignByte => 104,
+        Refusal::BadNumber => 101,
+        Refusal::NotRising => 102,
+        Refusal::TooManyLines => 105,
+    }
+}
