@@ -1,0 +1,16 @@
+pub mod Alone
+pub mod Answering
+pub mod Beginning
+pub mod Endings
+pub mod Findings
+pub mod Grammar
+pub mod Levelled
+pub mod Outcomes
+pub mod Parts
+pub mod Printing
+pub mod Readings
+pub mod Sorting
+pub mod Steps
+pub mod Tallies
+pub mod Walks
+pub mod Weights

@@ -1,0 +1,19 @@
+// What a line means: the readers of formulas, statements and lines.
+mod expressions;
+mod functions;
+mod lines;
+mod sorts;
+mod statements;
+mod tests;
+
+pub use expressions::FormulaRead;
+pub use expressions::formula_at;
+pub use lines::Follow;
+pub use lines::Judged;
+pub use lines::follows;
+pub use lines::judge;
+pub use sorts::Sort;
+pub use statements::Own;
+pub use statements::StatementRead;
+pub use statements::statement_at;
+pub use tests::NamedLine;
