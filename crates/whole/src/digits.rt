@@ -23,7 +23,8 @@ pub struct Digits {
 // The largest value that fits.
 const LARGEST: u32 = 65535;
 
-fn is_digit(byte: u8) -> bool
+// A byte of 0 to 9.
+pub fn is_digit(byte: u8) -> bool
     ensures { λ r. ⌜ r ≡ isDigit byte ⌝ }
 {
     b'0' <= byte && byte <= b'9'

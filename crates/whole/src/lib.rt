@@ -14,6 +14,7 @@ pub use arithmetic::negative;
 pub use arithmetic::sign;
 pub use digits::Digits;
 pub use digits::Magnitude;
+pub use digits::is_digit;
 pub use digits::leading_blanks;
 pub use digits::leading_digits;
 pub use digits::val;

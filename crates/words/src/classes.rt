@@ -2,11 +2,11 @@
 ghost use mathlib.Core.Path.{_≡_};
 ghost use lib.ListN.{length};
 ghost use Rattle.whole.specs.Bytes.{leading};
-ghost use Rattle.whole.specs.Digits.{isDigit};
 ghost use Rattle.words.specs.Classes.{capitalOf, isLetter, signOf, classOf, isHex, passes};
 use crate::symbols::Sign;
 use crate::symbols::Token;
 use whole::Operator;
+use whole::is_digit;
 
 // What the reader tells a byte apart by.
 pub enum ByteClass {
@@ -49,12 +49,6 @@ fn is_letter(byte: u8) -> bool
 {
     let letter = capital(byte);
     b'A' <= letter && letter <= b'Z'
-}
-
-fn is_digit(byte: u8) -> bool
-    ensures { λ r. ⌜ r ≡ isDigit byte ⌝ }
-{
-    b'0' <= byte && byte <= b'9'
 }
 
 fn is_hex(byte: u8) -> bool
