@@ -14,3 +14,4 @@ pub mod Steps
 pub mod Tallies
 pub mod Walks
 pub mod Weights
+pub mod Visits

@@ -1,12 +1,11 @@
 // A recipe passes, or the first faulty line decides.
 ghost use mathlib.Core.Path.{_≡_};
-ghost use lib.ListN.{length, drop};
 ghost use Rattle.loader.specs.Lines.{linesOf};
 ghost use Rattle.reader.specs.Trees.{Part};
 ghost use Rattle.reader.specs.Statements.{reads, readLine};
 ghost use Rattle.reader.specs.Lines.{statementsOf};
 ghost use Rattle.checker.specs.Check.{missing, anyMissing, faultIn, checkOf};
-
+ghost use Rattle.checker.specs.Answers.{namesOf};
 use loader::LineFound;
 use loader::Loaded;
 use loader::Refusal;
@@ -51,7 +50,9 @@ fn is_missing(text: &[u8], names: NamedLine) -> bool
 }
 
 // The line that a statement by itself names.
-fn named_by(read: StatementRead) -> NamedLine {
+fn named_by(read: StatementRead) -> NamedLine
+    ensures { λ r. ⌜ r ≡ namesOf read ⌝ }
+{
     match read {
         StatementRead::Bad => NamedLine::NoLine,
         StatementRead::Done(own) => own.names,
@@ -61,12 +62,10 @@ fn named_by(read: StatementRead) -> NamedLine {
 
 // Whether any statement of a line names a line that is missing.
 fn any_missing(text: &[u8], line: &[u8]) -> bool
-    ensures {
-        λ r. ⌜
-            ((part : Part) → readLine (now (line .entry)) ≡ reads part
-                → r ≡ anyMissing (linesOf (now (text .entry))) (statementsOf part))
-        ⌝
-    }
+    ensures { λ r. ⌜
+        ((part : Part) → readLine (now (line .entry)) ≡ reads part
+        → r ≡ anyMissing (linesOf (now (text .entry))) (statementsOf part))
+        ⌝ }
 {
     let mut at = Place(0);
     let mut first = false;
@@ -96,7 +95,7 @@ fn any_missing(text: &[u8], line: &[u8]) -> bool
 }
 
 // In a line 2, then 16, then 13, then 8.
-fn soundness(text: &[u8], line: &[u8]) -> Soundness
+fn fault_in(text: &[u8], line: &[u8]) -> Soundness
     ensures { λ r. ⌜ r ≡ faultIn (linesOf (now (text .entry))) (readLine (now (line .entry))) ⌝ }
 {
     match judge(line) {
@@ -124,13 +123,15 @@ pub fn check_recipe(text: &[u8]) -> Verdict
         let LineFound::Is(line) = line_at(text, at) else {
             return Verdict::Passed;
         };
+        let number = line.number;
         let body = line.body;
         let end = line.end;
+        let next = line.next;
         let from = body.0;
         let to = end.0;
-        if let Soundness::Fault(error) = soundness(text, &text[from..to]) {
-            return Verdict::Faulty(error, line.number);
+        if let Soundness::Fault(error) = fault_in(text, &text[from..to]) {
+            return Verdict::Faulty(error, number);
         }
-        at = line.next;
+        at = next;
     }
 }
