@@ -1,5 +1,5 @@
 -- The code's answers beside what is read: types and depths are made of the parts' types and depths alike.
-use mathlib.Core.Path.{_≡_, refl, _∙_}
+use mathlib.Core.Path.{_≡_, refl, sym, _∙_}
 use mathlib.Core.Bool.{true, false}
 use mathlib.Core.List.{List, [], _∷_, _++_}
 use Prim.Native.Nat.{ℕ, suc, _+_, max}
@@ -32,6 +32,7 @@ use Rattle.reader.specs.Answers.{
 use Rattle.reader.specs.declared.functions.Fit.the-variants.{Gives, NoForm}
 use Rattle.reader.specs.declared.functions.Sorts.{Sorts}
 use Rattle.reader.specs.declared.functions.Sorts.the-variants as sorts
+use Rattle.reader.specs.declared.expressions.FormulaRead.{FormulaRead}
 use Rattle.reader.specs.declared.expressions.FormulaRead.the-variants.{Bad, Good}
 use Rattle.reader.specs.declared.sorts.Sort.{Sort}
 
@@ -43,13 +44,13 @@ pub record Answered (x : Reading) (u : Scanned) (k : Sort) (d : ℕ) : Type 0 wh
   pub sort : k ≡ sortOf f
   pub deep : d ≡ cappedDepth (depthOf f)
 
-pub answered : (x : Reading) (u : Scanned) (k : Sort) (d : ℕ) → Good u k d ≡ answerOf x → Answered x u k d
-answered bad u k d e = let z : _≡_ {A = ℕ} 0 1 = cc in absurd (omega arith)
-answered (good f v) u k d e = record { f = f; is = cc; sort = cc; deep = cc }
+pub answered : (x : Reading) {a : FormulaRead} {u : Scanned} {k : Sort} {d : ℕ} → a ≡ answerOf x → a ≡ Good u k d → Answered x u k d
+answered bad e g = let z : _≡_ {A = ℕ} 0 1 = cc in absurd (omega arith)
+answered (good f v) e g = record { f = f; is = cc; sort = cc; deep = cc }
 
-pub not-read : (x : Reading) → Bad ≡ answerOf x → x ≡ bad
-not-read bad e = refl
-not-read (good f v) e = cc
+pub not-read : (x : Reading) {a : FormulaRead} → a ≡ answerOf x → a ≡ Bad → x ≡ bad
+not-read bad e g = refl
+not-read (good f v) e g = cc
 
 -- ---- depths, counted up to nine
 
@@ -59,8 +60,11 @@ capped-suc d =
     (λ e. rw e (omega (arith, leb-true (cappedDepth d) 8 e)))
     (λ e. rw e (omega (arith, leb-false (cappedDepth d) 8 e)))
 
-capped-max : (a b : ℕ) → max (cappedDepth a) (cappedDepth b) ≡ cappedDepth (max a b)
+pub capped-max : (a b : ℕ) → cappedDepth (max a b) ≡ max (cappedDepth a) (cappedDepth b)
 capped-max a b = omega arith
+
+pub max-assoc : (a b c : ℕ) → max a (max b c) ≡ max (max a b) c
+max-assoc a b c = omega arith
 
 -- ---- what readers make of readings, on answers
 
@@ -98,7 +102,7 @@ pub kept-also : (types types' : Sorts) (depth depth' : ℕ) (k : Sort) (d : ℕ)
 unfolding sortOf depthOf
 kept-also types types' depth depth' k d p q a f kept ek ed = record {
   sorted = rw ek at (p (sortsOf a) (kept .sorted));
-  deep = (rw (kept .deep, ed) at q) ∙ capped-max (deepestOf a) (depthOf f);
+  deep = (rw (kept .deep, ed) at q) ∙ sym (capped-max (deepestOf a) (depthOf f));
 }
 
 -- there are as many types as arguments

@@ -49,7 +49,7 @@ failed {b} e h = sym e ∙ not-true b h
 -- ---- what holds of each way holds of the choice
 
 pub by-name : (P : Begun → Type 0) (t : Token) (go : Name → Begun) (other : Begun)
-    → ((v : Name) → nameOf t ≡ Is v → reads t ≡ true → P (go v)) → (nameOf t ≡ None → P other) → P (onName t go other)
+    → ((v : Name) → nameOf t ≡ Is v → t ≡ Named v → P (go v)) → (nameOf t ≡ None → P other) → P (onName t go other)
 by-name P EndOfLine go other found none = none refl
 by-name P (Keyword w) go other found none = none refl
 by-name P Not go other found none = none refl
@@ -78,8 +78,8 @@ by-line P (Quoted q) go other found none = none refl
 by-line P (Symbol s) go other found none = none refl
 by-line P Unreadable go other found none = none refl
 
-pub by-text : (P : Begun → Type 0) (t : Token) (go : Quotation → Begun) (other : Begun)
-    → ((q : Quotation) → isQuoted t ≡ true → reads t ≡ true → P (go q)) → (isQuoted t ≡ false → P other) → P (onText t go other)
+pub by-text : {A : Type 0} (P : A → Type 0) (t : Token) (go : Quotation → A) (other : A)
+    → ((q : Quotation) → isQuoted t ≡ true → t ≡ Quoted q → P (go q)) → (isQuoted t ≡ false → P other) → P (onText t go other)
 by-text P EndOfLine go other found none = none refl
 by-text P (Keyword w) go other found none = none refl
 by-text P Not go other found none = none refl
@@ -92,6 +92,10 @@ by-text P (LineOnly l) go other found none = none refl
 by-text P (Quoted q) go other found none = found q refl refl
 by-text P (Symbol s) go other found none = none refl
 by-text P Unreadable go other found none = none refl
+
+-- a line number reads
+pub line-reads : (t : Token) {l : LineNumber} → lineOf t ≡ Names l → reads t ≡ true
+line-reads t e = by-line (λ b. reads t ≡ true) t (λ l. bad) bad (λ l f a. a) (λ f. cc)
 
 -- ---- what was found tells which way the answer goes
 

@@ -63,23 +63,9 @@ use Rattle.reader.specs.Formulas.{
 use Rattle.reader.specs.Answers.{weight}
 use Rattle.reader.specs.declared.tests.OperatorFound.{OperatorFound}
 use Rattle.reader.specs.declared.tests.OperatorFound.the-variants.{Is, None}
-use Rattle.reader.proofs.Weights.{symbol-reads, after-lighter}
+use Rattle.reader.proofs.Weights.{symbol-reads, operator-reads, after-lighter}
 
 -- ---- tokens that read
-
-pub operator-reads : (level : ℕ) (t : Token) {op : Operator} → tightOperator level t ≡ Is op → reads t ≡ true
-operator-reads level EndOfLine e = cc
-operator-reads level (Keyword w) e = refl
-operator-reads level Not e = refl
-operator-reads level (Infix op) e = refl
-operator-reads level (Call f) e = refl
-operator-reads level (Named v) e = refl
-operator-reads level (Number n) e = refl
-operator-reads level (Hexadecimal n) e = refl
-operator-reads level (LineOnly l) e = refl
-operator-reads level (Quoted q) e = refl
-operator-reads level (Symbol s) e = refl
-operator-reads level Unreadable e = cc
 
 -- what weighs something reads
 pub weighs-reads : (s : List ℕ) (t : Scanned) → 0 < weight s t → reads (t .token) ≡ true

@@ -31,7 +31,7 @@ use Rattle.reader.specs.Statements.{
 }
 use Rattle.reader.specs.Answers.{weight}
 use Rattle.reader.proofs.Weights.{symbol-reads, keyword-reads, after-lighter, weight-enough}
-use Rattle.reader.proofs.Beginning.{begun-done, begun-choice}
+use Rattle.reader.proofs.Beginning.{Within, begun-within}
 
 -- ---- weights
 
@@ -50,20 +50,6 @@ weightLeft s (goodPart part t) = weight s t
 mapped-left : (s : List ℕ) (make : Part → Part) (r : PartReading) → weightLeft s (mappedPart make r) ≡ weightLeft s r
 mapped-left s make badPart = refl
 mapped-left s make (goodPart part t) = refl
-
--- what a statement begins as weighs no more than so much
-abbrev pub Within : List ℕ → ℕ → Begun → Type 0
-Within s w bad = Unit {0}
-Within s w (done x t) = weight s t ≤ w
-Within s w (choice c t) = (reads (t .token) ≡ true) × (weight s t ≤ w)
-
-within-by : (s : List ℕ) (first : Bool) (p : ℕ) (b : Begun) → begunAt s first p ≡ b → Within s (weightAt s p) b
-within-by s first p bad e = tt
-within-by s first p (done x t) e = begun-done s first p e
-within-by s first p (choice c t) e = begun-choice s first p e
-
-pub begun-within : (s : List ℕ) (first : Bool) (p : ℕ) → Within s (weightAt s p) (begunAt s first p)
-begun-within s first p = within-by s first p (begunAt s first p) refl
 
 -- ---- a part by its first statement
 
@@ -136,9 +122,5 @@ partOf s first p = partAt (enough s) s first p
 pub unrolled : (s : List ℕ) (first : Bool) (p : ℕ) → partOf s first p ≡ partBy p (partOf s) (begunAt s first p)
 unfolding partAt partOf
 unrolled s first p =
-    let n = 4 * length s + 11 in
-    let e : enough s ≡ suc n = omega arith in
-    ap (λ m. partAt m s first p) e
-    ∙ same-by s p (weightAt s p) (partAt n s) (λ f q. parts-light n s f q) (partOf s)
-    (λ f q l. parts-enough n (enough s) s f q (omega (arith, weight-enough s (tokenAt s (place q)))) (omega (arith, weight-enough s (tokenAt s (place q)))))
-    (begunAt s first p) (begun-within s first p)
+    let w = weight-enough s (tokenAt s (place p)) in
+    parts-enough (enough s) (suc (enough s)) s first p (omega arith) (omega arith)

@@ -1,57 +1,23 @@
--- The items of a PRINT: they do not depend on the bound, and the code's loop goes from one to the next.
+-- The items of a PRINT: the code's loop goes from one to the next.
 use mathlib.Core.Path.{_≡_, refl, sym, ap, _∙_}
 use mathlib.Core.Bool.{Bool, true, false, _&&_, and-true, and-assoc}
 use mathlib.Core.List.{List, []}
-use Prim.Native.Nat.{ℕ, zero, suc, _<_, max}
+use Prim.Native.Nat.{ℕ, suc, max}
 use native.Mathlib.Nat.{zero-max, max-zero}
-use native.Mathlib.Omega.{arith}
 use Rattle.words.specs.declared.symbols.Scanned.{Scanned}
 use Rattle.words.specs.declared.symbols.Sign.the-variants.{Comma, Semicolon}
-use Rattle.words.proofs.Choices.{by-test}
 use Rattle.reader.specs.Tests.{isSymbol, endsStatement}
 use Rattle.reader.specs.Trees.{Formula, comma, semicolon, shown}
 use Rattle.reader.specs.Formulas as formulas
-use Rattle.reader.specs.Formulas.{Reading, after, enough, formulaOf}
+use Rattle.reader.specs.Formulas.{after, enough, formulaOf}
 use Rattle.reader.specs.Types.{sortOf, depthOf}
-use Rattle.reader.specs.Statements.{Items, noItems, items, withItem, isSeparator, afterShown, itemsAt, printed, printAt}
+use Rattle.reader.specs.Statements.{Items, noItems, items, withItem, isSeparator, itemsAt, printed, printAt}
 use Rattle.reader.specs.Lines.{itemFormulas, deepest, isSome, allSome}
-use Rattle.reader.specs.Answers.{weight, cappedDepth, formedRead, begunAnswer}
+use Rattle.reader.specs.Answers.{cappedDepth, formedRead, begunAnswer}
 use Rattle.reader.specs.declared.statements.StatementRead.{StatementRead}
 use Rattle.reader.specs.declared.statements.StatementRead.the-variants as statement
-use Rattle.reader.proofs.Weights.{after-lighter, weight-enough, symbol-reads}
-use Rattle.reader.proofs.Grammar.{formula-lighter}
-use Rattle.reader.proofs.Readings.{capped-max, max-assoc}
-
--- ---- every bound above the weight gives the same items
-
-shown-same : (x : Reading) (go go' : Scanned → Items) → ((f : Formula) (u : Scanned) → x ≡ formulas.good f u → go u ≡ go' u)
-    → afterShown x go ≡ afterShown x go'
-shown-same formulas.bad go go' h = refl
-shown-same (formulas.good f u) go go' h =
-    by-test (isSeparator (u .token)) (λ e. rw e (ap (withItem (shown f)) (h f u refl))) (λ e. rw e)
-
-items-same : (m n : ℕ) (s : List ℕ) (t : Scanned) → weight s t < m → weight s t < n → itemsAt m s t ≡ itemsAt n s t
-unfolding itemsAt
-items-same zero n s t h k = absurd (omega arith)
-items-same (suc m) zero s t h k = absurd (omega arith)
-items-same (suc m) (suc n) s t h k =
-    by-test (isSymbol Comma (t .token))
-    (λ e.
-    let w = after-lighter s t (symbol-reads Comma (t .token) e) in
-    rw e (ap (withItem comma) (items-same m n s (after s t) (omega arith) (omega arith))))
-    λ e. rw e
-    (by-test (isSymbol Semicolon (t .token))
-    (λ f.
-    let w = after-lighter s t (symbol-reads Semicolon (t .token) f) in
-    rw f (ap (withItem semicolon) (items-same m n s (after s t) (omega arith) (omega arith))))
-    λ f. rw f
-    (by-test (endsStatement (t .token)) (λ g. rw g) λ g. rw g
-    (shown-same (formulaOf s t) (λ u. itemsAt m s u) (λ u. itemsAt n s u)
-    (λ x u is. let w = formula-lighter s t is in items-same m n s u (omega arith) (omega arith)))))
-
--- so one turn leads to the same bound again
-turn : (s : List ℕ) (t : Scanned) → itemsAt (enough s) s t ≡ itemsAt (suc (enough s)) s t
-turn s t = let w = weight-enough s t in items-same (enough s) (suc (enough s)) s t (omega arith) (omega arith)
+use Rattle.reader.proofs.Fuel.{turn}
+use Rattle.reader.proofs.Answering.{capped-max, max-assoc}
 
 -- ---- the answer, where items of some depth and of some types or none were read before
 

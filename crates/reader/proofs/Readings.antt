@@ -18,35 +18,18 @@ use Rattle.reader.specs.Formulas.{Reading, after, quotedBytes}
 use Rattle.reader.specs.Types.{sortOf, depthOf}
 use Rattle.reader.specs.Statements.{bad, done, choice, targetAt, inputAt, byToken, begunAt}
 use Rattle.reader.specs.Lines.{isWhole, isOf, isNumber, deepest}
-use Rattle.reader.specs.Answers.{isQuoted, cappedDepth, answerOf, formedRead, boundOf, begunAnswer}
+use Rattle.reader.specs.Answers.{isQuoted, cappedDepth, formedRead, boundOf, begunAnswer}
 use Rattle.reader.specs.declared.sorts.Sort.{Sort}
 use Rattle.reader.specs.declared.tests.NamedLine.the-variants.{NoLine}
-use Rattle.reader.specs.declared.expressions.FormulaRead.{FormulaRead}
-use Rattle.reader.specs.declared.expressions.FormulaRead.the-variants as formula
 use Rattle.reader.specs.declared.statements.Bound.{Bound}
 use Rattle.reader.specs.declared.statements.Bound.the-variants as bound
 use Rattle.reader.specs.declared.statements.StatementRead.{StatementRead}
 use Rattle.reader.specs.declared.statements.StatementRead.the-variants as statement
+use Rattle.reader.proofs.Answering.{capped-max, max-assoc}
 use Rattle.reader.proofs.Findings.{by-text}
 
--- ---- a formula that was read or not
+-- ---- what each statement makes of a formula that was read
 
-pub record Answered (x : Reading) (t : Scanned) (k : Sort) (d : ℕ) : Type 0 where
-  pub f : Formula
-  pub is : x ≡ formulas.good f t
-  pub sort : k ≡ sortOf f
-  pub deep : d ≡ cappedDepth (depthOf f)
-
-pub answered : (x : Reading) {a : FormulaRead} {t : Scanned} {k : Sort} {d : ℕ}
-    → a ≡ answerOf x → a ≡ formula.Good t k d → Answered x t k d
-answered formulas.bad e g = let z : _≡_ {A = ℕ} 0 1 = cc in absurd (omega arith)
-answered (formulas.good f u) e g = record { f = f; is = cc; sort = cc; deep = cc }
-
-pub not-read : (x : Reading) {a : FormulaRead} → a ≡ answerOf x → a ≡ formula.Bad → x ≡ formulas.bad
-not-read formulas.bad e g = refl
-not-read (formulas.good f u) e g = cc
-
--- what each statement makes of it
 module _ (f : Formula) (t : Scanned) {k : Sort} {d : ℕ} (sort : k ≡ sortOf f) (deep : d ≡ cappedDepth (depthOf f)) where
   pub assigned : (v : Variable) {kind : Kind} {typed : Bool} → v .kind ≡ kind → typed ≡ isOf kind k
       → formedRead t d typed ≡ begunAnswer (done (assign v f) t)
@@ -77,12 +60,6 @@ bounded (formulas.good f u) depth typed e g = record { f = f; is = cc; deep = cc
 pub not-bounded : (x : Reading) (depth : ℕ) (typed : Bool) {b : Bound} → b ≡ boundOf x depth typed → b ≡ bound.Bad → x ≡ formulas.bad
 not-bounded formulas.bad depth typed e g = refl
 not-bounded (formulas.good f u) depth typed e g = cc
-
-pub capped-max : (a b : ℕ) → cappedDepth (max a b) ≡ max (cappedDepth a) (cappedDepth b)
-capped-max a b = omega arith
-
-pub max-assoc : (a b c : ℕ) → max a (max b c) ≡ max (max a b) c
-max-assoc a b c = omega arith
 
 -- depths and types come together one after the other
 three-deep : (a b c : ℕ) → cappedDepth (max a (max b (max c 0))) ≡ max (max (cappedDepth a) (cappedDepth b)) (cappedDepth c)

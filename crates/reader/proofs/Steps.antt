@@ -69,8 +69,8 @@ use Rattle.reader.specs.declared.expressions.FormulaRead.the-variants.{B
 use Rattle.reader.specs.declared.sorts.Sort.{Sort}
 use Rattle.reader.specs.declared.sorts.Sort.the-variants.{Whole, Text}
 use Rattle.reader.specs.declared.tests.OperatorFound.the-variants.{Is, None}
-use Rattle.reader.proofs.Weights.{symbol-reads, after-lighter, weight-enough}
-use Rattle.reader.proofs.Grammar.{Lighter, formula-lightens, operand-lightens, operator-reads}
+use Rattle.reader.proofs.Weights.{symbol-reads, operator-reads, after-lighter, weight-enough}
+use Rattle.reader.proofs.Grammar.{Lighter, formula-lightens, operand-lightens}
 use Rattle.reader.proofs.Answering.{
   answered,
   not-read,
@@ -176,13 +176,13 @@ level-small operator.Multiply = omega arith
 
 pub climb-bad : (s : List ℕ) (level : ℕ) → ClimbMet s level Bad Bad
 unfolding formulaAt
-climb-bad s level x e = by-fuel (λ n. Bad ≡ answerOf (climbAt n s level x)) 0 (λ n l. rw (not-read x e))
+climb-bad s level x e = by-fuel (λ n. Bad ≡ answerOf (climbAt n s level x)) 0 (λ n l. rw (not-read x e refl))
 
 module _ (s : List ℕ) (level : ℕ) (u : Scanned) (k : Sort) (d : ℕ) where
   pub climb-ends : None ≡ tightOperator level (u .token) → ClimbMet s level (Good u k d) (Good u k d)
   unfolding formulaAt
   climb-ends o x e =
-      let a = answered x u k d e in
+      let a = answered x e refl in
       by-fuel (λ n. Good u k d ≡ answerOf (climbAt n s level x)) (weight s u)
       (λ n l. rw (a .is) (rw (← o) (λ i. Good u (a .sort i) (a .deep i))))
 
@@ -196,7 +196,7 @@ module _ (s : List ℕ) (level : ℕ) (u : Scanned) (k : Sort) (d : ℕ) where
     pub climb-goes : (r : FormulaRead) → ClimbMet s level (joinedRead op k d y) r → ClimbMet s level (Good u k d) r
     unfolding formulaAt
     climb-goes r c x e =
-        let a = answered x u k d e in
+        let a = answered x e refl in
         let h = climb-lighter in
         let g = after-lighter s u (operator-reads level (u .token) (sym o)) in
         by-fuel (λ n. r ≡ answerOf (climbAt n s level x)) (weight s u)
@@ -335,14 +335,14 @@ module _ (s : List ℕ) (f : Function) (t : Scanned) where
 
 pub list-bad : (s : List ℕ) (f : Function) (types : Sorts) (depth : ℕ) → ListMet s f types depth Bad Bad
 unfolding formulaAt
-list-bad s f types depth a kept x e = by-fuel (λ n. Bad ≡ answerOf (argumentsAt n s f a x)) 0 (λ n l. rw (not-read x e))
+list-bad s f types depth a kept x e = by-fuel (λ n. Bad ≡ answerOf (argumentsAt n s f a x)) 0 (λ n l. rw (not-read x e refl))
 
 module _ (s : List ℕ) (f : Function) (types : Sorts) (depth : ℕ) (u : Scanned) (k : Sort) (d : ℕ) (types' : Sorts) (depth' : ℕ)
     (grown : Grown types depth k d types' depth') (r : FormulaRead) where
   pub list-ends : false ≡ isSymbol Comma (u .token) → CalledMet s f types' depth' u r → ListMet s f types depth (Good u k d) r
   unfolding formulaAt
   list-ends o c a kept x e =
-      let g = answered x u k d e in
+      let g = answered x e refl in
       by-fuel (λ n. r ≡ answerOf (argumentsAt n s f a x)) (weight s u)
       (λ n l. rw (g .is) (rw (← o) (c (also a (g .f)) (grown a (g .f) kept (g .sort) (g .deep)))))
 
@@ -350,7 +350,7 @@ module _ (s : List ℕ) (f : Function) (types : Sorts) (depth : ℕ) (u : Scanne
       → ListMet s f types' depth' y r → ListMet s f types depth (Good u k d) r
   unfolding formulaAt
   list-goes y o m c a kept x e =
-      let g = answered x u k d e in
+      let g = answered x e refl in
       let ok = symbol-reads Comma (u .token) (sym o) in
       let h = after-lighter s u ok in
       let i = after-heft s 0 u ok m in

@@ -20,11 +20,9 @@ use Rattle.reader.specs.Lines.{
   allTyped,
 }
 use Rattle.reader.specs.Answers.{cappedDepth, verdictOf}
+use Rattle.reader.proofs.Answering.{max-assoc}
 
 -- ---- lists of statements
-
-max-assoc : (a b c : ℕ) → max a (max b c) ≡ max (max a b) c
-max-assoc a b c = omega arith
 
 deepest-append : (xs ys : List Statement) → deepestIn (xs ++ ys) ≡ max (deepestIn xs) (deepestIn ys)
 unfolding deepestIn

@@ -35,7 +35,7 @@ use Rattle.reader.specs.declared.lines.Follow.the-variants as follow
 use Rattle.reader.specs.declared.statements.StatementRead.{StatementRead}
 use Rattle.reader.proofs.Endings.{statement-ends, else-goes-on}
 use Rattle.reader.proofs.Parts.{partBy, partOf, unrolled}
-use Rattle.reader.proofs.Alone.{Alone, begun-alone}
+use Rattle.reader.proofs.Beginning.{Alone, begun-alone}
 
 -- ---- a question
 

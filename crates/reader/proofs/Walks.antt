@@ -61,8 +61,8 @@ use Rattle.reader.proofs.Tallies.{
   capped-max,
   capped-verdict,
 }
-use Rattle.reader.proofs.Parts.{weightAt, next-lighter, Within, begun-within, partBy, partOf, unrolled}
-use Rattle.reader.proofs.Alone.{Alone, begun-alone}
+use Rattle.reader.proofs.Parts.{weightAt, next-lighter, partBy, partOf, unrolled}
+use Rattle.reader.proofs.Beginning.{Within, begun-within, Alone, begun-alone}
 
 -- ---- what the rest of a line comes to
 

@@ -5,6 +5,7 @@ use mathlib.Core.List.{List}
 use Prim.Native.Nat.{ℕ, _+_, _*_, _≤_, _<_}
 use native.Mathlib.Omega.{arith}
 use lib.ListN.{length}
+use Rattle.whole.specs.declared.arithmetic.Operator.{Operator}
 use Rattle.words.specs.Tokens.{reads, tokenAt}
 use Rattle.words.specs.declared.places.Place.{Place}
 use Rattle.words.specs.declared.symbols.Scanned.{Scanned}
@@ -28,38 +29,39 @@ use Rattle.words.specs.declared.symbols.Word.{Word}
 use Rattle.words.proofs.Choices.{by-test}
 use Rattle.words.proofs.Ends.{token-ends}
 use Rattle.reader.specs.Tests.{isSymbol, isKeyword}
-use Rattle.reader.specs.Formulas.{after, enough}
+use Rattle.reader.specs.Formulas.{tightOperator, after, enough}
 use Rattle.reader.specs.Answers.{weight}
+use Rattle.reader.specs.declared.tests.OperatorFound.the-variants.{Is}
 
 -- ---- what reads
 
+-- whatever is so of neither the line's end nor what does not read
+pub reads-if : (P : Token → Type 0) → (P EndOfLine → ⊥) → (P Unreadable → ⊥) → (t : Token) → P t → reads t ≡ true
+reads-if P e u EndOfLine h = absurd (e h)
+reads-if P e u (Keyword w) h = refl
+reads-if P e u Not h = refl
+reads-if P e u (Infix op) h = refl
+reads-if P e u (Call f) h = refl
+reads-if P e u (Named v) h = refl
+reads-if P e u (Number n) h = refl
+reads-if P e u (Hexadecimal n) h = refl
+reads-if P e u (LineOnly l) h = refl
+reads-if P e u (Quoted q) h = refl
+reads-if P e u (Symbol s) h = refl
+reads-if P e u Unreadable h = absurd (u h)
+
 pub symbol-reads : (x : Sign) (t : Token) → isSymbol x t ≡ true → reads t ≡ true
-symbol-reads x EndOfLine e = absurd (false≢true e)
-symbol-reads x (Keyword w) e = refl
-symbol-reads x Not e = refl
-symbol-reads x (Infix op) e = refl
-symbol-reads x (Call f) e = refl
-symbol-reads x (Named v) e = refl
-symbol-reads x (Number n) e = refl
-symbol-reads x (Hexadecimal n) e = refl
-symbol-reads x (LineOnly l) e = refl
-symbol-reads x (Quoted q) e = refl
-symbol-reads x (Symbol s) e = refl
-symbol-reads x Unreadable e = absurd (false≢true e)
+symbol-reads x t e = reads-if (λ t. isSymbol x t ≡ true) (λ h. false≢true h) (λ h. false≢true h) t e
 
 pub keyword-reads : (x : Word) (t : Token) → isKeyword x t ≡ true → reads t ≡ true
-keyword-reads x EndOfLine e = absurd (false≢true e)
-keyword-reads x (Keyword w) e = refl
-keyword-reads x Not e = refl
-keyword-reads x (Infix op) e = refl
-keyword-reads x (Call f) e = refl
-keyword-reads x (Named v) e = refl
-keyword-reads x (Number n) e = refl
-keyword-reads x (Hexadecimal n) e = refl
-keyword-reads x (LineOnly l) e = refl
-keyword-reads x (Quoted q) e = refl
-keyword-reads x (Symbol s) e = refl
-keyword-reads x Unreadable e = absurd (false≢true e)
+keyword-reads x t e = reads-if (λ t. isKeyword x t ≡ true) (λ h. false≢true h) (λ h. false≢true h) t e
+
+pub operator-reads : (level : ℕ) (t : Token) {op : Operator} → tightOperator level t ≡ Is op → reads t ≡ true
+operator-reads level t {op} e =
+    reads-if (λ t. tightOperator level t ≡ Is op)
+    (λ h. let z : _≡_ {A = ℕ} 0 1 = cc in omega arith)
+    (λ h. let z : _≡_ {A = ℕ} 0 1 = cc in omega arith)
+    t e
 
 -- ---- weights
 

@@ -10,8 +10,7 @@ use Rattle.words.specs.declared.symbols.Token.the-variants.{Symbol}
 use Rattle.words.proofs.token_at.Reads as token-at-reads
 use Rattle.reader.specs.Answers.{weight}
 use Rattle.reader.specs.declared.expressions.FormulaRead.{FormulaRead}
-use Rattle.reader.proofs.Weights.{symbol-reads, after-lighter}
-use Rattle.reader.proofs.Grammar.{operator-reads}
+use Rattle.reader.proofs.Weights.{symbol-reads, operator-reads, after-lighter}
 use Rattle.reader.proofs.Steps.{
   heft,
   ClimbMet,

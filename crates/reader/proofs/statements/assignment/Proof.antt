@@ -3,7 +3,8 @@ use mathlib.Core.Path.{_∙_}
 use borrow.Author.Needs.{needs}
 use Rattle.reader.specs.Formulas.{formulaOf}
 use Rattle.reader.proofs.Findings.{passed, failed}
-use Rattle.reader.proofs.Readings.{not-read, answered, assigned}
+use Rattle.reader.proofs.Answering.{not-read, answered}
+use Rattle.reader.proofs.Readings.{assigned}
 use Rattle.reader.proofs.statements.assignment.Statement.{statement}
 use Rattle.reader.proofs.statements.assignment.Tie as tie
 

@@ -1,7 +1,8 @@
 -- The formula's depth and type join those before it.
 use borrow.Author.Needs.{needs}
 use Rattle.reader.specs.Formulas.{formulaOf}
-use Rattle.reader.proofs.Readings.{not-read, answered, bound-good}
+use Rattle.reader.proofs.Answering.{not-read, answered}
+use Rattle.reader.proofs.Readings.{bound-good}
 use Rattle.reader.proofs.statements.bounded.Statement.{statement}
 use Rattle.reader.proofs.statements.bounded.Tie as tie
 

@@ -8,7 +8,8 @@ use Rattle.reader.specs.Statements.{bad, choice, ifAt}
 use Rattle.reader.specs.Answers.{begunAnswer}
 use Rattle.reader.specs.declared.statements.StatementRead.{StatementRead}
 use Rattle.reader.proofs.Findings.{passed, failed, numbered, unnumbered}
-use Rattle.reader.proofs.Readings.{Answered, answered, not-read, chosen}
+use Rattle.reader.proofs.Answering.{Answered, answered, not-read}
+use Rattle.reader.proofs.Readings.{chosen}
 use Rattle.reader.proofs.statements.condition.Statement.{statement}
 use Rattle.reader.proofs.statements.condition.Tie as tie
 

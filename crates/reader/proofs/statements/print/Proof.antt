@@ -16,7 +16,7 @@ use Rattle.reader.specs.Answers.{weight, cappedDepth, begunAnswer}
 use Rattle.reader.proofs.Weights.{after-lighter, symbol-reads}
 use Rattle.reader.proofs.Grammar.{formula-lighter}
 use Rattle.reader.proofs.Findings.{passed, failed}
-use Rattle.reader.proofs.Readings.{Answered, answered, not-read}
+use Rattle.reader.proofs.Answering.{Answered, answered, not-read}
 use Rattle.reader.proofs.Printing.{
   continued,
   print-begins,
