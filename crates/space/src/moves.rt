@@ -1,0 +1,84 @@
+// Each function does nothing where what it is asked for does not lie in the slice.
+ghost use mathlib.Core.Path.{_≡_};
+ghost use Prim.Native.Nat.{_+_, _≤_};
+ghost use lib.Dec.{leb};
+ghost use lib.ListN.{length, take, drop};
+ghost use Rattle.space.specs.Moves.{overlaid, copied, moved, cleared};
+use crate::offsets::Offset;
+
+// Whether so many bytes from an offset on lie in a slice of a length.
+fn fits(len: usize, at: usize, count: usize) -> bool
+    ensures { λ r. ⌜ r ≡ leb (at + count) len ⌝ }
+{
+    if len < count {
+        return false;
+    }
+    at <= len - count
+}
+
+// Copies bytes in at an offset.
+pub fn copy_in(space: &mut [u8], to: Offset, bytes: &[u8])
+    ensures { λ _. ⌜ now (space .exit) ≡ copied (now (space .entry)) (to .0) (now (bytes .entry)) ⌝ }
+{
+    let at = to.0;
+    if !fits(space.len(), at, bytes.len()) {
+        return;
+    }
+    let mut i = 0;
+    while i < bytes.len() {
+        space[at + i] = bytes[i];
+        i += 1;
+    }
+}
+
+fn move_down(space: &mut [u8], from: usize, to: usize, count: usize)
+    requires { ⌜ (to ≤ from) × ((from + count ≤ length (now space)) × (to + count ≤ length (now space))) ⌝ }
+    ensures { λ _. ⌜ now (space .exit) ≡ overlaid (now (space .entry)) to (take count (drop from (now (space .entry)))) ⌝ }
+{
+    let mut i = 0;
+    while i < count {
+        space[to + i] = space[from + i];
+        i += 1;
+    }
+}
+
+fn move_up(space: &mut [u8], from: usize, to: usize, count: usize)
+    requires { ⌜ (from ≤ to) × ((from + count ≤ length (now space)) × (to + count ≤ length (now space))) ⌝ }
+    ensures { λ _. ⌜ now (space .exit) ≡ overlaid (now (space .entry)) to (take count (drop from (now (space .entry)))) ⌝ }
+{
+    let mut i = count;
+    while 0 < i {
+        i -= 1;
+        space[to + i] = space[from + i];
+    }
+}
+
+// Moves bytes from one offset to another, over an overlap too.
+pub fn move_bytes(space: &mut [u8], from: Offset, to: Offset, count: usize)
+    ensures { λ _. ⌜ now (space .exit) ≡ moved (now (space .entry)) (from .0) (to .0) count ⌝ }
+{
+    let source = from.0;
+    let target = to.0;
+    if !fits(space.len(), source, count) {
+        return;
+    }
+    if !fits(space.len(), target, count) {
+        return;
+    }
+    if target <= source {
+        move_down(space, source, target, count);
+    } else {
+        move_up(space, source, target, count);
+    }
+}
+
+// Zeros from an offset to the end.
+pub fn clear_from(space: &mut [u8], from: Offset)
+    ensures { λ _. ⌜ now (space .exit) ≡ cleared (now (space .entry)) (from .0) ⌝ }
+{
+    let mut i = from.0;
+    while i < space.len() {
+        space[i] = 0;
+        i += 1;
+    }
+}
