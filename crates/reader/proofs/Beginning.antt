@@ -1,6 +1,6 @@
 -- What a statement leaves to read, by the tokens that stand there.
 use mathlib.Core.Path.{_≡_, refl}
-use mathlib.Core.Bool.{Bool, true}
+use mathlib.Core.Bool.{Bool, true, false≢true}
 use mathlib.Core.List.{List, []}
 use Prim.Native.Nat.{ℕ, zero, suc, _≤_}
 use native.Mathlib.Omega.{arith}
@@ -18,11 +18,11 @@ use Rattle.reader.specs.Formulas.{Reading, good, after, enough, formulaO
 use Rattle.reader.specs.Statements.{Begun, bad, done, choice, Items, noItems, items, withItem, isSeparator, afterShown, itemsAt, begunAt}
 use Rattle.reader.specs.Lines.{withinIf}
 use Rattle.reader.specs.Answers.{weight}
-use Rattle.reader.proofs.Weights.{after-lighter, symbol-reads, keyword-reads}
+use Rattle.reader.proofs.Weights.{reads-if, after-lighter, symbol-reads, keyword-reads}
 use Rattle.reader.proofs.Grammar.{formula-lighter}
 use Rattle.reader.proofs.Fuel.{itemsOf}
 use Rattle.reader.proofs.Findings.{by-text, line-reads}
-use Rattle.reader.proofs.Standing.{Target, stepOf, pastText, past-text, past-no-text, past, past-word, past-none, Asked, Way, by-then, by-goto, Stands, Seen, begun-seen}
+use Rattle.reader.proofs.Standing.{isPrint, Target, stepOf, pastText, past-text, past-no-text, past, past-word, past-none, Asked, Way, by-then, by-goto, Stands, Seen, begun-seen}
 
 -- ---- what a statement leaves to read: no more than there was where it began
 
@@ -110,7 +110,7 @@ module _ (s : List ℕ) where
   done-within first t (assign v f) u h =
       omega (arith, past-within Let t, name-within (past Let s t) (h .target) (h .equal) (h .value))
   done-within first t (print is) u h =
-      omega (arith, after-lighter s t (h .word), rw (h .shows) at (items-within (enough s) (weight s (after s t)) (after s t) (omega arith)))
+      omega (arith, after-lighter s t (reads-if (λ t. isPrint t ≡ true) (λ e. false≢true e) (λ e. false≢true e) (t .token) (h .word)), rw (h .shows) at (items-within (enough s) (weight s (after s t)) (after s t) (omega arith)))
   done-within first t (ifThen c p) u h = absurd h
   done-within first t (ifElse c p q) u h = absurd h
   done-within first t (goto l) u h =

@@ -256,6 +256,9 @@ module _ (s : List ℕ) where
       operand-same (enough s) (suc (enough s)) s level (t .token) (t .next) (omega arith) (omega arith)
       ∙ operand-by level (t .token) (t .next)
 
+  pub operand-is : (level : ℕ) (t : Scanned) {token : Token} → t .token ≡ token → operandOf level t ≡ operandBy level token (after s t)
+  operand-is level t e = operand-unrolled level t ∙ ap (λ x. operandBy level x (after s t)) e
+
   pub climb-unrolled : (level : ℕ) (f : Formula) (t : Scanned)
       → climbOf level (good f t)
       ≡ byOperator (tightOperator level (t .token))

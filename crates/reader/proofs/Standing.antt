@@ -1,10 +1,10 @@
 -- How a statement that reads begins: which tokens stand there, and where its formulas begin.
 use mathlib.Core.Path.{_≡_, refl}
-use mathlib.Core.Bool.{Bool, true, false}
+use mathlib.Core.Bool.{Bool, true, false, _||_}
 use mathlib.Core.List.{List, []}
 use Prim.Native.Nat.{ℕ}
 use Rattle.words.specs.Places.{place}
-use Rattle.words.specs.Tokens.{reads, tokenAt}
+use Rattle.words.specs.Tokens.{tokenAt}
 use Rattle.words.specs.declared.names.Name.{Name}
 use Rattle.words.specs.declared.places.LineNumber.{LineNumber}
 use Rattle.words.specs.declared.symbols.Quotation.{Quotation}
@@ -58,8 +58,11 @@ pub record Assigned (s : List ℕ) (t : Scanned) (v : Variable) (f : Formula) (u
   pub value : formulaOf s (after s (after s t)) ≡ good f u
 
 -- PRINT, or a question mark
+abbrev pub isPrint : Token → Bool
+isPrint t = isKeyword Print t || isSymbol Question t
+
 pub record Printed (s : List ℕ) (t : Scanned) (is : List Item) (u : Scanned) : Type 0 where
-  pub word : reads (t .token) ≡ true
+  pub word : isPrint (t .token) ≡ true
   pub shows : itemsOf s (after s t) ≡ items is u
 
 -- GOTO l, where the GOTO that begins a part of an IF may be left out
@@ -202,7 +205,7 @@ module _ (s : List ℕ) (first : Bool) (t : Scanned) where
       (λ h. rw h
       (record { word = w; counts = record { target = name; equal = e; upto = x; from = i; to = g; steps = y; limit = j; by = rw h } }))
 
-  print-seen : reads (t .token) ≡ true → S (printAt s (after s t))
+  print-seen : isPrint (t .token) ≡ true → S (printAt s (after s t))
   unfolding printAt itemsOf
   print-seen r = by-items (itemsAt (enough s) s (after s t)) (λ is u i. record { word = r; shows = i })
     where

@@ -1,27 +1,34 @@
 -- What reads, taken apart: a line into its part, a part into its first statement and the rest,
 -- statements and formulas into their tokens.
-use mathlib.Core.Path.{_≡_, refl, _∙_}
+use mathlib.Core.Path.{_≡_, refl, sym, _∙_}
 use mathlib.Core.Bool.{Bool, true, false}
 use mathlib.Core.List.{List, [], _∷_, _++_, append-nil}
 use Prim.Native.Nat.{ℕ, _+_}
 use native.Mathlib.Omega.{arith}
+use lib.Dec.{leb}
 use Rattle.words.specs.Places.{place}
 use Rattle.words.specs.Tokens.{tokenAt}
 use Rattle.whole.specs.declared.arithmetic.Operator.{Operator}
 use Rattle.words.specs.declared.symbols.Function.{Function}
 use Rattle.words.specs.declared.symbols.Scanned.{Scanned}
-use Rattle.words.specs.declared.symbols.Sign.the-variants.{Close, Comma, Colon}
+use Rattle.words.specs.declared.symbols.Sign.the-variants.{Open, Close, Comma, Semicolon, Colon, Minus}
+use Rattle.words.specs.declared.symbols.Token.the-variants.{Not, Call, Symbol}
 use Rattle.words.specs.declared.symbols.Word.the-variants.{Else}
 use Rattle.words.proofs.Choices.{by-test}
 use Rattle.reader.specs.Tests.{choose, isSymbol, isKeyword, endsStatement, endsLine}
 use Rattle.reader.specs.Trees.{
   Formula,
   inside,
+  minus,
+  complement,
   twoSided,
   call,
   Arguments,
+  none,
   also,
   Item,
+  comma,
+  semicolon,
   shown,
   Statement,
   ifThen,
@@ -32,17 +39,7 @@ use Rattle.reader.specs.Trees.{
 }
 use Rattle.reader.specs.Functions.{takes}
 use Rattle.reader.specs.Formulas as formulas
-use Rattle.reader.specs.Formulas.{
-  levelOf,
-  tightOperator,
-  Reading,
-  good,
-  mapped,
-  after,
-  closed,
-  countOf,
-  called,
-}
+use Rattle.reader.specs.Formulas.{levelOf, notLevel, minusLevel, tightest, tightOperator, Reading, good, mapped, after, closed, countOf, called, formulaOf}
 use Rattle.reader.specs.declared.tests.OperatorFound.the-variants.{Is, None}
 use Rattle.reader.specs.Statements.{
   Begun,
@@ -74,6 +71,9 @@ use Rattle.reader.proofs.Fuel.{
   climbOf,
   operandOf,
   argumentsOf,
+  operand-is,
+  itemsOf,
+  items-unrolled,
   formula-unrolled,
   climb-unrolled,
   arguments-unrolled,
@@ -103,6 +103,10 @@ unfolding readLine partOf
 line-view s e = line-by s (partOf s false 0) refl e
 
 -- ---- a part
+
+-- its first token
+abbrev pub start : List ℕ → ℕ → Scanned
+start s p = tokenAt s (place p)
 
 -- it has a statement
 has-some : (part : Part) (l : List Statement) → statementsOf part ++ l ≡ [] → ⊥
@@ -196,14 +200,11 @@ module _ (s : List ℕ) (first : Bool) (p : ℕ) where
 
   -- ---- a statement
 
-  abbrev pub start : Scanned
-  start = tokenAt s (place p)
-
   -- what stands there, by the statement
-  pub done-view : {x : Statement} {u : Scanned} → begunAt s first p ≡ done x u → Stands s first start x u
+  pub done-view : {x : Statement} {u : Scanned} → begunAt s first p ≡ done x u → Stands s first (start s p) x u
   done-view e = rw e at (begun-seen s first p)
 
-  pub choice-view : {c : Formula} {u : Scanned} → begunAt s first p ≡ choice c u → Chosen s start c u
+  pub choice-view : {c : Formula} {u : Scanned} → begunAt s first p ≡ choice c u → Chosen s (start s p) c u
   choice-view e = rw e at (begun-seen s first p)
 
   -- ---- the last statement, by what it is
@@ -234,6 +235,12 @@ module _ (s : List ℕ) (first : Bool) (p : ℕ) where
       by-final (elses h) = h
 
 -- ---- formulas
+
+-- a test that must hold
+so : (test : Bool) (go : Unit {0} → Reading) {f : Formula} {u : Scanned} → choose test go (λ _. formulas.bad) ≡ good f u
+    → (test ≡ true) × (go tt ≡ good f u)
+so true go e = (refl, e)
+so false go e = let z : _≡_ {A = ℕ} 0 1 = cc in absurd (omega arith)
 
 -- a formula of one formula
 pub record Made (make : Formula → Formula) (x : Reading) (f : Formula) (u : Scanned) : Type 0 where
@@ -333,6 +340,29 @@ module _ (s : List ℕ) where
       (λ c. record { close = c; applied = applied-view f (also a x) (after s t) (rw c at h) })
       (λ c. let j = rw c at h in let z : _≡_ {A = ℕ} 0 1 = cc in absurd (omega arith))
 
+  -- ---- an operand, by its first token
+
+  module _ (level : ℕ) (t : Scanned) {f : Formula} {u : Scanned} (e : operandOf s level t ≡ good f u) where
+    pub opened-view : t .token ≡ Symbol Open → Closed s (formulaIn s 0 (after s t)) f u
+    opened-view w = closed-view s (formulaIn s 0 (after s t)) (sym (operand-is s level t w) ∙ e)
+
+    pub negated-view : t .token ≡ Symbol Minus → (leb level minusLevel ≡ true) × Made minus (operandOf s tightest (after s t)) f u
+    negated-view w =
+        let h = so (leb level minusLevel) (λ _. mapped minus (operandOf s tightest (after s t))) (sym (operand-is s level t w) ∙ e) in
+        (h .0, made minus (operandOf s tightest (after s t)) (h .1))
+
+    pub complemented-view : t .token ≡ Not → (leb level notLevel ≡ true) × Made complement (formulaIn s notLevel (after s t)) f u
+    complemented-view w =
+        let h = so (leb level notLevel) (λ _. mapped complement (formulaIn s notLevel (after s t))) (sym (operand-is s level t w) ∙ e) in
+        (h .0, made complement (formulaIn s notLevel (after s t)) (h .1))
+
+    pub call-view : (g : Function) → t .token ≡ Call g
+        → (isSymbol Open (after s t .token) ≡ true) × Listed g none (formulaIn s 0 (after s (after s t))) f u
+    call-view g w =
+        let x = formulaIn s 0 (after s (after s t)) in
+        let h = so (isSymbol Open (after s t .token)) (λ _. argumentsOf s g none x) (sym (operand-is s level t w) ∙ e) in
+        (h .0, list-view g none x (h .1))
+
 -- ---- the items of a PRINT
 
 -- one more before others
@@ -356,3 +386,19 @@ pub shown-view : (x : Reading) (go : Scanned → Items) {is : List Item} {u : Sc
 shown-view formulas.bad go e = let z : _≡_ {A = ℕ} 0 1 = cc in absurd (omega arith)
 shown-view (formulas.good f t) go e =
     record { of = f; at = t; from = refl; shows = front-view (shown f) (choose (isSeparator (t .token)) (λ _. go t) (λ _. items [] t)) e }
+
+module _ (s : List ℕ) (t : Scanned) {is : List Item} {u : Scanned} (e : itemsOf s t ≡ items is u) where
+  pub comma-view : isSymbol Comma (t .token) ≡ true → Fronted comma (itemsOf s (after s t)) is u
+  comma-view a = front-view comma (itemsOf s (after s t)) (rw (items-unrolled s t, a) at e)
+
+  module _ (a : isSymbol Comma (t .token) ≡ false) where
+    pub semicolon-view : isSymbol Semicolon (t .token) ≡ true → Fronted semicolon (itemsOf s (after s t)) is u
+    semicolon-view b = front-view semicolon (itemsOf s (after s t)) (rw (items-unrolled s t, a, b) at e)
+
+    module _ (b : isSymbol Semicolon (t .token) ≡ false) where
+      -- no more
+      pub none-view : endsStatement (t .token) ≡ true → (is ≡ []) × (u ≡ t)
+      none-view c = let h = rw (items-unrolled s t, a, b, c) at e in (cc, cc)
+
+      pub show-view : endsStatement (t .token) ≡ false → Shown (formulaOf s t) (λ v. itemsOf s v) is u
+      show-view c = shown-view (formulaOf s t) (λ v. itemsOf s v) (rw (items-unrolled s t, a, b, c) at e)

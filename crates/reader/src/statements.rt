@@ -427,25 +427,25 @@ fn is_text(kind: Kind) -> bool
 fn by_word(line: &[u8], word: Word, ahead: Scanned) -> StatementRead
     ensures { λ r. ⌜ r ≡ begunAnswer (byWord (now (line .entry)) word ahead) ⌝ }
 {
-    let next = ahead.next;
+    let next = token_at(line, ahead.next);
     match word {
-        Word::Let => assignment_to(line, token_at(line, next)),
-        Word::Print => print(line, token_at(line, next)),
-        Word::If => condition(line, token_at(line, next)),
+        Word::Let => assignment_to(line, next),
+        Word::Print => print(line, next),
+        Word::If => condition(line, next),
         Word::Then => StatementRead::Bad,
         Word::Else => plain(ahead),
-        Word::Goto => jump(line, token_at(line, next)),
-        Word::Gosub => jump(line, token_at(line, next)),
-        Word::Return => plain(token_at(line, next)),
-        Word::For => loop_head(line, token_at(line, next)),
+        Word::Goto => jump(line, next),
+        Word::Gosub => jump(line, next),
+        Word::Return => plain(next),
+        Word::For => loop_head(line, next),
         Word::To => StatementRead::Bad,
         Word::Step => StatementRead::Bad,
-        Word::Next => loop_end(line, token_at(line, next)),
-        Word::Line => line_input(line, token_at(line, next)),
+        Word::Next => loop_end(line, next),
+        Word::Line => line_input(line, next),
         Word::Input => StatementRead::Bad,
-        Word::End => plain(token_at(line, next)),
-        Word::Stop => plain(token_at(line, next)),
-        Word::Rem => plain(token_at(line, next)),
+        Word::End => plain(next),
+        Word::Stop => plain(next),
+        Word::Rem => plain(next),
         Word::While => StatementRead::Bad,
         Word::Wend => StatementRead::Bad,
         Word::Data => StatementRead::Bad,

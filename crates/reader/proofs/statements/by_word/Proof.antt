@@ -13,89 +13,78 @@ returns-5 c = rw (c .before .enum-told5 .given .1) (c .plain .ensures)
 
 returns-7 : tie.Need-returns-7
 returns-7 c =
-    let t = c .before .token-at5 in
-    rw (c .before .before .enum-told7 .given .1, ← (t .ensures)) (c .jump2 .ensures ∙ jump-same (t .result .token) (after (c .before .before .before .before .before .before .args .line .now) (t .result)))
+    let t = c .before .before .before .token-at in
+    rw (c .before .enum-told7 .given .1, ← (t .ensures)) (c .jump2 .ensures ∙ jump-same (t .result .token) (after (c .before .before .before .before .before .args .line .now) (t .result)))
 
 returns-8 : tie.Need-returns-8
 unfolding deepest
-returns-8 c = rw (c .before .before .enum-told8 .given .1, ← (c .before .token-at6 .ensures)) (c .plain2 .ensures)
+returns-8 c = rw (c .before .enum-told8 .given .1, ← (c .before .before .before .token-at .ensures)) (c .plain2 .ensures)
 
 returns-15 : tie.Need-returns-15
 unfolding deepest
-returns-15 c = rw (c .before .before .enum-told15 .given .1, ← (c .before .token-at10 .ensures)) (c .plain3 .ensures)
+returns-15 c = rw (c .before .enum-told15 .given .1, ← (c .before .before .before .token-at .ensures)) (c .plain3 .ensures)
 
 returns-16 : tie.Need-returns-16
 unfolding deepest
-returns-16 c = rw (c .before .before .enum-told16 .given .1, ← (c .before .token-at11 .ensures)) (c .plain4 .ensures)
+returns-16 c = rw (c .before .enum-told16 .given .1, ← (c .before .before .before .token-at .ensures)) (c .plain4 .ensures)
 
 returns-17 : tie.Need-returns-17
 unfolding deepest
-returns-17 c = rw (c .before .before .enum-told17 .given .1, ← (c .before .token-at12 .ensures)) (c .plain5 .ensures)
+returns-17 c = rw (c .before .enum-told17 .given .1, ← (c .before .before .before .token-at .ensures)) (c .plain5 .ensures)
 
 pub by-word-spec : {M : Type 1} → statement M
 by-word-spec =
     tie.close
     (tie.spec
-    (λ c. search needs)
-    (λ c κs. search needs)
     (λ c κs. search needs)
     (λ c. search needs)
     (λ c κs. search needs)
-    (λ c κs. search needs)
     (λ c. search needs)
     (λ c κs. search needs)
+    (λ c. search needs)
     (λ c κs. search needs)
     (λ c. search needs)
     (λ c. search needs)
     (λ c κs. search needs)
     (λ c. search needs)
     (λ c κs. search needs)
+    (λ c. search needs)
     (λ c κs. search needs)
     (λ c. search needs)
     (λ c κs. search needs)
-    (λ c κs. search needs)
     (λ c. search needs)
-    (λ c κs. search needs)
-    (λ c κs. search needs)
-    (λ c. search needs)
-    (λ c κs. search needs)
     (λ c κs. search needs)
     (λ c. search needs)
     (λ c. search needs)
     (λ c. search needs)
     (λ c κs. search needs)
-    (λ c κs. search needs)
     (λ c. search needs)
-    (λ c κs. search needs)
     (λ c κs. search needs)
     (λ c. search needs)
     (λ c. search needs)
     (λ c κs. search needs)
-    (λ c κs. search needs)
     (λ c. search needs)
     (λ c κs. search needs)
-    (λ c κs. search needs)
     (λ c. search needs)
-    (λ c κs. search needs)
     (λ c κs. search needs)
     (λ c. search needs)
     (λ c. search needs)
     (λ c. search needs)
     (λ c. search needs)
     (λ c. search needs)
-    (λ c. rw (c .before .before .enum-told .given .1, ← (c .before .token-at .ensures)) (c .assignment-to .ensures))
-    (λ c. rw (c .before .before .enum-told2 .given .1, ← (c .before .token-at2 .ensures)) (c .print .ensures))
-    (λ c. rw (c .before .before .enum-told3 .given .1, ← (c .before .token-at3 .ensures)) (c .condition .ensures))
+    (λ c. rw (c .before .enum-told .given .1, ← (c .before .before .before .token-at .ensures)) (c .assignment-to .ensures))
+    (λ c. rw (c .before .enum-told2 .given .1, ← (c .before .before .before .token-at .ensures)) (c .print .ensures))
+    (λ c. rw (c .before .enum-told3 .given .1, ← (c .before .before .before .token-at .ensures)) (c .condition .ensures))
     (λ c. rw (c .enum-told4 .given .1))
     returns-5
-    (λ c. rw (c .before .before .enum-told6 .given .1, ← (c .before .token-at4 .ensures)) (c .jump .ensures))
+    (λ c. rw (c .before .enum-told6 .given .1, ← (c .before .before .before .token-at .ensures)) (c .jump .ensures))
     returns-7
     returns-8
-    (λ c. rw (c .before .before .enum-told9 .given .1, ← (c .before .token-at7 .ensures)) (c .loop-head .ensures))
+    (λ c. rw (c .before .enum-told9 .given .1, ← (c .before .before .before .token-at .ensures)) (c .loop-head .ensures))
     (λ c. rw (c .enum-told10 .given .1))
     (λ c. rw (c .enum-told11 .given .1))
-    (λ c. rw (c .before .before .enum-told12 .given .1, ← (c .before .token-at8 .ensures)) (c .loop-end .ensures))
-    (λ c. rw (c .before .before .enum-told13 .given .1, ← (c .before .token-at9 .ensures)) (c .line-input .ensures))
+    (λ c. rw (c .before .enum-told12 .given .1, ← (c .before .before .before .token-at .ensures)) (c .loop-end .ensures))
+    (λ c. rw (c .before .enum-told13 .given .1, ← (c .before .before .before .token-at .ensures)) (c .line-input .ensures))
     (λ c. rw (c .enum-told14 .given .1))
     returns-15
     returns-16
