@@ -3,8 +3,10 @@ mod lines;
 mod loading;
 mod refusals;
 
+pub use lines::Extent;
 pub use lines::LineFound;
 pub use lines::LineSpan;
+pub use lines::extent_at;
 pub use lines::find_line;
 pub use lines::line_at;
 pub use loading::Loaded;

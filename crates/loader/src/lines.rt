@@ -60,7 +60,7 @@ fn ending(text: &[u8], at: usize) -> usize
 }
 
 // How far the line that begins at a place goes.
-pub(crate) fn extent_at(text: &[u8], start: usize) -> Extent
+pub fn extent_at(text: &[u8], start: usize) -> Extent
     ensures { λ r. ⌜ r ≡ extentAt start (drop start (now (text .entry))) ⌝ }
 {
     let mut at = start;

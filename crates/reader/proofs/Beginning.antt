@@ -17,10 +17,9 @@ use Rattle.reader.specs.Formulas as formulas
 use Rattle.reader.specs.Formulas.{Reading, good, after, enough, formulaOf}
 use Rattle.reader.specs.Statements.{Begun, bad, done, choice, Items, noItems, items, withItem, isSeparator, afterShown, itemsAt, begunAt}
 use Rattle.reader.specs.Lines.{withinIf}
-use Rattle.reader.specs.Answers.{weight}
+use Rattle.reader.specs.Answers.{weight, itemsOf}
 use Rattle.reader.proofs.Weights.{reads-if, after-lighter, symbol-reads, keyword-reads}
 use Rattle.reader.proofs.Grammar.{formula-lighter}
-use Rattle.reader.proofs.Fuel.{itemsOf}
 use Rattle.reader.proofs.Findings.{by-text, line-reads}
 use Rattle.reader.proofs.Standing.{isPrint, Target, stepOf, pastText, past-text, past-no-text, past, past-word, past-none, Asked, Way, by-then, by-goto, Stands, Seen, begun-seen}
 

@@ -77,7 +77,7 @@ use Rattle.reader.specs.Formulas.{
   formulaOf,
 }
 use Rattle.reader.specs.Statements.{Items, noItems, items, withItem, isSeparator, afterShown, itemsAt}
-use Rattle.reader.specs.Answers.{weight}
+use Rattle.reader.specs.Answers.{weight, formulaIn, climbOf, operandOf, argumentsOf, itemsOf}
 use Rattle.reader.proofs.Weights.{symbol-reads, operator-reads, after-lighter, weight-enough}
 use Rattle.reader.proofs.Grammar.{by-found, Lighter, formula-lightens, operand-lightens, formula-lighter}
 
@@ -192,19 +192,6 @@ mutual
 -- ---- the grammar of a line, one level at a time
 
 module _ (s : List ℕ) where
-  -- the formula of a level
-  unfoldable pub formulaIn : ℕ → Scanned → Reading
-  formulaIn level t = formulaAt (enough s) s level t
-
-  unfoldable pub climbOf : ℕ → Reading → Reading
-  climbOf level x = climbAt (enough s) s level x
-
-  unfoldable pub operandOf : ℕ → Scanned → Reading
-  operandOf level t = operandAt (enough s) s level (t .token) (t .next)
-
-  unfoldable pub argumentsOf : Function → Arguments → Reading → Reading
-  argumentsOf f a x = argumentsAt (enough s) s f a x
-
   -- an operand by its first token, with what follows that
   abbrev pub operandBy : ℕ → Token → Scanned → Reading
   operandBy level (Number w) u = good (number w) u
@@ -213,11 +200,11 @@ module _ (s : List ℕ) where
   operandBy level (Quoted q) u = good (text (quotedBytes s q)) u
   operandBy level (Symbol sign) u =
       bySign sign
-      (λ _. closed s (formulaIn 0 u))
-      (λ _. choose (leb level minusLevel) (λ _. mapped minus (operandOf tightest u)) (λ _. bad))
-  operandBy level Not u = choose (leb level notLevel) (λ _. mapped complement (formulaIn notLevel u)) (λ _. bad)
+      (λ _. closed s (formulaIn s 0 u))
+      (λ _. choose (leb level minusLevel) (λ _. mapped minus (operandOf s tightest u)) (λ _. bad))
+  operandBy level Not u = choose (leb level notLevel) (λ _. mapped complement (formulaIn s notLevel u)) (λ _. bad)
   operandBy level (Call f) u =
-      choose (isSymbol Open (u .token)) (λ _. argumentsOf f none (formulaIn 0 (after s u))) (λ _. bad)
+      choose (isSymbol Open (u .token)) (λ _. argumentsOf s f none (formulaIn s 0 (after s u))) (λ _. bad)
   operandBy level EndOfLine u = bad
   operandBy level (Keyword w) u = bad
   operandBy level (Infix op) u = bad
@@ -240,37 +227,37 @@ module _ (s : List ℕ) where
   operand-by level (Symbol sign) next = refl
   operand-by level Unreadable next = refl
 
-  pub formula-level : (t : Scanned) → formulaOf s t ≡ formulaIn 0 t
+  pub formula-level : (t : Scanned) → formulaOf s t ≡ formulaIn s 0 t
   unfolding formulaOf formulaIn
   formula-level t = refl
 
-  pub formula-unrolled : (level : ℕ) (t : Scanned) → formulaIn level t ≡ climbOf level (operandOf level t)
+  pub formula-unrolled : (level : ℕ) (t : Scanned) → formulaIn s level t ≡ climbOf s level (operandOf s level t)
   unfolding formulaAt formulaIn climbOf operandOf
   formula-unrolled level t =
       let w = weight-enough s t in formula-same (enough s) (suc (enough s)) s level t (omega arith) (omega arith)
 
-  pub operand-unrolled : (level : ℕ) (t : Scanned) → operandOf level t ≡ operandBy level (t .token) (after s t)
+  pub operand-unrolled : (level : ℕ) (t : Scanned) → operandOf s level t ≡ operandBy level (t .token) (after s t)
   unfolding operandOf
   operand-unrolled level t =
       let w = weight-enough s t in
       operand-same (enough s) (suc (enough s)) s level (t .token) (t .next) (omega arith) (omega arith)
       ∙ operand-by level (t .token) (t .next)
 
-  pub operand-is : (level : ℕ) (t : Scanned) {token : Token} → t .token ≡ token → operandOf level t ≡ operandBy level token (after s t)
+  pub operand-is : (level : ℕ) (t : Scanned) {token : Token} → t .token ≡ token → operandOf s level t ≡ operandBy level token (after s t)
   operand-is level t e = operand-unrolled level t ∙ ap (λ x. operandBy level x (after s t)) e
 
   pub climb-unrolled : (level : ℕ) (f : Formula) (t : Scanned)
-      → climbOf level (good f t)
+      → climbOf s level (good f t)
       ≡ byOperator (tightOperator level (t .token))
-      (λ op. climbOf level (mapped (twoSided op f) (formulaIn (levelOf op + 1) (after s t))))
+      (λ op. climbOf s level (mapped (twoSided op f) (formulaIn s (levelOf op + 1) (after s t))))
       (good f t)
   unfolding formulaAt formulaIn climbOf
   climb-unrolled level f t =
       let w = weight-enough s t in climb-same (enough s) (suc (enough s)) s level (good f t) (omega arith) (omega arith)
 
   pub arguments-unrolled : (f : Function) (a : Arguments) (x : Formula) (t : Scanned)
-      → argumentsOf f a (good x t)
-      ≡ choose (isSymbol Comma (t .token)) (λ _. argumentsOf f (also a x) (formulaIn 0 (after s t))) λ _.
+      → argumentsOf s f a (good x t)
+      ≡ choose (isSymbol Comma (t .token)) (λ _. argumentsOf s f (also a x) (formulaIn s 0 (after s t))) λ _.
       choose (isSymbol Close (t .token)) (λ _. called f (also a x) (after s t)) λ _.
       bad
   unfolding formulaAt formulaIn argumentsOf
@@ -278,11 +265,11 @@ module _ (s : List ℕ) where
       let w = weight-enough s t in
       arguments-same (enough s) (suc (enough s)) s f a (good x t) (omega arith) (omega arith)
 
-  pub climb-bad : (level : ℕ) → climbOf level bad ≡ bad
+  pub climb-bad : (level : ℕ) → climbOf s level bad ≡ bad
   unfolding formulaAt climbOf
   climb-bad level = climb-same (enough s) (suc (enough s)) s level bad (omega arith) (omega arith)
 
-  pub arguments-bad : (f : Function) (a : Arguments) → argumentsOf f a bad ≡ bad
+  pub arguments-bad : (f : Function) (a : Arguments) → argumentsOf s f a bad ≡ bad
   unfolding formulaAt argumentsOf
   arguments-bad f a = arguments-same (enough s) (suc (enough s)) s f a bad (omega arith) (omega arith)
 
@@ -316,9 +303,6 @@ items-same (suc m) (suc n) s t h k =
 -- so one turn leads to the same bound again
 pub turn : (s : List ℕ) (t : Scanned) → itemsAt (enough s) s t ≡ itemsAt (suc (enough s)) s t
 turn s t = let w = weight-enough s t in items-same (enough s) (suc (enough s)) s t (omega arith) (omega arith)
-
-unfoldable pub itemsOf : List ℕ → Scanned → Items
-itemsOf s t = itemsAt (enough s) s t
 
 pub items-unrolled : (s : List ℕ) (t : Scanned)
     → itemsOf s t

@@ -29,7 +29,7 @@ use Rattle.reader.specs.Statements.{
   onBegun,
   partAt,
 }
-use Rattle.reader.specs.Answers.{weight}
+use Rattle.reader.specs.Answers.{weight, partOf}
 use Rattle.reader.proofs.Weights.{symbol-reads, keyword-reads, after-lighter, weight-enough}
 use Rattle.reader.proofs.Beginning.{Within, begun-within}
 
@@ -113,10 +113,6 @@ parts-enough (suc n) (suc m) s first p h k =
     same-by s p (weightAt s p) (partAt n s) (λ f q. parts-light n s f q) (partAt m s)
     (λ f q l. parts-enough n m s f q (omega arith) (omega arith))
     (begunAt s first p) (begun-within s first p)
-
--- the part at a place of a line
-unfoldable pub partOf : List ℕ → Bool → ℕ → PartReading
-partOf s first p = partAt (enough s) s first p
 
 -- its first statement, and the parts after it
 pub unrolled : (s : List ℕ) (first : Bool) (p : ℕ) → partOf s first p ≡ partBy p (partOf s) (begunAt s first p)

@@ -21,9 +21,8 @@ use Rattle.reader.specs.Trees.{Formula, number, Variable, Item, semicolo
 use Rattle.reader.specs.Formulas as formulas
 use Rattle.reader.specs.Formulas.{Reading, good, after, quotedBytes, enough, formulaOf}
 use Rattle.reader.specs.Statements.{Begun, bad, done, choice, onFormula, variableOf, assignAt, Items, noItems, items, itemsAt, printed, printAt, ifAt, forAt, targetAt, inputAt, byWord, byMark, numberAt, byToken, begunAt}
-use Rattle.reader.specs.Answers.{lineOf, isQuoted}
+use Rattle.reader.specs.Answers.{lineOf, isQuoted, itemsOf}
 use Rattle.reader.specs.declared.tests.NamedLine.the-variants.{Names}
-use Rattle.reader.proofs.Fuel.{itemsOf}
 use Rattle.reader.proofs.Findings.{by-name, by-line, by-text}
 
 -- ---- the tokens of each statement, from its first one, t, to the one that follows it, u

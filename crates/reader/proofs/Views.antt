@@ -66,22 +66,10 @@ use Rattle.reader.specs.Statements.{
   readLine,
 }
 use Rattle.reader.specs.Lines.{statementsOf, withinIf}
-use Rattle.reader.proofs.Fuel.{
-  formulaIn,
-  climbOf,
-  operandOf,
-  argumentsOf,
-  operand-is,
-  itemsOf,
-  items-unrolled,
-  formula-unrolled,
-  climb-unrolled,
-  arguments-unrolled,
-  climb-bad,
-  arguments-bad,
-}
+use Rattle.reader.specs.Answers.{formulaIn, climbOf, operandOf, argumentsOf, itemsOf, partOf}
+use Rattle.reader.proofs.Fuel.{operand-is, items-unrolled, formula-unrolled, climb-unrolled, arguments-unrolled, climb-bad, arguments-bad}
 use Rattle.reader.proofs.Standing.{Stands, Chosen, begun-seen}
-use Rattle.reader.proofs.Parts.{partBy, partOf, unrolled}
+use Rattle.reader.proofs.Parts.{partBy, unrolled}
 
 -- ---- a line
 

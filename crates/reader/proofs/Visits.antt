@@ -29,12 +29,12 @@ use Rattle.reader.specs.Statements.{
   readLine,
 }
 use Rattle.reader.specs.Lines.{statementsOf, withinIf}
-use Rattle.reader.specs.Answers.{begunAnswer, followsDone, followOf}
+use Rattle.reader.specs.Answers.{begunAnswer, followsDone, followOf, partOf}
 use Rattle.reader.specs.declared.lines.Follow.{Follow}
 use Rattle.reader.specs.declared.lines.Follow.the-variants as follow
 use Rattle.reader.specs.declared.statements.StatementRead.{StatementRead}
 use Rattle.reader.proofs.Endings.{statement-ends, else-goes-on}
-use Rattle.reader.proofs.Parts.{partBy, partOf, unrolled}
+use Rattle.reader.proofs.Parts.{partBy, unrolled}
 use Rattle.reader.proofs.Beginning.{Alone, begun-alone}
 
 -- ---- a question

@@ -40,7 +40,7 @@ use Rattle.reader.specs.Lines.{
   judgedReading,
   judgedOf,
 }
-use Rattle.reader.specs.Answers.{weight, cappedDepth, begunAnswer, verdictOf, Tallied, followsDone, followOf}
+use Rattle.reader.specs.Answers.{weight, cappedDepth, begunAnswer, verdictOf, Tallied, followsDone, followOf, partOf}
 use Rattle.reader.specs.declared.statements.StatementRead.{StatementRead}
 use Rattle.reader.specs.declared.statements.StatementRead.the-variants as statement
 use Rattle.reader.specs.declared.lines.Judged.{Judged}
@@ -61,7 +61,7 @@ use Rattle.reader.proofs.Tallies.{
   capped-max,
   capped-verdict,
 }
-use Rattle.reader.proofs.Parts.{weightAt, next-lighter, partBy, partOf, unrolled}
+use Rattle.reader.proofs.Parts.{weightAt, next-lighter, partBy, unrolled}
 use Rattle.reader.proofs.Beginning.{Within, begun-within, Alone, begun-alone}
 
 -- ---- what the rest of a line comes to

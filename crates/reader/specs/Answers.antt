@@ -18,10 +18,10 @@ use Rattle.reader.specs.Tests.{choose, onName, onText, onLine, isSymbol,
 use Rattle.reader.specs.Trees.{Arguments, none}
 use Rattle.reader.specs.Functions.{takes, wants}
 use Rattle.reader.specs.Formulas as formulas
-use Rattle.reader.specs.Formulas.{Reading, after, called, formulaAt, argumentsAt}
+use Rattle.reader.specs.Formulas.{Reading, after, called, enough, formulaAt, climbAt, operandAt, argumentsAt}
 use Rattle.reader.specs.Types.{wholeOnly, joinedSort, callSort, sortOf, sortsOf, depthOf, deepestOf}
 use Rattle.reader.specs.Statements as statements
-use Rattle.reader.specs.Statements.{Begun, done, choice}
+use Rattle.reader.specs.Statements.{Begun, done, choice, Items, itemsAt, PartReading, partAt}
 use Rattle.reader.specs.Lines.{formulasOf, deepest, isWhole, rightlyTyped, namedLine}
 use Rattle.reader.specs.declared.functions.Want.{Want}
 use Rattle.reader.specs.declared.functions.Wanted.{Wanted}
@@ -50,6 +50,29 @@ use Rattle.reader.specs.declared.lines.Follow.the-variants as follow
 
 unfoldable pub weight : List ℕ → Scanned → ℕ
 weight s t = cond (reads (t .token)) (4 * (length s + 1 - t .next .0) + 4) 0
+
+-- ---- what reads from a token on, with a bound that is enough
+
+-- the formula of a level
+unfoldable pub formulaIn : List ℕ → ℕ → Scanned → Reading
+formulaIn s level t = formulaAt (enough s) s level t
+
+unfoldable pub climbOf : List ℕ → ℕ → Reading → Reading
+climbOf s level x = climbAt (enough s) s level x
+
+unfoldable pub operandOf : List ℕ → ℕ → Scanned → Reading
+operandOf s level t = operandAt (enough s) s level (t .token) (t .next)
+
+unfoldable pub argumentsOf : List ℕ → Function → Arguments → Reading → Reading
+argumentsOf s f a x = argumentsAt (enough s) s f a x
+
+-- the items of a PRINT
+unfoldable pub itemsOf : List ℕ → Scanned → Items
+itemsOf s t = itemsAt (enough s) s t
+
+-- the part at a place of a line
+unfoldable pub partOf : List ℕ → Bool → ℕ → PartReading
+partOf s first p = partAt (enough s) s first p
 
 -- ---- the line that a token numbers
 

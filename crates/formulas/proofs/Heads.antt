@@ -1,0 +1,250 @@
+-- An operand, by its first token: what is made of what stands behind it.
+use mathlib.Core.Path.{_≡_, refl, sym, ap, _∙_}
+use mathlib.Core.Bool.{true}
+use mathlib.Core.List.{List, []}
+use Prim.Native.Nat.{ℕ, _+_, _≤_}
+use native.Mathlib.Omega.{arith}
+use lib.ListN.{length}
+use Rattle.whole.specs.Whole.{negated, flipped}
+use Rattle.whole.specs.declared.arithmetic.Answer.{Answer}
+use Rattle.whole.specs.declared.arithmetic.Answer.the-variants.{Whole, Fault}
+use Rattle.words.specs.Names.{nameBytes, tellingOf}
+use Rattle.words.specs.Tokens.{reads, tokenAt}
+use Rattle.words.specs.declared.names.Name.{Name}
+use Rattle.words.specs.declared.symbols.Function.{Function}
+use Rattle.words.specs.declared.symbols.Quotation.{Quotation}
+use Rattle.words.specs.declared.symbols.Scanned.{Scanned}
+use Rattle.words.specs.declared.symbols.Sign.{Sign}
+use Rattle.words.specs.declared.symbols.Sign.the-variants.{Open, Minus}
+use Rattle.words.specs.declared.symbols.Token.the-variants as token
+use Rattle.words.proofs.Ends.{scanned-ends}
+use Rattle.reader.specs.Trees.{Formula, number, variable, text, minus, complement, none}
+use Rattle.reader.specs.Formulas.{notLevel, tightest, good, after, quotedBytes}
+use Rattle.reader.specs.Answers.{weight, formulaIn, operandOf, argumentsOf}
+use Rattle.reader.specs.declared.expressions.FormulaRead.the-variants.{Bad}
+use Rattle.reader.proofs.Weights.{weight-enough, symbol-reads, after-lighter}
+use Rattle.reader.proofs.Answering.{not-read}
+use Rattle.reader.proofs.Steps.{OperandMet}
+use Rattle.reader.proofs.Fuel.{operand-is}
+use Rattle.reader.proofs.Views.{opened-view, negated-view, complemented-view, call-view}
+use Rattle.formulas.specs.Strings as strings
+use Rattle.formulas.specs.Strings.{Room, Outcome, value, fault, make, letAllGo}
+use Rattle.formulas.specs.Variables.{Variables}
+use Rattle.formulas.specs.Functions.{answered}
+use Rattle.formulas.specs.Values.{wholeThen, variableValue, valueOf}
+use Rattle.formulas.specs.Memory.{
+  textLength,
+  answeredAs,
+  wholeAs,
+  closedAs,
+  Looked,
+  Agrees,
+  GoesOn,
+  Made,
+  Scans,
+  Reads,
+  OperandReads,
+  Evaluated,
+}
+use Rattle.formulas.specs.declared.values.Worked.{Worked}
+use Rattle.formulas.specs.declared.values.Worked.the-variants as worked
+use Rattle.formulas.proofs.Agreements.{answer-gives}
+use Rattle.formulas.proofs.Fitting.{framed-less}
+use Rattle.formulas.proofs.Looking.{made-evaluated}
+use Rattle.formulas.proofs.Making.{number-made}
+
+-- ---- what does not read is no operand
+
+pub not-operand : (s : List ℕ) (level : ℕ) (t : Scanned) {P : Type 0} {f : Formula} {u : Scanned} → OperandMet s level t Bad
+    → operandOf s level t ≡ good f u → P
+unfolding operandOf
+not-operand s level t m e =
+    let b = not-read (operandOf s level t) (m _ (omega (arith, weight-enough s t))) refl in
+    let z : _≡_ {A = ℕ} 0 1 = cc in absurd (omega arith)
+
+-- ---- a quoted text lies within its line
+
+pub quoted-within : {s : List ℕ} {t : Scanned} → Scans s t → (q : Quotation) → t .token ≡ token.Quoted q → q .at .0 + q .len ≤ length s
+quoted-within {s} {t} k q e = let h = scanned-ends s (k .from) (k .is) .text q e in omega arith
+
+-- ---- what the minus sign and NOT make of what is behind them
+
+answered-none : (x : Answer) (t : Scanned) → textLength (answeredAs x t) ≡ 0
+answered-none (Whole w) t = refl
+answered-none (Fault e) t = refl
+
+module _ (op : ℕ → Answer) where
+  abbrev fronted : Worked → Worked
+  fronted r = wholeAs r (λ w t. answeredAs (op w) t)
+
+  fronted-length : (r : Worked) → textLength (fronted r) ≤ textLength r
+  fronted-length (worked.Whole w t) = omega (arith, answered-none (op w) t)
+  fronted-length (worked.Text n t) = omega arith
+  fronted-length (worked.Fault e) = omega arith
+
+  fronted-agrees : (r : Worked) (space : List ℕ) (used : ℕ) (o : Outcome) → Agrees r space used o
+      → Agrees (fronted r) space used (wholeThen o (λ w after. answered (op w) [] after))
+  fronted-agrees (worked.Whole w t) space used (value (strings.whole v) room) (e, h) = rw e (answer-gives (op v) t space used .0 room h)
+  fronted-agrees (worked.Text n t) space used (value (strings.text b) room) h = refl
+  fronted-agrees (worked.Fault x) space used (fault e room) h = h
+
+  fronted-goes : (r : Worked) (u : Scanned) (space : List ℕ) → GoesOn r u → GoesOn (fronted r) u
+  fronted-goes (worked.Whole w t) u space e = rw e (answer-gives (op w) u space 0 .1)
+  fronted-goes (worked.Text n t) u space e = tt
+  fronted-goes (worked.Fault x) u space e = tt
+
+-- ---- and a parenthesis of what it closes
+
+closed-length : (line : List ℕ) (r : Worked) → textLength (closedAs line r) ≤ textLength r
+closed-length line (worked.Whole w t) = omega arith
+closed-length line (worked.Text n t) = omega arith
+closed-length line (worked.Fault e) = omega arith
+
+closed-agrees : (line : List ℕ) (r : Worked) (space : List ℕ) (used : ℕ) (o : Outcome) → Agrees r space used o
+    → Agrees (closedAs line r) space used o
+closed-agrees line (worked.Whole w t) space used (value (strings.whole v) room) h = h
+closed-agrees line (worked.Text n t) space used (value (strings.text b) room) h = h
+closed-agrees line (worked.Fault x) space used (fault e room) h = h
+
+closed-goes : (line : List ℕ) (r : Worked) (u : Scanned) → GoesOn r u → GoesOn (closedAs line r) (after line u)
+closed-goes line (worked.Whole w t) u e = rw e refl
+closed-goes line (worked.Text n t) u e = rw e refl
+closed-goes line (worked.Fault x) u e = tt
+
+-- ---- what the calls begin with; `a` is the token after the first
+
+module _ (line : List ℕ) (level : ℕ) (t : Scanned) {f : Formula} {u : Scanned} (e : operandOf line level t ≡ good f u) {a : Scanned}
+    (b : a ≡ after line t) where
+  behind-scans : Scans line a
+  behind-scans = record { from = t .next; is = b }
+
+  behind-lighter : reads (t .token) ≡ true → weight line a + 4 ≤ weight line t
+  behind-lighter r = rw b (after-lighter line t r)
+
+  module _ {x : Sign} (i : t .token ≡ token.Symbol x) where
+    pub sign-lighter : weight line a + 4 ≤ weight line t
+    sign-lighter = behind-lighter (rw i)
+
+    pub opened-asks : x ≡ Open → Scans line a × Reads (formulaIn line 0 a)
+    opened-asks j =
+        let v = opened-view line level t e (i ∙ ap token.Symbol j) in
+        (behind-scans, record { of = v .of; next = v .at; is = ap (formulaIn line 0) b ∙ v .from })
+
+    pub negated-asks : x ≡ Minus → Scans line a × OperandReads line a
+    negated-asks j =
+        let m = negated-view line level t e (i ∙ ap token.Symbol j) .1 in
+        (behind-scans, record { level = tightest; reads = record { of = m .of; next = u; is = ap (operandOf line tightest) b ∙ m .from } })
+
+  module _ (i : t .token ≡ token.Not) where
+    pub not-lighter : weight line a + 4 ≤ weight line t
+    not-lighter = behind-lighter (rw i)
+
+    pub complemented-asks : Scans line a × Reads (formulaIn line notLevel a)
+    complemented-asks =
+        let m = complemented-view line level t e i .1 in
+        (behind-scans, record { of = m .of; next = u; is = ap (formulaIn line notLevel) b ∙ m .from })
+
+  -- after the parenthesis that opens
+  module _ {g : Function} (i : t .token ≡ token.Call g) {first : Scanned} (d : first ≡ tokenAt line (a .next)) where
+    pub call-is : argumentsOf line g none (formulaIn line 0 first) ≡ good f u
+    call-is =
+        let v = call-view line level t e g i .1 in
+        ap (λ x. argumentsOf line g none (formulaIn line 0 x)) (d ∙ ap (after line) b) ∙ ap (argumentsOf line g none) (v .from) ∙ v .lists
+
+    pub call-lighter : weight line first + 8 ≤ weight line t
+    call-lighter =
+        let o = symbol-reads Open (after line t .token) (call-view line level t e g i .0) in
+        let h = ap (weight line) (d ∙ ap (after line) b) in
+        omega (arith, after-lighter line t (rw i), after-lighter line (after line t) o)
+
+    pub call-asks : Scans line first × Reads (argumentsOf line g none (formulaIn line 0 first))
+    call-asks = (record { from = a .next; is = d }, record { of = f; next = u; is = call-is })
+
+-- ---- what comes of each token
+
+done-as : {names words labels lengths : List ℕ} {f g : Formula} {u v : Scanned} {before : List ℕ} {used : ℕ} {r : Worked} {now : List ℕ}
+    → f ≡ g → u ≡ v → Evaluated names words labels lengths g v before used r now → Evaluated names words labels lengths f u before used r now
+done-as i j d = rw (i, j) d
+
+module _ (line : List ℕ) (level : ℕ) (t : Scanned) {f : Formula} {u : Scanned} (e : operandOf line level t ≡ good f u) {a : Scanned}
+    (b : a ≡ after line t) where
+  leaf-is : (g : Formula) → operandOf line level t ≡ good g (after line t) → (f ≡ g) × (u ≡ a)
+  leaf-is g i = let j = sym e ∙ i in let k : u ≡ after line t = cc in (cc, k ∙ sym b)
+
+  module _ {names words labels lengths : List ℕ} {used : ℕ} where
+    word-done : (w : ℕ) (space : List ℕ) → used ≤ length space → operandOf line level t ≡ good (number w) (after line t)
+        → Evaluated names words labels lengths f u space used (worked.Whole w a) space
+    unfolding valueOf
+    word-done w space h i =
+        let j = leaf-is (number w) i in
+        done-as (j .0) (j .1) (made-evaluated (λ vars l. number-made space used a h refl))
+
+    pub number-done : (w : ℕ) (space : List ℕ) → used ≤ length space → t .token ≡ token.Number w
+        → Evaluated names words labels lengths f u space used (worked.Whole w a) space
+    number-done w space h i = word-done w space h (operand-is line level t i)
+
+    pub hexadecimal-done : (w : ℕ) (space : List ℕ) → used ≤ length space → t .token ≡ token.Hexadecimal w
+        → Evaluated names words labels lengths f u space used (worked.Whole w a) space
+    hexadecimal-done w space h i = word-done w space h (operand-is line level t i)
+
+    module _ {before now : List ℕ} (r : Worked) where
+      pub named-done : (v : Name) → t .token ≡ token.Named v
+          → ((vars : Variables) → Looked vars names words labels lengths before
+          → Made before used used (variableValue (v .kind) (tellingOf (nameBytes line v)) vars) a r now)
+          → Evaluated names words labels lengths f u before used r now
+      unfolding valueOf
+      named-done v i h =
+          let j = leaf-is (variable (v .kind) (tellingOf (nameBytes line v))) (operand-is line level t i) in
+          done-as (j .0) (j .1) (made-evaluated h)
+
+      pub quoted-done : (q : Quotation) → t .token ≡ token.Quoted q → Made before used used (make (quotedBytes line q)) a r now
+          → Evaluated names words labels lengths f u before used r now
+      unfolding valueOf
+      quoted-done q i h =
+          let j = leaf-is (text (quotedBytes line q)) (operand-is line level t i) in
+          done-as (j .0) (j .1) (made-evaluated (λ vars l. h))
+
+      -- what wants a whole number of the formula behind it
+      fronted-done : (op : ℕ → Answer) (make : Formula → Formula) (g : Formula) → f ≡ make g
+          → ((vars : Variables) (room : Room) → valueOf (make g) vars room ≡ wholeThen (valueOf g vars room) (λ w after. answered (op w) [] after))
+          → Evaluated names words labels lengths g u before used r now → Evaluated names words labels lengths f u before used (fronted op r) now
+      fronted-done op make g i worth d = record {
+        framed = framed-less (fronted op r) (fronted-length op r) (d .framed);
+        agrees = λ vars l room x.
+            rw (i, worth vars room) (fronted-agrees op r now used (valueOf g vars room) (d .agrees vars l room x));
+        goes = fronted-goes op r u now (d .goes);
+      }
+
+      pub complemented-done : t .token ≡ token.Not
+          → ((g : Formula) (v : Scanned) → formulaIn line notLevel a ≡ good g v → Evaluated names words labels lengths g v before used r now)
+          → Evaluated names words labels lengths f u before used (wholeAs r (λ w t. worked.Whole (flipped w) t)) now
+      unfolding valueOf letAllGo
+      complemented-done i h =
+          let m = complemented-view line level t e i .1 in
+          fronted-done (λ w. Whole (flipped w)) complement (m .of) (m .is) (λ vars room. refl)
+          (h (m .of) u (ap (formulaIn line notLevel) b ∙ m .from))
+
+      module _ {x : Sign} (i : t .token ≡ token.Symbol x) where
+        -- in parentheses
+        pub opened-done : x ≡ Open
+            → ((g : Formula) (v : Scanned) → formulaIn line 0 a ≡ good g v → Evaluated names words labels lengths g v before used r now)
+            → Evaluated names words labels lengths f u before used (closedAs line r) now
+        unfolding valueOf
+        opened-done j h =
+            let v = opened-view line level t e (i ∙ ap token.Symbol j) in
+            let d = h (v .of) (v .at) (ap (formulaIn line 0) b ∙ v .from) in
+            done-as (v .is) (v .next)
+            (record {
+              framed = framed-less (closedAs line r) (closed-length line r) (d .framed);
+              agrees = λ vars l room x. closed-agrees line r now used (valueOf (v .of) vars room) (d .agrees vars l room x);
+              goes = closed-goes line r (v .at) (d .goes);
+            })
+
+        pub negated-done : x ≡ Minus
+            → ((k : ℕ) (g : Formula) (v : Scanned) → operandOf line k a ≡ good g v → Evaluated names words labels lengths g v before used r now)
+            → Evaluated names words labels lengths f u before used (wholeAs r (λ w t. answeredAs (negated w) t)) now
+        unfolding valueOf
+        negated-done j h =
+            let m = negated-view line level t e (i ∙ ap token.Symbol j) .1 in
+            fronted-done (λ w. negated w) minus (m .of) (m .is) (λ vars room. refl)
+            (h tightest (m .of) u (ap (operandOf line tightest) b ∙ m .from))

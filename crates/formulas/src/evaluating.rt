@@ -1,0 +1,248 @@
+// The evaluators of formulas, operands and argument lists, which call each other in a cycle over a line that reads: at each call the
+// bytes that remain are fewer. Each takes the token that it begins with and hands on the one that follows. `names` and `words` are
+// the number variables, `labels` and `lengths` the string variables.
+ghost use mathlib.Core.Path.{_≡_};
+ghost use Prim.Native.Nat.{ℕ};
+ghost use Rattle.reader.specs.Trees.{Formula, none};
+ghost use Rattle.reader.specs.Formulas.{good, formulaOf};
+ghost use Rattle.reader.specs.Answers.{formulaIn, operandOf, argumentsOf};
+ghost use Rattle.formulas.specs.Memory.{Scans, Reads, OperandReads, Ready, Evaluated};
+use crate::arguments::Given;
+use crate::arguments::Taken;
+use crate::arguments::given_length;
+use crate::arguments::has_third;
+use crate::arguments::take_argument;
+use crate::functions::called;
+use crate::operands::closed;
+use crate::operands::complemented;
+use crate::operands::named;
+use crate::operands::negated;
+use crate::operands::quoted;
+use crate::operators::Turn;
+use crate::operators::joined;
+use crate::operators::turn_of;
+use crate::values::Worked;
+use crate::values::text_length;
+use reader::level_of;
+use whole::Error;
+use words::Function;
+use words::Scanned;
+use words::Sign;
+use words::Token;
+use words::token_at;
+
+// The levels at which no operator and NOT stand.
+const LOOSEST: u8 = 0;
+
+const NOT: u8 = 5;
+
+// The formula of a level: an operand, and as long as an operator of that level or a tighter one follows, what it makes of both sides.
+fn formula(
+    line: &[u8],
+    ahead: Scanned,
+    level: u8,
+    names: &[u8; 128],
+    words: &[u16; 64],
+    labels: &[u8; 128],
+    lengths: &[u8; 64],
+    space: &mut [u8],
+    used: usize,
+) -> Worked
+    requires { ⌜ Ready (now line) (now lengths) (now space) used × (Scans (now line) ahead × Reads (formulaIn (now line) level ahead)) ⌝ }
+    ensures { λ r. ⌜
+        ((f : Formula) (u : Scanned) → formulaIn (now (line .entry)) level ahead ≡ good f u
+        → Evaluated (now (names .entry)) (now (words .entry)) (now (labels .entry)) (now (lengths .entry)) f u (now (space .entry)) used r (now (space .exit)))
+        ⌝ }
+{
+    let mut left = operand(line, ahead, names, words, labels, lengths, space, used);
+    loop {
+        match turn_of(level, left) {
+            Turn::Ends => return left,
+            Turn::Refused => return Worked::Fault(Error::TypeMismatch),
+            Turn::Goes(operator, next) => {
+                let first = token_at(line, next);
+                let right = formula(
+                    line,
+                    first,
+                    level_of(operator) + 1,
+                    names,
+                    words,
+                    labels,
+                    lengths,
+                    space,
+                    used + text_length(left),
+                );
+                left = joined(operator, left, right, space, used);
+            }
+        }
+    }
+}
+
+// Parentheses, names, numbers, texts and functions, one minus sign before such, or NOT.
+fn operand(
+    line: &[u8],
+    ahead: Scanned,
+    names: &[u8; 128],
+    words: &[u16; 64],
+    labels: &[u8; 128],
+    lengths: &[u8; 64],
+    space: &mut [u8],
+    used: usize,
+) -> Worked
+    requires { ⌜ Ready (now line) (now lengths) (now space) used × (Scans (now line) ahead × OperandReads (now line) ahead) ⌝ }
+    ensures { λ r. ⌜
+        ((level : ℕ) (f : Formula) (u : Scanned) → operandOf (now (line .entry)) level ahead ≡ good f u
+        → Evaluated (now (names .entry)) (now (words .entry)) (now (labels .entry)) (now (lengths .entry)) f u (now (space .entry)) used r (now (space .exit)))
+        ⌝ }
+{
+    let token = ahead.token;
+    let next = ahead.next;
+    let after = token_at(line, next);
+    match token {
+        Token::Number(word) => Worked::Whole(word, after),
+        Token::Hexadecimal(word) => Worked::Whole(word, after),
+        Token::Named(name) => named(
+            line,
+            name,
+            after,
+            names,
+            words,
+            labels,
+            lengths,
+            space,
+            used,
+        ),
+        Token::Quoted(quotation) => quoted(line, quotation, after, space, used),
+        Token::Symbol(sign) => match sign {
+            Sign::Open => closed(
+                line,
+                formula(
+                    line,
+                    after,
+                    LOOSEST,
+                    names,
+                    words,
+                    labels,
+                    lengths,
+                    space,
+                    used,
+                ),
+            ),
+            Sign::Minus => negated(operand(
+                line,
+                after,
+                names,
+                words,
+                labels,
+                lengths,
+                space,
+                used,
+            )),
+            _ => Worked::Fault(Error::Syntax),
+        },
+        Token::Not => complemented(formula(
+            line,
+            after,
+            NOT,
+            names,
+            words,
+            labels,
+            lengths,
+            space,
+            used,
+        )),
+        Token::Call(function) => {
+            let next = after.next;
+            let first = token_at(line, next);
+            arguments(
+                line,
+                first,
+                function,
+                names,
+                words,
+                labels,
+                lengths,
+                space,
+                used,
+            )
+        }
+        _ => Worked::Fault(Error::Syntax),
+    }
+}
+
+// A function from its first argument on: each is tested as soon as it is worked out.
+fn arguments(
+    line: &[u8],
+    ahead: Scanned,
+    function: Function,
+    names: &[u8; 128],
+    words: &[u16; 64],
+    labels: &[u8; 128],
+    lengths: &[u8; 64],
+    space: &mut [u8],
+    used: usize,
+) -> Worked
+    requires { ⌜ Ready (now line) (now lengths) (now space) used × (Scans (now line) ahead × Reads (argumentsOf (now line) function none (formulaIn (now line) 0 ahead))) ⌝ }
+    ensures { λ r. ⌜
+        ((f : Formula) (u : Scanned) → argumentsOf (now (line .entry)) function none (formulaIn (now (line .entry)) 0 ahead) ≡ good f u
+        → Evaluated (now (names .entry)) (now (words .entry)) (now (labels .entry)) (now (lengths .entry)) f u (now (space .entry)) used r (now (space .exit)))
+        ⌝ }
+{
+    let three = has_third(line, ahead);
+    let mut given = Given::None;
+    let mut here = ahead;
+    loop {
+        let worked = formula(
+            line,
+            here,
+            LOOSEST,
+            names,
+            words,
+            labels,
+            lengths,
+            space,
+            used + given_length(given),
+        );
+        match take_argument(function, three, given, worked) {
+            Taken::Fault(error) => return Worked::Fault(error),
+            Taken::All(all, next) => {
+                let after = token_at(line, next);
+                return called(function, space, used, all, after);
+            }
+            Taken::More(all, next) => {
+                given = all;
+                here = token_at(line, next);
+            }
+        }
+    }
+}
+
+// The value of the formula that begins with a token; live bytes are those below `used`.
+pub fn work_out(
+    line: &[u8],
+    ahead: Scanned,
+    names: &[u8; 128],
+    words: &[u16; 64],
+    labels: &[u8; 128],
+    lengths: &[u8; 64],
+    space: &mut [u8],
+    used: usize,
+) -> Worked
+    requires { ⌜ Ready (now line) (now lengths) (now space) used × (Scans (now line) ahead × Reads (formulaOf (now line) ahead)) ⌝ }
+    ensures { λ r. ⌜
+        ((f : Formula) (u : Scanned) → formulaOf (now (line .entry)) ahead ≡ good f u
+        → Evaluated (now (names .entry)) (now (words .entry)) (now (labels .entry)) (now (lengths .entry)) f u (now (space .entry)) used r (now (space .exit)))
+        ⌝ }
+{
+    formula(
+        line,
+        ahead,
+        LOOSEST,
+        names,
+        words,
+        labels,
+        lengths,
+        space,
+        used,
+    )
+}
