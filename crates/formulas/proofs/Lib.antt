@@ -6,7 +6,6 @@ pub mod Produced
 pub mod Parts
 pub mod Finding
 pub mod Calls
-pub mod Followers
 pub mod Wants
 pub mod Faults
 pub mod Looking
