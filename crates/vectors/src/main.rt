@@ -1,84 +1,79 @@
-// Runs the stored cases: each is the length of a recipe in two bytes, the low one first, and the recipe. Writes a verdict a line.
-use checker::Verdict;
-use checker::check_recipe;
+// Runs the stored cases. A case is a kind, five numbers of four bytes each, the low one first, and its recipe and input: how long the
+// recipe and the input are, how many bytes of string space and of room for output are lent, and the budget. Writes an answer a line.
+mod checks;
+mod runs;
+mod saying;
+
 use libc::STDIN_FILENO;
-use libc::STDOUT_FILENO;
 ghost use mathlib.Core.Path.{_≡_};
 ghost use Prim.Native.Nat.{_<_};
 ghost use lib.ListN.{length};
 
-// More bytes than any stored recipe has.
+// More bytes than any stored case asks for.
 fn text_room() -> [u8; 20480]
     ensures { λ r. ⌜ 20480 ≡ length r ⌝ }
 {
     [0; 20480]
 }
 
-// A word, a number and where it applies, parted by tabs.
-fn say(word: &[u8], number: u8, place: u64) {
-    io::write_all(STDOUT_FILENO, word);
-    io::write_all(STDOUT_FILENO, b"\t");
-    io::print_decimal(STDOUT_FILENO, number as u64);
-    io::write_all(STDOUT_FILENO, b"\t");
-    io::print_decimal(STDOUT_FILENO, place);
-    io::write_all(STDOUT_FILENO, b"\n");
+fn input_room() -> [u8; 20480]
+    ensures { λ r. ⌜ 20480 ≡ length r ⌝ }
+{
+    [0; 20480]
 }
 
-fn show(verdict: Verdict) {
-    match verdict {
-        Verdict::Passed => {
-            io::write_all(STDOUT_FILENO, b"passed\n");
-        }
-        Verdict::Refused(refusal, place) => say(
-            b"refused",
-            loader::refusal_number(refusal),
-            place.0 as u64,
-        ),
-        Verdict::Faulty(error, line) => say(b"refused", whole::number_of(error), line.0 as u64),
-    }
-}
+const CHECK: u8 = 0;
 
-fn wide(byte: u8) -> usize
+fn wide(byte: u8) -> u32
     ensures { λ r. ⌜ r < 256 ⌝ }
 {
-    byte as usize
+    byte as u32
 }
 
-fn length_of(low: u8, high: u8) -> usize {
-    wide(low) + wide(high) * 256
+// The number at a place of a case's head.
+fn number_at(head: &[u8; 21], at: usize) -> u32 {
+    if 17 < at {
+        return 0;
+    }
+    let low = wide(head[at]) + wide(head[at + 1]) * 256;
+    let high = wide(head[at + 2]) + wide(head[at + 3]) * 256;
+    low + high * 65536
 }
 
-// The recipe at the front of the room, as far as it is there.
-fn take_in(text: &mut [u8], len: usize) {
-    if len <= text.len() {
-        io::read_full(STDIN_FILENO, &mut text[..len]);
+// The bytes at the front of a buffer, as far as there is room.
+fn take_in(bytes: &mut [u8], len: usize) {
+    if len <= bytes.len() {
+        io::read_full(STDIN_FILENO, &mut bytes[..len]);
     }
 }
 
-fn answer(text: &[u8], len: usize) {
-    if len <= text.len() {
-        show(check_recipe(&text[..len]));
-    }
-}
-
-// Reads one case and writes its verdict; false where none is left.
-fn next_case(text: &mut [u8]) -> bool {
-    let mut head = [0u8; 2];
-    if io::read_full(STDIN_FILENO, &mut head) < 2 {
+// Reads one case and writes its answer; false where none is left.
+fn next_case(text: &mut [u8], input: &mut [u8]) -> bool {
+    let mut head = [0u8; 21];
+    if io::read_full(STDIN_FILENO, &mut head) < 21 {
         return false;
     }
-    let len = length_of(head[0], head[1]);
+    let len = number_at(&head, 1) as usize;
+    let count = number_at(&head, 5) as usize;
     take_in(text, len);
-    answer(text, len);
+    take_in(input, count);
+    if head[0] == CHECK {
+        checks::answer(text, len);
+    } else {
+        let space = number_at(&head, 9) as usize;
+        let room = number_at(&head, 13) as usize;
+        runs::answer(text, len, input, count, space, room, number_at(&head, 17));
+    }
     true
 }
 
 fn main() {
     let mut text = text_room();
+    let mut input = input_room();
     let mut going = true;
     let mut left: u32 = 60000;
     while going && 0 < left {
         left -= 1;
-        going = next_case(&mut text);
+        going = next_case(&mut text, &mut input);
     }
 }

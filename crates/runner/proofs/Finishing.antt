@@ -1,0 +1,102 @@
+-- The end of a run: what is answered and left in memory, where the code's machine is the definition's.
+use mathlib.Core.Path.{_≡_, refl, sym, ap, ap₂, _∙_}
+use mathlib.Core.Bool.{false}
+use mathlib.Core.List.{List, _++_}
+use Prim.Native.Nat.{ℕ, _-_, _≤_, _<_}
+use native.Mathlib.Omega.{arith}
+use borrow.Author.Tests.{lt-ltb, le-ltb}
+use lib.ListN.{length, drop, replicate, take-append-drop}
+use lib.Seq.{length-take-le}
+use Rattle.space.specs.Moves.{cleared}
+use Rattle.words.specs.Places.{place}
+use Rattle.words.specs.declared.places.Place.{Place}
+use Rattle.loader.specs.Loading.{loadOf}
+use Rattle.loader.specs.declared.loading.Loaded.the-variants as loaded
+use Rattle.loader.specs.declared.refusals.Refusal.{Refusal}
+use Rattle.loader.specs.declared.refusals.Refusal.the-variants.{SpaceTooLong}
+use Rattle.formulas.specs.Variables.{stringBytes, joinedStrings}
+use Rattle.formulas.specs.Memory.{stringsHeld}
+use Rattle.formulas.specs.declared.tables.Tables.{Tables}
+use Rattle.formulas.proofs.Holding.{cleaned, strings-live}
+use Rattle.formulas.proofs.Told.{numbers-told, strings-told}
+use Rattle.machine.specs.Machine as spec
+use Rattle.machine.specs.Holding.{variablesOf, Settled, Sound, Same}
+use Rattle.machine.specs.declared.machine.Machine.{Machine}
+use Rattle.machine.specs.declared.records.Record.{Record}
+use Rattle.runner.specs.Run as run
+use Rattle.runner.specs.Run.{endsWith, isRefused, tablesOf, answerOf, spaceAfter, roomAfter, runOf}
+use Rattle.runner.specs.Standings.{runIn, endedAs, RanAs, refusedAs}
+use Rattle.runner.specs.declared.running.Outcome.{Outcome}
+use Rattle.runner.specs.declared.running.Outcome.the-variants.{Refused}
+use Rattle.runner.specs.declared.running.Ran.{Ran}
+
+-- the tables are told by the variables that they hold
+tables-told : (m : Machine) (space : List ℕ) → Settled m space → m .tables ≡ tablesOf (variablesOf m space)
+tables-told m space s =
+    ap₂ (λ n t. record { numbers = n; strings = t }) (numbers-told (m .tables .numbers) (s .numbers))
+    (strings-told (m .tables .strings) space (s .strings) (omega (arith, s .all, s .within)))
+
+-- the space holds their bytes
+space-told : (m : Machine) (space : List ℕ) → Settled m space
+    → cleared space (m .used)
+    ≡ joinedStrings (variablesOf m space .strings) ++ replicate (length space - stringBytes (variablesOf m space .strings)) 0
+space-told m space s =
+    let t = m .tables .strings in
+    let live : stringBytes (stringsHeld t space) ≡ m .used = strings-live t space (s .strings) (omega (arith, s .all, s .within)) ∙ s .all in
+    cleaned t space (m .used) (s .strings) (sym (s .all)) ∙ ap (λ k. joinedStrings (stringsHeld t space) ++ replicate (length space - k) 0) (sym live)
+
+answer-told : (o : Outcome) (m : Machine) (tables : Tables) (ran : run.Ran) → isRefused (ran .ending) ≡ false → o ≡ ran .ending → m .steps ≡ ran .machine .steps
+    → m .printer .written ≡ length (ran .machine .output) → m .taken ≡ ran .machine .taken → m .tables ≡ tablesOf (ran .machine .variables)
+    → endedAs o m ≡ answerOf ran tables
+answer-told o m tables ran f a b c d e = rw (f, ← a, ← b, ← c, ← d, ← e)
+
+module _ {text : List ℕ} {rs : List Record} {m : Machine} {input space room : List ℕ} {n : spec.Machine}
+    (sound : Sound m input space room) (same : Same text rs m input space room n) where
+  written : length (n .output) ≡ m .printer .written
+  written = rw (same .output) (length-take-le (m .printer .written) room (sound .fitting .within))
+
+  -- an outcome other than a refusal, with the memory that was lent at the start
+  pub ran-as : (o : Outcome) → isRefused o ≡ false → {ran : run.Ran} → endsWith o n ≡ ran → (space₀ room₀ : List ℕ)
+      → length space ≡ length space₀ → drop (m .printer .written) room ≡ drop (m .printer .written) room₀
+      → {r : Ran} {space′ : List ℕ} → r ≡ endedAs o m → space′ ≡ cleared space (m .used) → RanAs ran space₀ room₀ r space′ room
+  ran-as o f is space₀ room₀ long beyond a b =
+      rw (← is)
+      (record {
+        answers = λ tables.
+            a ∙ answer-told o m tables (endsWith o n) f refl (sym (same .steps)) (sym written) (sym (same .taken))
+            (tables-told m space (sound .settled) ∙ ap tablesOf (sym (same .variables)));
+        spaced = rw (f, same .variables, ← long) (b ∙ space-told m space (sound .settled));
+        roomy = rw (written, same .output, ← beyond) (sym (take-append-drop (m .printer .written) room));
+      })
+
+-- ---- the whole run
+
+-- what holds of an answer, and of the memory after it
+abbrev Met : run.Ran → Tables → List ℕ → List ℕ → Ran → List ℕ → List ℕ → Type 0
+Met ran tables space room r space′ room′ = (r ≡ answerOf ran tables) × ((space′ ≡ spaceAfter ran space) × (room′ ≡ roomAfter ran room))
+
+module _ (text input space room : List ℕ) (budget : ℕ) (tables : Tables) where
+  abbrev whole : run.Ran
+  whole = runOf text input (length space) (length room) budget
+
+  left : {f : Refusal} {p : Place} → whole ≡ endsWith (Refused f p) (spec.fresh input (length space) (length room))
+      → {r : Ran} → r ≡ refusedAs f p tables → Met whole tables space room r space room
+  left e a = rw e (a, (refl, refl))
+
+  -- the space is too long,
+  pub run-long : 16384 < length space → {r : Ran} → r ≡ refusedAs SpaceTooLong (place 0) tables → Met whole tables space room r space room
+  unfolding runOf
+  run-long h a = left (rw (lt-ltb 16384 (length space) h)) a
+
+  module _ (h : length space ≤ 16384) where
+    -- the text is refused,
+    pub run-refused : {f : Refusal} {p : Place} → loadOf text ≡ loaded.Refused f p → {r : Ran} → r ≡ refusedAs f p tables
+        → Met whole tables space room r space room
+    unfolding runOf
+    run-refused e a = left (rw (le-ltb 16384 (length space) h, e)) a
+
+    -- or it loads
+    pub run-fine : loadOf text ≡ loaded.Fine → {r : Ran} {space′ room′ : List ℕ} → RanAs (runIn text input space room budget) space room r space′ room′
+        → Met whole tables space room r space′ room′
+    unfolding runOf
+    run-fine e a = rw (le-ltb 16384 (length space) h, e) (a .answers tables, (a .spaced, a .roomy))

@@ -1,0 +1,5 @@
+pub mod Answering
+pub mod Entering
+pub mod Turning
+pub mod Finishing
+pub mod Looping

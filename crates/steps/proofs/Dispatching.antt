@@ -1,0 +1,339 @@
+-- Turns of statements that only go on or end, and what a part's first statement does, by how it begins.
+use mathlib.Core.Path.{_≡_, refl, sym, ap, _∙_}
+use mathlib.Core.Bool.{Bool, true, false}
+use mathlib.Core.List.{List, _∷_, []}
+use Prim.Native.Nat.{ℕ}
+use native.Mathlib.Omega.{arith}
+use lib.ListN.{length, set}
+use denote.Enum.Declared.{tagOf}
+use types.Run.{OneOf, miss}
+use Rattle.words.specs.Places.{place}
+use Rattle.words.specs.Tokens.{tokenAt}
+use Rattle.whole.specs.declared.errors.Error.{Error}
+use Rattle.whole.specs.declared.errors.Error.the-variants.{TypeMismatch}
+use Rattle.words.specs.declared.names.Kind.the-variants as kind
+use Rattle.words.specs.declared.names.Name.{Name}
+use Rattle.words.specs.declared.places.LineNumber.{LineNumber}
+use Rattle.words.specs.declared.places.Place.{Place}
+use Rattle.words.specs.declared.symbols.Scanned.{Scanned}
+use Rattle.words.specs.declared.symbols.Sign.{Sign}
+use Rattle.words.specs.declared.symbols.Sign.the-variants.{Open, Close, Comma, Semicolon, Colon, Question, Equal, Minus}
+use Rattle.words.specs.declared.symbols.Token.{Token}
+use Rattle.words.specs.declared.symbols.Token.the-variants.{
+  EndOfLine,
+  Keyword,
+  Not,
+  Infix,
+  Call,
+  Named,
+  Number,
+  Hexadecimal,
+  LineOnly,
+  Quoted,
+  Symbol,
+  Unreadable,
+}
+use Rattle.words.specs.declared.symbols.Word.{Word}
+use Rattle.words.specs.declared.symbols.Word.the-variants.{
+  Let,
+  Print,
+  If,
+  Then,
+  Else,
+  Goto,
+  Gosub,
+  Return,
+  For,
+  To,
+  Step,
+  Next,
+  Line,
+  Input,
+  End,
+  Stop,
+  Rem,
+  While,
+  Wend,
+  Data,
+  Read,
+  Restore,
+}
+use Rattle.words.proofs.Choices.{by-test}
+use Rattle.reader.specs.Tests.{isSymbol, isKeyword, endsStatement}
+use Rattle.reader.specs.Trees as tree
+use Rattle.reader.specs.Trees.{Part, last, more}
+use Rattle.reader.specs.Formulas.{good, after, formulaOf}
+use Rattle.reader.specs.Statements.{Begun, bad, done, choice, variableOf, items, printAt, ifAt, forAt, inputAt, byWord, byMark, byToken, begunAt, PartReading, badPart, goodPart}
+use Rattle.reader.specs.Answers.{lineOf, itemsOf, partOf}
+use Rattle.reader.specs.declared.tests.NamedLine.the-variants.{Names}
+use Rattle.reader.proofs.Parts.{partBy, unrolled}
+use Rattle.reader.proofs.Views.{More, Final, plain, thens, elses, more-view, final-view}
+use Rattle.machine.specs.Machine as spec
+use Rattle.machine.specs.Machine.{Rest, nothing, part}
+use Rattle.machine.specs.Holding.{linesAt, bodyOf, positionOf, isSought, Parted, Positioned, Sound}
+use Rattle.machine.specs.declared.machine.Machine.{Machine}
+use Rattle.machine.specs.declared.positions.Turned.{Turned}
+use Rattle.machine.specs.declared.positions.Next.the-variants as next
+use Rattle.machine.specs.declared.records.Record.{Record}
+use Rattle.machine.specs.declared.records.Found.{Found}
+use Rattle.machine.specs.declared.records.Sought.the-variants as sought
+use Rattle.machine.proofs.Standing.{true-part}
+use Rattle.steps.specs.Steps as step
+use Rattle.steps.specs.Steps.{goesOn, ends, stops, fails, nextOn, headOf, tailOf, doStatement}
+use Rattle.steps.specs.Turns.{turnedTo, afterOf, Turns, anyRecords, Told, Standing, soughtBy}
+use Rattle.steps.specs.Doing.{Begins, Does, setAt, loopAt, nextAt, jumpAt, callAt, lineAt}
+use Rattle.steps.proofs.Keeping.{leaves-unprinted}
+use Rattle.steps.proofs.Leading.{leads-self, turns-fails, turns-on, turns-ends, turns-stops}
+use Rattle.steps.proofs.Items.{colon-ends}
+use Rattle.steps.proofs.Beginning.{tokenTag, wordTag, if-so, by-assign, by-items, by-condition, by-for, by-input, no-name, on-line, no-line}
+
+-- ---- turns that change nothing
+
+module _ {text : List ℕ} {m : Machine} {input space room : List ℕ} where
+  -- what holds whatever the records holds of those that meet what is told
+  pub any-told : {told : List Record → Type 0} {does : spec.Machine → step.Next} {r : Turned} {space′ room′ : List ℕ}
+      → Turns text m input space room anyRecords does r space′ room′ → Turns text m input space room told does r space′ room′
+  any-told t = record { leaves = t .leaves; comes = λ rs l h n s. t .comes rs l tt n s }
+
+  module _ (sound : Sound m input space room) (told : List Record → Type 0) where
+    -- the run goes on after a statement
+    pub goes-turn : (here : Place) (u : Scanned) → Positioned text (afterOf here u)
+        → Turns text m input space room told (λ n. goesOn n (positionOf text (afterOf here u))) (turnedTo m (next.On (afterOf here u))) space room
+    goes-turn here u p = turns-on (leaves-unprinted sound refl refl refl) p (λ rs l t n s. leads-self s)
+
+    pub fails-turn : (e : Error) → Turns text m input space room told (fails e) (turnedTo m (next.Fails e)) space room
+    fails-turn e = turns-fails (leaves-unprinted sound refl refl refl) (λ rs l t n s. leads-self s)
+
+    pub ends-turn : Turns text m input space room told ends (turnedTo m next.Ends) space room
+    ends-turn = turns-ends (leaves-unprinted sound refl refl refl) (λ rs l t n s. leads-self s)
+
+    pub stops-turn : Turns text m input space room told stops (turnedTo m next.Stops) space room
+    stops-turn = turns-stops (leaves-unprinted sound refl refl refl) (λ rs l t n s. leads-self s)
+
+    -- NEXT with a string's name
+    pub next-text : (v : tree.Variable) (after : spec.Position) → v .kind ≡ kind.Text
+        → Turns text m input space room told (λ n. doStatement text (tree.nextOf v) n after) (turnedTo m (next.Fails TypeMismatch)) space room
+    next-text v after e = simp e (fails-turn TypeMismatch)
+
+-- and with a number's
+pub next-whole : {text : List ℕ} {m : Machine} {input space room : List ℕ} {told : List Record → Type 0} {r : Turned} (v : tree.Variable) (after : spec.Position)
+    → v .kind ≡ kind.Whole
+    → Turns text m input space room told (λ n. nextOn n (spec.sought (isSought (sought.LoopOf (v .telling))) (n .records)) after) r space room
+    → Turns text m input space room told (λ n. doStatement text (tree.nextOf v) n after) r space room
+next-whole v after e t = simp e t
+
+-- ---- what is left of a part after its first statement, which a token ends
+
+pub record After (text : List ℕ) (here : Place) (u : Scanned) (rest : Rest) : Type 0 where
+  pub placed : Positioned text (afterOf here u)
+  pub is : positionOf text (afterOf here u) ≡ record { lines = linesAt text (here .0); rest = rest }
+
+module _ {text line : List ℕ} {here : Place} (st : Standing text line here) (u : Scanned) where
+  -- a colon: the rest reads
+  pub after-colon : {rest : Part} {end : Scanned} → isSymbol Colon (u .token) ≡ true → partOf line false (u .next .0) ≡ goodPart rest end
+      → After text here u (part rest)
+  after-colon {rest} {end} c e =
+      let e′ = rw (st .is) at (true-part line (u .next .0) e) in
+      record {
+        placed = record { begins = st .begins; reads = λ _. record { of = rest; end = end; is = e′ } };
+        is = rw (c, e′);
+      }
+
+  -- none: the line is over
+  pub after-last : isSymbol Colon (u .token) ≡ false → After text here u nothing
+  after-last c =
+      record {
+        placed = record { begins = st .begins; reads = λ h. let z = rw c at h in let y : _≡_ {A = ℕ} 0 1 = cc in absurd (omega arith) };
+        is = rw c;
+      }
+
+-- ---- a part that reads
+
+begins-by : (p : ℕ) (go : Bool → ℕ → PartReading) (b : Begun) {q : Part} {u : Scanned} → partBy p go b ≡ goodPart q u → Begins b
+begins-by p go bad e = let y : _≡_ {A = ℕ} 0 1 = cc in absurd (omega arith)
+begins-by p go (done x t) e =
+    by-test (isSymbol Colon (t .token)) (λ c. colon-ends (t .token) c) λ c.
+    by-test (endsStatement (t .token)) (λ f. f) λ f.
+    let h = rw (c, f) at e in let y : _≡_ {A = ℕ} 0 1 = cc in absurd (omega arith)
+begins-by p go (choice c t) e = tt
+
+-- its first statement does
+part-begins : {line : List ℕ} {at : ℕ} → Parted line at → Begins (begunAt line true at)
+part-begins {line} {at} p =
+    begins-by at (partOf line) (begunAt line true at) (sym (unrolled line true at) ∙ p .is)
+
+-- by its first token
+pub begun-token : (line : List ℕ) (at : Place) {t : Scanned} {x : Token} → t ≡ tokenAt line at → t .token ≡ x
+    → begunAt line true (at .0) ≡ byToken line true x t
+unfolding begunAt
+begun-token line at {t} e w = rw (← e) (ap (λ x. byToken line true x t) w)
+
+pub token-begins : {line : List ℕ} (at : Place) {t : Scanned} {x : Token} → t ≡ tokenAt line at → t .token ≡ x → Parted line (at .0)
+    → Begins (byToken line true x t)
+token-begins {line} at e w p = rw (begun-token line at e w) at (part-begins p)
+
+module _ (text line : List ℕ) (here : Place) (m : Machine) (found : Found) (entry : Record) (input space room : List ℕ) (r : Turned)
+    (space′ room′ : List ℕ) where
+  abbrev D : Begun → Type 0
+  D b = Does text line here m found entry input space room r space′ room′ b
+
+  abbrev TurnsAs : Part → Type 0
+  TurnsAs p =
+      Turns text m input space room (Told (soughtBy (headOf p)) (m .depth) found entry)
+      (λ n. doStatement text (headOf p) n (record { lines = linesAt text (here .0); rest = tailOf p })) r space′ room′
+
+  last-does : Standing text line here → (at q : ℕ) (x : tree.Statement) (end : Scanned) → Final line true at q x end → D (begunAt line true at)
+      → TurnsAs (last q x)
+  last-does st at q x end (plain f) d =
+      let a = after-last st end (f .no-colon) in
+      rw (a .is) at ((rw (f .begun) at d) (a .placed))
+  last-does st at q x end (thens {part = p} f) d =
+      (rw (f .begun) at d) p end (record { lines = linesAt text (here .0); rest = nothing }) refl (f .goes) .0 (f .no-else)
+  last-does st at q x end (elses {part = p} {other = o} f) d =
+      (rw (f .begun) at d) p (f .middle) (record { lines = linesAt text (here .0); rest = nothing }) refl (f .goes) .1 (f .is-else) o end (f .other-goes)
+
+  part-does : Standing text line here → (at : ℕ) (p : Part) (end : Scanned) → partOf line true at ≡ goodPart p end
+      → D (begunAt line true at) → TurnsAs p
+  part-does st at (last q x) end e d = last-does st at q x end (final-view line true at e) d
+  part-does st at (more q x rest) end e d =
+      let f = more-view line true at e in
+      let a = after-colon st (f .end) (f .colon) (f .goes) in
+      rw (a .is) at ((rw (f .begun) at d) (a .placed))
+
+  -- what its first statement does is what the definition does of it
+  pub token-does : Standing text line here → (at : Place) {t : Scanned} {x : Token} → t ≡ tokenAt line at → t .token ≡ x → D (byToken line true x t)
+      → (p : Part) (end : Scanned) → partOf line true (at .0) ≡ goodPart p end → TurnsAs p
+  token-does st at e w d p end i = part-does st (at .0) p end i (rw (begun-token line at e w) d)
+
+  -- ---- from a name or a line number on
+
+  pub set-does : (t : Scanned) (name : Name) → t .token ≡ Named name
+      → ((f : tree.Formula) (u : Scanned) → Positioned text (afterOf here u) → formulaOf line (after line (after line t)) ≡ good f u
+      → Turns text m input space room anyRecords
+      (λ n. doStatement text (tree.assign (variableOf line name) f) n (positionOf text (afterOf here u))) r space′ room′)
+      → D (setAt line t)
+  set-does t name w h = rw w (by-assign D tt line (after line t) (variableOf line name) (λ f u e p. any-told (h f u p e)))
+
+  pub loop-does : (t : Scanned) (name : Name) → t .token ≡ Named name
+      → ((a b c : tree.Formula) (u : Scanned) → Positioned text (afterOf here u)
+      → forAt line (variableOf line name) (after line t) ≡ done (tree.for (variableOf line name) a b c) u
+      → Turns text m input space room (Told (sought.LoopOf (variableOf line name .telling)) (m .depth) found entry)
+      (λ n. doStatement text (tree.for (variableOf line name) a b c) n (positionOf text (afterOf here u))) r space′ room′)
+      → D (loopAt line t)
+  loop-does t name w h = rw w (by-for D tt line (after line t) (variableOf line name) (λ a b c u e p. h a b c u p e))
+
+  pub jump-does : (t : Scanned) (l : LineNumber) → lineOf (t .token) ≡ Names l
+      → ((after : spec.Position) → Turns text m input space room anyRecords (λ n. doStatement text (tree.goto l) n after) r space′ room′)
+      → D (jumpAt line t)
+  jump-does t l e h = rw (on-line (t .token) (λ l. done (tree.goto l) (after line t)) bad e) (λ p. any-told (h (positionOf text (afterOf here (after line t)))))
+
+  pub call-does : (t : Scanned) (l : LineNumber) → lineOf (t .token) ≡ Names l
+      → (Positioned text (afterOf here (after line t)) → Turns text m input space room anyRecords
+      (λ n. doStatement text (tree.gosub l) n (positionOf text (afterOf here (after line t)))) r space′ room′)
+      → D (callAt line t)
+  call-does t l e h = rw (on-line (t .token) (λ l. done (tree.gosub l) (after line t)) bad e) (λ p. any-told (h p))
+
+  pub print-does : (t : Scanned)
+      → ((is : List tree.Item) (u : Scanned) → Positioned text (afterOf here u) → itemsOf line t ≡ items is u
+      → Turns text m input space room anyRecords (λ n. doStatement text (tree.print is) n (positionOf text (afterOf here u))) r space′ room′)
+      → D (printAt line t)
+  print-does t h = by-items D tt line t (λ is u e p. any-told (h is u p e))
+
+  pub if-does : (t : Scanned)
+      → ((c : tree.Formula) (way : Scanned) (p : Part) (u : Scanned) (after : spec.Position) → after .lines ≡ linesAt text (here .0)
+      → formulaOf line t ≡ good c way → partOf line true (way .next .0) ≡ goodPart p u
+      → (isKeyword Else (u .token) ≡ false → Turns text m input space room anyRecords (λ n. doStatement text (tree.ifThen c p) n after) r space′ room′)
+      × (isKeyword Else (u .token) ≡ true → (q : Part) (v : Scanned) → partOf line true (u .next .0) ≡ goodPart q v
+      → Turns text m input space room anyRecords (λ n. doStatement text (tree.ifElse c p q) n after) r space′ room′))
+      → D (ifAt line (formulaOf line t))
+  if-does t h =
+      by-condition D tt line t (λ c way e p u after l g.
+      let both = h c way p u after l e g in
+      (λ i. any-told (both .0 i), λ i q v j. any-told (both .1 i q v j)))
+
+  pub input-does : (t : Scanned)
+      → ((prompt : List ℕ) (v : tree.Variable) (u : Scanned) → Positioned text (afterOf here u) → inputAt line (after line t) ≡ done (tree.lineInput prompt v) u
+      → Turns text m input space room anyRecords (λ n. doStatement text (tree.lineInput prompt v) n (positionOf text (afterOf here u))) r space′ room′)
+      → D (lineAt line t)
+  input-does t h = if-so D tt (isKeyword Input (t .token)) _ (by-input D tt line (after line t) (λ prompt v u e p. any-told (h prompt v u p e)))
+
+-- ---- words, signs and tokens that begin an empty statement, or none
+
+abbrev signTag : Sign → ℕ
+signTag x = tagOf Rattle.words.proofs.symbols.Sign.the-type x
+
+abbrev otherWords : List ℕ
+otherWords = 3 ∷ 4 ∷ 9 ∷ 10 ∷ 13 ∷ 17 ∷ 18 ∷ 19 ∷ 20 ∷ 21 ∷ []
+
+abbrev otherSigns : List ℕ
+otherSigns = 0 ∷ 1 ∷ 2 ∷ 3 ∷ 4 ∷ 6 ∷ 7 ∷ []
+
+abbrev otherTokens : List ℕ
+otherTokens = 0 ∷ 2 ∷ 3 ∷ 4 ∷ 7 ∷ 9 ∷ 11 ∷ []
+
+module _ (P : Begun → Type 0) (none : P bad) (s : List ℕ) (t : Scanned) (empty : P (done tree.empty t)) where
+  by-other-word : (w : Word) → OneOf otherWords (wordTag w) → P (byWord s w t)
+  by-other-word Let h = absurd (miss otherWords 0 tt h)
+  by-other-word Print h = absurd (miss otherWords 1 tt h)
+  by-other-word If h = absurd (miss otherWords 2 tt h)
+  by-other-word Then h = none
+  by-other-word Else h = empty
+  by-other-word Goto h = absurd (miss otherWords 5 tt h)
+  by-other-word Gosub h = absurd (miss otherWords 6 tt h)
+  by-other-word Return h = absurd (miss otherWords 7 tt h)
+  by-other-word For h = absurd (miss otherWords 8 tt h)
+  by-other-word To h = none
+  by-other-word Step h = none
+  by-other-word Next h = absurd (miss otherWords 11 tt h)
+  by-other-word Line h = absurd (miss otherWords 12 tt h)
+  by-other-word Input h = none
+  by-other-word End h = absurd (miss otherWords 14 tt h)
+  by-other-word Stop h = absurd (miss otherWords 15 tt h)
+  by-other-word Rem h = absurd (miss otherWords 16 tt h)
+  by-other-word While h = none
+  by-other-word Wend h = none
+  by-other-word Data h = none
+  by-other-word Read h = none
+  by-other-word Restore h = none
+
+  by-other-mark : (x : Sign) → OneOf otherSigns (signTag x) → P (byMark s x t)
+  by-other-mark Open h = none
+  by-other-mark Close h = none
+  by-other-mark Comma h = none
+  by-other-mark Semicolon h = none
+  by-other-mark Colon h = empty
+  by-other-mark Question h = absurd (miss otherSigns 5 tt h)
+  by-other-mark Equal h = none
+  by-other-mark Minus h = none
+
+  by-other-token : (x : Token) → OneOf otherTokens (tokenTag x) → P (byToken s true x t)
+  by-other-token EndOfLine h = empty
+  by-other-token (Keyword w) h = absurd (miss otherTokens 1 tt h)
+  by-other-token Not h = none
+  by-other-token (Infix op) h = none
+  by-other-token (Call f) h = none
+  by-other-token (Named v) h = absurd (miss otherTokens 5 tt h)
+  by-other-token (Number n) h = absurd (miss otherTokens 6 tt h)
+  by-other-token (Hexadecimal n) h = none
+  by-other-token (LineOnly l) h = absurd (miss otherTokens 8 tt h)
+  by-other-token (Quoted q) h = none
+  by-other-token (Symbol x) h = absurd (miss otherTokens 10 tt h)
+  by-other-token Unreadable h = none
+
+module _ (text line : List ℕ) (here : Place) (m : Machine) (found : Found) (entry : Record) (input space room : List ℕ)
+    (r : Turned) (sound : Sound m input space room) (t : Scanned) (e : r ≡ turnedTo m (next.On (afterOf here t))) where
+  abbrev G : Begun → Type 0
+  G b = Does text line here m found entry input space room r space room b
+
+  go-on : G (done tree.empty t)
+  go-on p = rw e (goes-turn sound _ here t p)
+
+  -- the run goes on there
+  pub other-word-does : (w : Word) → OneOf otherWords (wordTag w) → G (byWord line w t)
+  other-word-does = by-other-word G tt line t go-on
+
+  pub other-mark-does : (x : Sign) → OneOf otherSigns (signTag x) → G (byMark line x t)
+  other-mark-does = by-other-mark G tt line t go-on
+
+  pub other-token-does : (x : Token) → OneOf otherTokens (tokenTag x) → G (byToken line true x t)
+  other-token-does = by-other-token G tt line t go-on
