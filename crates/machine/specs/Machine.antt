@@ -89,7 +89,7 @@ noting m room = record { variables = m .variables; records = m .records; column 
 
 -- ---- printing
 
--- the column after some bytes
+-- the column after some bytes: how many there are since the last byte 10
 unfoldable pub columnAfter : ℕ → List ℕ → ℕ
 columnAfter c [] = c
 columnAfter c (b ∷ s) = columnAfter (cond (eqb b 10) 0 (suc c)) s

@@ -22,8 +22,6 @@ pub struct Machine {
 }
 
 impl Machine {
-    pub const VARIABLES: usize = 64;
-
     pub const RECORDS: usize = 32;
 
     pub const LONGEST_SPACE: usize = 16384;

@@ -2,7 +2,6 @@
 use mathlib.Core.Bool.{Bool, true, false, cond}
 use mathlib.Core.List.{List, [], _∷_, _++_}
 use Prim.Native.Nat.{ℕ, zero, suc, _+_, _-_}
-use Prim.Native.String.{String}
 use lib.Dec.{ltb, eqb}
 use lib.ListN.{length, drop, replicate}
 use Rattle.whole.specs.Digits.{leadingDigits, leadingValue}
@@ -49,6 +48,7 @@ pub data Entered : Type 0 where
   faulty : Error → Entered
   opened : Part → Entered
 
+-- 2 if it doesn't read; else 16 if its parentheses nest more than 8 deep
 abbrev pub judgedLine : LineReading → Entered
 judgedLine doesNotRead = faulty Syntax
 judgedLine (reads p) = cond (ltb 8 (deepestIn (statementsOf p))) (faulty FormulaTooComplex) (opened p)
@@ -106,7 +106,8 @@ abbrev pub ifLoaded : Loaded → Machine → (Unit {0} → Ran) → Ran
 ifLoaded loaded.Fine m go = go tt
 ifLoaded (loaded.Refused refusal p) m go = endsWith (Refused refusal p) m
 
--- a run of a text on an input, with so many bytes of string space, so much room for output, and a budget of steps
+-- a run of a text on an input, with so many bytes of string space, so much room for output, and a budget of steps; a string space over
+-- 16,384 bytes is refused (106) before the text is loaded
 unfoldable pub runOf : List ℕ → List ℕ → ℕ → ℕ → ℕ → Ran
 runOf text input space outputRoom budget =
     cond (ltb 16384 space) (endsWith (Refused SpaceTooLong (place 0)) (fresh input space outputRoom))

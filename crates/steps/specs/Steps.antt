@@ -144,7 +144,7 @@ returned (call p ∷ rs) m = goesOn (withRecords m rs) p
 
 -- ---- FOR and NEXT
 
--- one turn more, or the loop ends; the variable was made by the FOR, so there is room for it
+-- one turn more, or the loop ends; the variable, which its FOR has made, is stored as an assignment stores it
 abbrev pub turned : Machine → Telling → ℕ → ℕ → Position → List Record → Position → Answer → Next
 turned m v limit step back under after (Whole w) =
     storeNumber m v w (λ n.
@@ -176,6 +176,7 @@ abbrev pub filled : Kind → Telling → List ℕ → Machine → (Machine → N
 filled kind.Whole name b m go = fails TypeMismatch m
 filled kind.Text name b m go = storeString m name b go
 
+-- a line of input has at most 254 bytes; it is taken, and then its string asks for room
 abbrev pub lineTaken : Machine → Variable → Taken → (Machine → Next) → Next
 lineTaken m v t go =
     cond (ltb 254 (length (t .bytes))) (fails LineBufferOverflow m)
