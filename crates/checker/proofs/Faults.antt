@@ -18,9 +18,10 @@ use Rattle.loader.specs.declared.lines.LineFound.the-variants.{Is, None}
 use Rattle.loader.proofs.Extents.{linesAt, cut}
 use Rattle.loader.proofs.Found.{digits-inside}
 use Rattle.loader.proofs.Rising.{Rising, rising-lower}
-use Rattle.reader.specs.Trees.{Part}
-use Rattle.reader.specs.Statements.{LineReading, doesNotRead, reads, readLine}
-use Rattle.reader.specs.Lines.{statementsOf, deepestIn, judgedReading}
+use Rattle.grammar.specs.Trees.{Part}
+use Rattle.statements.specs.Statements.{LineReading, doesNotRead, reads, readLine}
+use Rattle.statements.specs.Parts.{statementsOf, deepestIn}
+use Rattle.reader.specs.Lines.{judgedReading}
 use Rattle.reader.specs.declared.lines.Judged.{Judged}
 use Rattle.reader.specs.declared.lines.Judged.the-variants as judged
 use Rattle.checker.specs.Check.{anyMissing, faultIn, bodyOf, firstFault}

@@ -10,15 +10,16 @@ use Rattle.loader.specs.declared.lines.NumberFound.{NumberFound}
 use Rattle.loader.specs.declared.lines.NumberFound.the-variants as number
 use Rattle.loader.specs.declared.lines.LineFound.{LineFound}
 use Rattle.loader.specs.declared.lines.LineFound.the-variants.{Is, None}
-use Rattle.reader.specs.Trees.{Statement, Part}
-use Rattle.reader.specs.Statements.{Begun, bad, done, choice, begunAt, reads, readLine}
-use Rattle.reader.specs.Lines.{namedLine, statementsOf}
-use Rattle.reader.specs.Answers.{begunAnswer, followOf}
+use Rattle.grammar.specs.Trees.{Statement, Part}
+use Rattle.statements.specs.Statements.{Begun, bad, done, choice, begunAt, reads, readLine}
+use Rattle.statements.specs.Parts.{namedLine, statementsOf}
+use Rattle.statements.specs.Answers.{begunAnswer}
+use Rattle.reader.specs.Answers.{followOf}
 use Rattle.reader.specs.declared.lines.Follow.{Follow}
 use Rattle.reader.specs.declared.lines.Follow.the-variants as follow
-use Rattle.reader.specs.declared.statements.StatementRead.{StatementRead}
-use Rattle.reader.specs.declared.tests.NamedLine.{NamedLine}
-use Rattle.reader.specs.declared.tests.NamedLine.the-variants.{Names, NoLine}
+use Rattle.statements.specs.declared.reading.StatementRead.{StatementRead}
+use Rattle.grammar.specs.declared.tests.NamedLine.{NamedLine}
+use Rattle.grammar.specs.declared.tests.NamedLine.the-variants.{Names, NoLine}
 use Rattle.reader.proofs.Visits.{Question, asked, answered, Ahead, line-ahead, Onward, Visit, visit}
 use Rattle.checker.specs.Check.{present, missing, anyMissing}
 use Rattle.checker.specs.Answers.{namesOf}

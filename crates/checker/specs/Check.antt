@@ -14,11 +14,11 @@ use Rattle.loader.specs.Lines.{Line, linesOf, numberOf, has}
 use Rattle.loader.specs.Loading.{loadOf}
 use Rattle.loader.specs.declared.loading.Loaded.{Loaded}
 use Rattle.loader.specs.declared.loading.Loaded.the-variants as loaded
-use Rattle.reader.specs.Trees.{Statement}
-use Rattle.reader.specs.Statements.{LineReading, doesNotRead, reads, readLine}
-use Rattle.reader.specs.Lines.{namedLine, statementsOf, deepestIn, allTyped}
-use Rattle.reader.specs.declared.tests.NamedLine.{NamedLine}
-use Rattle.reader.specs.declared.tests.NamedLine.the-variants.{Names, NoLine}
+use Rattle.grammar.specs.Trees.{Statement}
+use Rattle.statements.specs.Statements.{LineReading, doesNotRead, reads, readLine}
+use Rattle.statements.specs.Parts.{namedLine, statementsOf, deepestIn, allTyped}
+use Rattle.grammar.specs.declared.tests.NamedLine.{NamedLine}
+use Rattle.grammar.specs.declared.tests.NamedLine.the-variants.{Names, NoLine}
 use Rattle.checker.specs.declared.checking.Soundness.{Soundness}
 use Rattle.checker.specs.declared.checking.Soundness.the-variants.{Sound, Fault}
 use Rattle.checker.specs.declared.checking.Verdict.{Verdict}

@@ -14,11 +14,11 @@ use Rattle.words.specs.Tokens.{markOf, wordToken, numberToken, hexFrom, hexToke
 use Rattle.loader.specs.Lines.{linesFrom, numberOf}
 use Rattle.loader.specs.Loading.{isPlain, numbered, judged, loadLines, loadOf}
 use Rattle.loader.specs.declared.refusals.Refusal.the-variants.{NotRising}
-use Rattle.reader.specs.Functions.{formFor, anyFor}
-use Rattle.reader.specs.Formulas.{countOf, formulaAt, climbAt, operandAt, argumentsAt, formulaOf}
-use Rattle.reader.specs.Types.{allMeet, sortOf, sortsOf, depthOf, deepestOf}
-use Rattle.reader.specs.Statements.{itemsAt, printAt, forAt, inputAt, begunAt, partAt, readLine}
-use Rattle.reader.specs.Lines.{deepest, allSome, statementsOf, withinIf, deepestIn, allTyped}
+use Rattle.grammar.specs.Functions.{formFor, anyFor}
+use Rattle.grammar.specs.Formulas.{countOf, formulaAt, climbAt, operandAt, argumentsAt, formulaOf}
+use Rattle.expressions.specs.Types.{allMeet, sortOf, sortsOf, depthOf, deepestOf}
+use Rattle.statements.specs.Statements.{itemsAt, printAt, forAt, inputAt, begunAt, partAt, readLine}
+use Rattle.statements.specs.Parts.{deepest, allSome, statementsOf, withinIf, deepestIn, allTyped}
 use Rattle.checker.specs.Check.{present, anyMissing, firstFault, checkOf}
 use Rattle.checker.specs.declared.checking.Verdict.{Verdict}
 use Rattle.checker.specs.declared.checking.Verdict.the-variants.{Passed, Refused, Faulty}

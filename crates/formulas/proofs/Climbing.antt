@@ -13,42 +13,29 @@ use Rattle.words.specs.declared.places.Place.{Place}
 use Rattle.words.specs.declared.symbols.Scanned.{Scanned}
 use Rattle.words.proofs.Choices.{by-test}
 use Rattle.space.proofs.Parts.{front-less}
-use Rattle.reader.specs.Trees.{Formula, twoSided}
-use Rattle.reader.specs.Formulas.{levelOf, tightOperator, good, after, enough}
-use Rattle.reader.specs.Answers.{weight, formulaIn, climbOf, operandOf}
-use Rattle.reader.specs.declared.tests.OperatorFound.{OperatorFound}
-use Rattle.reader.specs.declared.tests.OperatorFound.the-variants.{Is, None}
-use Rattle.reader.proofs.Weights.{operator-reads, after-lighter}
-use Rattle.reader.proofs.Grammar.{formula-lightens, operand-lightens}
-use Rattle.reader.proofs.Views.{made, formula-view, climb-stops, climb-goes}
-use Rattle.formulas.specs.Strings.{Room, Outcome, fault}
-use Rattle.formulas.specs.Variables.{Variables}
-use Rattle.formulas.specs.Values.{valueOf}
-use Rattle.formulas.specs.Memory.{
-  textLength,
-  takesLeft,
-  turnBy,
-  turnAs,
-  Looked,
-  Held,
-  Agrees,
-  GoesOn,
-  SidesMet,
-  Framed,
-  Scans,
-  Reads,
-  OperandReads,
-  Ready,
-  Evaluated,
-}
-use Rattle.formulas.specs.declared.operators.Turn.{Turn}
-use Rattle.formulas.specs.declared.operators.Turn.the-variants as turn
-use Rattle.formulas.specs.declared.values.Worked.{Worked}
-use Rattle.formulas.specs.declared.values.Worked.the-variants as worked
-use Rattle.formulas.proofs.Agreements.{sides-agree, sides-refused}
-use Rattle.formulas.proofs.Fitting.{framed-less, Stands, sides-stand}
+use Rattle.grammar.specs.Trees.{Formula, twoSided}
+use Rattle.grammar.specs.Formulas.{levelOf, tightOperator, good, after, enough}
+use Rattle.expressions.specs.Answers.{weight, formulaIn, climbOf, operandOf}
+use Rattle.grammar.specs.declared.tests.OperatorFound.{OperatorFound}
+use Rattle.grammar.specs.declared.tests.OperatorFound.the-variants.{Is, None}
+use Rattle.expressions.proofs.Weights.{operator-reads, after-lighter}
+use Rattle.expressions.proofs.Grammar.{formula-lightens, operand-lightens}
+use Rattle.expressions.proofs.Views.{made, formula-view, climb-stops, climb-goes}
+use Rattle.variables.specs.Strings.{Room, Outcome, fault}
+use Rattle.variables.specs.Variables.{Variables}
+use Rattle.operators.specs.Values.{valueOf}
+use Rattle.variables.specs.Memory.{textLength, Looked, Held, Agrees, GoesOn, Framed}
+use Rattle.operators.specs.Memory.{takesLeft, turnBy, turnAs, SidesMet}
+use Rattle.formulas.specs.Memory.{Scans, Reads, OperandReads, Ready, Evaluated}
+use Rattle.operators.specs.declared.operators.Turn.{Turn}
+use Rattle.operators.specs.declared.operators.Turn.the-variants as turn
+use Rattle.variables.specs.declared.values.Worked.{Worked}
+use Rattle.variables.specs.declared.values.Worked.the-variants as worked
+use Rattle.operators.proofs.Sides.{sides-agree, sides-refused}
+use Rattle.variables.proofs.Agreements.{framed-less}
+use Rattle.operators.proofs.Fitting.{Stands, sides-stand}
 use Rattle.formulas.proofs.Faults.{climb-fault}
-use Rattle.formulas.proofs.Looking.{looked-kept}
+use Rattle.variables.proofs.Looking.{looked-kept}
 
 -- ---- what follows weighs less
 

@@ -10,31 +10,17 @@ use Rattle.words.specs.declared.symbols.Function.{Function}
 use Rattle.words.specs.declared.symbols.Scanned.{Scanned}
 use Rattle.words.specs.declared.symbols.Sign.the-variants.{Close, Comma}
 use Rattle.words.proofs.Choices.{by-test}
-use Rattle.reader.specs.Tests.{isSymbol}
-use Rattle.reader.specs.Trees.{Formula, twoSided, call, Arguments, also}
-use Rattle.reader.specs.Functions.{takes}
-use Rattle.reader.specs.Formulas.{
-  levelOf,
-  tightOperator,
-  Reading,
-  bad,
-  good,
-  mapped,
-  after,
-  countOf,
-  called,
-  enough,
-  formulaAt,
-  climbAt,
-  argumentsAt,
-}
-use Rattle.reader.specs.Answers.{climbOf, argumentsOf}
-use Rattle.reader.specs.declared.functions.Want.{Want}
-use Rattle.reader.proofs.Grammar.{by-found}
-use Rattle.reader.proofs.Views.{list-view}
-use Rattle.formulas.specs.Strings.{Room, Outcome, fault}
-use Rattle.formulas.specs.Variables.{Variables}
-use Rattle.formulas.specs.Values.{valueOf, valuesOf, stopped}
+use Rattle.grammar.specs.Tests.{isSymbol}
+use Rattle.grammar.specs.Trees.{Formula, twoSided, call, Arguments, also}
+use Rattle.grammar.specs.Functions.{takes}
+use Rattle.grammar.specs.Formulas.{levelOf, tightOperator, Reading, bad, good, mapped, after, countOf, called, enough, formulaAt, climbAt, argumentsAt}
+use Rattle.expressions.specs.Answers.{climbOf, argumentsOf}
+use Rattle.grammar.specs.declared.functions.Want.{Want}
+use Rattle.expressions.proofs.Grammar.{by-found}
+use Rattle.expressions.proofs.Views.{list-view}
+use Rattle.variables.specs.Strings.{Room, Outcome, fault}
+use Rattle.variables.specs.Variables.{Variables}
+use Rattle.operators.specs.Values.{valueOf, valuesOf, stopped}
 
 -- ---- a left side
 

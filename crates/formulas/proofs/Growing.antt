@@ -5,15 +5,15 @@ use Prim.Native.Nat.{ℕ, suc, _+_, _≤_, _<_}
 use native.Mathlib.Omega.{arith}
 use lib.ListN.{take, drop}
 use Rattle.space.proofs.Parts.{part-below}
-use Rattle.reader.specs.declared.functions.Want.{Want}
-use Rattle.reader.specs.declared.functions.Want.the-variants as want
-use Rattle.formulas.specs.Strings.{text, value}
-use Rattle.formulas.specs.Values.{meets}
-use Rattle.formulas.specs.Memory.{argumentLength, argumentIn, countOf, givenLength, valuesIn, withArgument, meetsWant}
-use Rattle.formulas.specs.declared.arguments.Argument.{Argument}
-use Rattle.formulas.specs.declared.arguments.Argument.the-variants as argument
-use Rattle.formulas.specs.declared.arguments.Given.{Given}
-use Rattle.formulas.specs.declared.arguments.Given.the-variants as given
+use Rattle.grammar.specs.declared.functions.Want.{Want}
+use Rattle.grammar.specs.declared.functions.Want.the-variants as want
+use Rattle.variables.specs.Strings.{text, value}
+use Rattle.operators.specs.Values.{meets}
+use Rattle.functions.specs.Memory.{argumentLength, argumentIn, countOf, givenLength, valuesIn, withArgument, meetsWant}
+use Rattle.functions.specs.declared.arguments.Argument.{Argument}
+use Rattle.functions.specs.declared.arguments.Argument.the-variants as argument
+use Rattle.functions.specs.declared.arguments.Given.{Given}
+use Rattle.functions.specs.declared.arguments.Given.the-variants as given
 
 -- ---- one argument
 

@@ -18,39 +18,37 @@ use Rattle.words.specs.declared.symbols.Sign.{Sign}
 use Rattle.words.specs.declared.symbols.Sign.the-variants.{Open, Minus}
 use Rattle.words.specs.declared.symbols.Token.the-variants as token
 use Rattle.words.proofs.Ends.{scanned-ends}
-use Rattle.reader.specs.Trees.{Formula, number, variable, text, minus, complement, none}
-use Rattle.reader.specs.Formulas.{notLevel, tightest, good, after, quotedBytes}
-use Rattle.reader.specs.Answers.{weight, formulaIn, operandOf, argumentsOf}
-use Rattle.reader.specs.declared.expressions.FormulaRead.the-variants.{Bad}
-use Rattle.reader.proofs.Weights.{weight-enough, symbol-reads, after-lighter}
-use Rattle.reader.proofs.Answering.{not-read}
-use Rattle.reader.proofs.Steps.{OperandMet}
-use Rattle.reader.proofs.Fuel.{operand-is}
-use Rattle.reader.proofs.Views.{opened-view, negated-view, complemented-view, call-view}
-use Rattle.formulas.specs.Strings as strings
-use Rattle.formulas.specs.Strings.{Room, Outcome, value, fault, make, letAllGo}
-use Rattle.formulas.specs.Variables.{Variables}
-use Rattle.formulas.specs.Functions.{answered}
-use Rattle.formulas.specs.Values.{wholeThen, variableValue, valueOf}
-use Rattle.formulas.specs.Memory.{
+use Rattle.grammar.specs.Trees.{Formula, number, variable, text, minus, complement, none}
+use Rattle.grammar.specs.Formulas.{notLevel, tightest, good, after, quotedBytes}
+use Rattle.expressions.specs.Answers.{weight, formulaIn, operandOf, argumentsOf}
+use Rattle.expressions.specs.declared.readers.FormulaRead.the-variants.{Bad}
+use Rattle.expressions.proofs.Weights.{weight-enough, symbol-reads, after-lighter}
+use Rattle.expressions.proofs.Answering.{not-read}
+use Rattle.expressions.proofs.Steps.{OperandMet}
+use Rattle.expressions.proofs.Fuel.{operand-is}
+use Rattle.expressions.proofs.Views.{opened-view, negated-view, complemented-view, call-view}
+use Rattle.variables.specs.Strings as strings
+use Rattle.variables.specs.Strings.{Room, Outcome, value, fault, make, letAllGo}
+use Rattle.variables.specs.Variables.{Variables}
+use Rattle.functions.specs.Functions.{answered}
+use Rattle.operators.specs.Values.{wholeThen, variableValue, valueOf}
+use Rattle.variables.specs.Memory.{
   textLength,
   answeredAs,
-  wholeAs,
-  closedAs,
   Looked,
   Agrees,
   GoesOn,
   Made,
-  Scans,
-  Reads,
-  OperandReads,
-  Evaluated,
+  namesIn,
+  numbersIn,
+  stringsIn,
 }
-use Rattle.formulas.specs.declared.values.Worked.{Worked}
-use Rattle.formulas.specs.declared.values.Worked.the-variants as worked
-use Rattle.formulas.proofs.Agreements.{answer-gives}
-use Rattle.formulas.proofs.Fitting.{framed-less}
-use Rattle.formulas.proofs.Looking.{made-evaluated}
+use Rattle.formulas.specs.Memory.{wholeAs, closedAs, Scans, Reads, OperandReads, Evaluated}
+use Rattle.variables.specs.declared.values.Worked.{Worked}
+use Rattle.variables.specs.declared.values.Worked.the-variants as worked
+use Rattle.operators.proofs.Sides.{answer-gives}
+use Rattle.variables.proofs.Agreements.{framed-less}
+use Rattle.variables.proofs.Looking.{looked-self}
 use Rattle.formulas.proofs.Making.{number-made}
 
 -- ---- what does not read is no operand
@@ -161,6 +159,14 @@ module _ (line : List ℕ) (level : ℕ) (t : Scanned) {f : Formula} {u : Scanne
     call-asks = (record { from = a .next; is = d }, record { of = f; next = u; is = call-is })
 
 -- ---- what comes of each token
+
+-- an answer made for all variables that the tables hold is the formula's
+made-evaluated : {names words labels lengths : List ℕ} {f : Formula} {u : Scanned} {before : List ℕ} {used : ℕ} {r : Worked} {now : List ℕ}
+    → ((vars : Variables) → Looked vars names words labels lengths before → Made before used used (valueOf f vars) u r now)
+    → Evaluated names words labels lengths f u before used r now
+made-evaluated {names} {words} {labels} {lengths} {before = before} h =
+    let m = h (record { numbers = numbersIn (namesIn names) words; strings = stringsIn (namesIn labels) lengths before }) looked-self in
+    record { framed = m .framed; agrees = λ vars l. h vars l .agrees; goes = m .goes }
 
 done-as : {names words labels lengths : List ℕ} {f g : Formula} {u v : Scanned} {before : List ℕ} {used : ℕ} {r : Worked} {now : List ℕ}
     → f ≡ g → u ≡ v → Evaluated names words labels lengths g v before used r now → Evaluated names words labels lengths f u before used r now

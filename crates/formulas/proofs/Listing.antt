@@ -15,22 +15,22 @@ use Rattle.words.specs.declared.symbols.Function.the-variants.{Instr}
 use Rattle.words.specs.declared.symbols.Scanned.{Scanned}
 use Rattle.words.specs.declared.symbols.Sign.the-variants.{Comma}
 use Rattle.space.proofs.Parts.{front-less, part-below}
-use Rattle.reader.specs.Trees.{Formula, call, Arguments, none, also}
-use Rattle.reader.specs.Functions.{takes, wants}
-use Rattle.reader.specs.Formulas as formulas
-use Rattle.reader.specs.Formulas.{good}
-use Rattle.reader.specs.Answers.{weight, formulaIn, argumentsOf}
-use Rattle.reader.specs.declared.functions.Want.{Want}
-use Rattle.reader.proofs.Sorting.{few}
-use Rattle.reader.proofs.Weights.{symbol-reads, after-lighter}
-use Rattle.reader.proofs.Fuel.{arguments-unrolled}
-use Rattle.reader.proofs.Views.{Listed, list-view, list-ends}
-use Rattle.formulas.specs.Strings.{Room}
-use Rattle.formulas.specs.Variables.{Variables}
-use Rattle.formulas.specs.Functions.{called}
-use Rattle.formulas.specs.Values as values
-use Rattle.formulas.specs.Values.{stopped, wantAt, valueOf, valuesOf}
-use Rattle.formulas.specs.Memory.{
+use Rattle.grammar.specs.Trees.{Formula, call, Arguments, none, also}
+use Rattle.grammar.specs.Functions.{takes, wants}
+use Rattle.grammar.specs.Formulas as formulas
+use Rattle.grammar.specs.Formulas.{good}
+use Rattle.expressions.specs.Answers.{weight, formulaIn, argumentsOf}
+use Rattle.grammar.specs.declared.functions.Want.{Want}
+use Rattle.expressions.proofs.Sorting.{few}
+use Rattle.expressions.proofs.Weights.{symbol-reads, after-lighter}
+use Rattle.expressions.proofs.Fuel.{arguments-unrolled}
+use Rattle.expressions.proofs.Views.{Listed, list-view, list-ends}
+use Rattle.variables.specs.Strings.{Room}
+use Rattle.variables.specs.Variables.{Variables}
+use Rattle.functions.specs.Functions.{called}
+use Rattle.operators.specs.Values as values
+use Rattle.operators.specs.Values.{stopped, wantAt, valueOf, valuesOf}
+use Rattle.functions.specs.Memory.{
   argumentLength,
   argumentIn,
   countOf,
@@ -38,25 +38,19 @@ use Rattle.formulas.specs.Memory.{
   valuesIn,
   wantBy,
   takenAs,
-  Looked,
-  Held,
-  Agrees,
-  Made,
   Placed,
-  Scans,
-  Reads,
-  Ready,
-  Evaluated,
 }
-use Rattle.formulas.specs.declared.arguments.Given.{Given}
-use Rattle.formulas.specs.declared.arguments.Given.the-variants as given
-use Rattle.formulas.specs.declared.arguments.Taken.{Taken}
-use Rattle.formulas.specs.declared.arguments.Taken.the-variants as taken
-use Rattle.formulas.specs.declared.values.Worked.{Worked}
-use Rattle.formulas.specs.declared.values.Worked.the-variants as worked
+use Rattle.variables.specs.Memory.{Looked, Held, Agrees, Made}
+use Rattle.formulas.specs.Memory.{Scans, Reads, Ready, Evaluated}
+use Rattle.functions.specs.declared.arguments.Given.{Given}
+use Rattle.functions.specs.declared.arguments.Given.the-variants as given
+use Rattle.functions.specs.declared.arguments.Taken.{Taken}
+use Rattle.functions.specs.declared.arguments.Taken.the-variants as taken
+use Rattle.variables.specs.declared.values.Worked.{Worked}
+use Rattle.variables.specs.declared.values.Worked.the-variants as worked
 use Rattle.formulas.proofs.Faults.{arguments-fault, arguments-call}
 use Rattle.formulas.proofs.Growing.{values-kept, more-count, more-length, more-values}
-use Rattle.formulas.proofs.Looking.{looked-kept}
+use Rattle.variables.proofs.Looking.{looked-kept}
 use Rattle.formulas.proofs.Taking.{want-told, argumentOf, worth, Taking, taken-fault, taken-all, taken-more, refused, met-next}
 use Rattle.formulas.proofs.Climbing.{formula-less}
 

@@ -4,25 +4,22 @@ use mathlib.Core.List.{List, []}
 use mathlib.Core.Logic.{_⊎_, ⊎-elim}
 use Prim.Native.Nat.{ℕ, _+_, _≤_, _<_, min}
 use native.Mathlib.Omega.{arith}
-use lib.ListN.{length, take, drop, getD, length-drop}
-use lib.Seq.{length-take-le}
+use lib.ListN.{length, take, drop, getD}
 use denote.Enum.Declared
 use Rattle.whole.specs.declared.errors.Error.the-variants.{OutOfStringSpace}
 use Rattle.space.specs.Moves.{copied, moved}
 use Rattle.space.proofs.Frames.{copied-bytes, moved-bytes}
 use Rattle.space.proofs.Kept.{Kept, copied-kept, moved-kept}
 use Rattle.words.specs.declared.symbols.Scanned.{Scanned}
-use Rattle.formulas.specs.Strings.{value, whole, make}
-use Rattle.formulas.specs.Memory.{sumOf, bytesAt, Made, wholeAs, notWhole}
-use Rattle.formulas.specs.declared.tables.Slot.the-variants as slot
-use Rattle.formulas.specs.declared.values.Worked.{Worked}
-use Rattle.formulas.specs.declared.values.Worked.the-variants as worked
-use Rattle.formulas.proofs.Agreements.{make-agrees, make-refused}
-use Rattle.formulas.proofs.Lookups.{sum-within}
-
--- a part of a list is as long as was asked
-pub part-long : (s : List ℕ) (at n : ℕ) → at + n ≤ length s → length (take n (drop at s)) ≡ n
-part-long s at n h = let d = length-drop at s in length-take-le n (drop at s) (omega arith)
+use Rattle.variables.specs.Strings.{value, whole, make}
+use Rattle.variables.specs.Memory.{sumOf, bytesAt, Made}
+use Rattle.formulas.specs.Memory.{wholeAs, notWhole}
+use Rattle.variables.specs.declared.tables.Slot.the-variants as slot
+use Rattle.variables.specs.declared.values.Worked.{Worked}
+use Rattle.variables.specs.declared.values.Worked.the-variants as worked
+use Rattle.variables.proofs.Bytewise.{part-length}
+use Rattle.variables.proofs.Agreements.{make-agrees, make-refused}
+use Rattle.variables.proofs.Lookups.{sum-within}
 
 module _ (before : List ℕ) (used : ℕ) (t : Scanned) where
   -- a number leaves the space as it is
@@ -73,7 +70,7 @@ module _ (lengths before : List ℕ) (used : ℕ) (t : Scanned) (i : ℕ) {len :
   lies-below = let w = sum-within lengths i in omega arith
 
   string-long : length (bytesAt (slot.At i) lengths before) ≡ len
-  string-long = let l = lies-below in rw (← e) (part-long before (sumOf (take i lengths)) len (omega arith))
+  string-long = let l = lies-below in rw (← e) (part-length before (sumOf (take i lengths)) len (omega arith))
 
   pub variable-refused : length before < used + len
       → Made before used used (make (bytesAt (slot.At i) lengths before)) t (worked.Fault OutOfStringSpace) before
@@ -92,7 +89,7 @@ module _ (lengths before : List ℕ) (used : ℕ) (t : Scanned) (i : ℕ) {len :
 -- ---- where a whole number is wanted
 
 abbrev tagged : Worked → ℕ
-tagged x = denote.Enum.Declared.tagOf Rattle.formulas.proofs.values.Worked.the-type x
+tagged x = denote.Enum.Declared.tagOf Rattle.variables.proofs.values.Worked.the-type x
 
 -- an answer that is none, as the code tells it
 pub no-whole : (x : Worked) (go : ℕ → Scanned → Worked) → (tagged x ≡ 1) ⊎ (tagged x ≡ 2) → notWhole x ≡ wholeAs x go

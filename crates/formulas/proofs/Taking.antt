@@ -30,14 +30,14 @@ use Rattle.words.specs.declared.symbols.Function.the-variants.{
 use Rattle.words.specs.declared.symbols.Scanned.{Scanned}
 use Rattle.words.specs.declared.symbols.Sign.the-variants.{Comma}
 use Rattle.words.proofs.Choices.{by-test}
-use Rattle.reader.specs.Tests.{isSymbol}
-use Rattle.reader.specs.Functions.{takes, wants}
-use Rattle.reader.specs.declared.functions.Want.{Want}
-use Rattle.formulas.specs.Strings.{Value, whole, text, Room, Outcome, value, fault}
-use Rattle.formulas.specs.Values as values
-use Rattle.formulas.specs.Values.{stopped, wantAt, tested}
-use Rattle.formulas.specs.Memory.{
-  textLength,
+use Rattle.grammar.specs.Tests.{isSymbol}
+use Rattle.grammar.specs.Functions.{takes, wants}
+use Rattle.grammar.specs.declared.functions.Want.{Want}
+use Rattle.variables.specs.Strings.{Value, whole, text, Room, Outcome, value, fault}
+use Rattle.operators.specs.Values as values
+use Rattle.operators.specs.Values.{stopped, wantAt, tested}
+use Rattle.variables.specs.Memory.{textLength, Held, Agrees, GoesOn}
+use Rattle.functions.specs.Memory.{
   argumentLength,
   argumentIn,
   countOf,
@@ -46,17 +46,14 @@ use Rattle.formulas.specs.Memory.{
   meetsWant,
   takenBefore,
   takenAs,
-  Held,
-  Agrees,
-  GoesOn,
 }
-use Rattle.formulas.specs.declared.arguments.Argument.{Argument}
-use Rattle.formulas.specs.declared.arguments.Argument.the-variants as argument
-use Rattle.formulas.specs.declared.arguments.Given.{Given}
-use Rattle.formulas.specs.declared.arguments.Taken.{Taken}
-use Rattle.formulas.specs.declared.arguments.Taken.the-variants as taken
-use Rattle.formulas.specs.declared.values.Worked.{Worked}
-use Rattle.formulas.specs.declared.values.Worked.the-variants as worked
+use Rattle.functions.specs.declared.arguments.Argument.{Argument}
+use Rattle.functions.specs.declared.arguments.Argument.the-variants as argument
+use Rattle.functions.specs.declared.arguments.Given.{Given}
+use Rattle.functions.specs.declared.arguments.Taken.{Taken}
+use Rattle.functions.specs.declared.arguments.Taken.the-variants as taken
+use Rattle.variables.specs.declared.values.Worked.{Worked}
+use Rattle.variables.specs.declared.values.Worked.the-variants as worked
 use Rattle.formulas.proofs.Growing.{meets-same}
 use Rattle.formulas.proofs.Wants.{want-by}
 

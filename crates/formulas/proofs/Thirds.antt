@@ -9,15 +9,15 @@ use Rattle.words.specs.declared.symbols.Function.the-variants.{Instr}
 use Rattle.words.specs.declared.symbols.Scanned.{Scanned}
 use Rattle.words.specs.declared.symbols.Sign.the-variants.{Comma}
 use Rattle.words.proofs.Choices.{by-test}
-use Rattle.reader.specs.Tests.{isSymbol}
-use Rattle.reader.specs.Trees.{Formula, call, Arguments, none, also}
-use Rattle.reader.specs.Functions.{anyFor, takes}
-use Rattle.reader.specs.Formulas.{good, after, countOf, formulaOf}
-use Rattle.reader.specs.Answers.{formulaIn, argumentsOf, answerOf}
-use Rattle.reader.specs.declared.expressions.FormulaRead.the-variants as formula
-use Rattle.reader.specs.declared.sorts.Sort.{Sort}
-use Rattle.reader.proofs.Fuel.{formula-level}
-use Rattle.reader.proofs.Views.{list-view, list-goes, list-ends}
+use Rattle.grammar.specs.Tests.{isSymbol}
+use Rattle.grammar.specs.Trees.{Formula, call, Arguments, none, also}
+use Rattle.grammar.specs.Functions.{anyFor, takes}
+use Rattle.grammar.specs.Formulas.{good, after, countOf, formulaOf}
+use Rattle.expressions.specs.Answers.{formulaIn, argumentsOf, answerOf}
+use Rattle.expressions.specs.declared.readers.FormulaRead.the-variants as formula
+use Rattle.expressions.specs.declared.sorts.Sort.{Sort}
+use Rattle.expressions.proofs.Fuel.{formula-level}
+use Rattle.expressions.proofs.Views.{list-view, list-goes, list-ends}
 use Rattle.formulas.proofs.Faults.{arguments-call}
 use Rattle.formulas.proofs.Wants.{if-either}
 

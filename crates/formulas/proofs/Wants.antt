@@ -26,9 +26,9 @@ use Rattle.words.specs.declared.symbols.Function.the-variants.{
   Sgn,
   Fre,
 }
-use Rattle.reader.specs.Functions.{formFor, anyFor, takes, wants}
-use Rattle.formulas.specs.Values.{wantAt}
-use Rattle.formulas.specs.Memory.{wantBy}
+use Rattle.grammar.specs.Functions.{formFor, anyFor, takes, wants}
+use Rattle.operators.specs.Values.{wantAt}
+use Rattle.functions.specs.Memory.{wantBy}
 
 -- ---- what holds of each place of one argument, of two, and of two or three
 

@@ -8,14 +8,7 @@ use Rattle.whole.specs.Digits.{isDigit, valueFrom, signedValue}
 use Rattle.whole.specs.Whole.{num, fit}
 use Rattle.whole.specs.Texts.{places, trimmed, digitByte, numeral, shown}
 use Rattle.whole.specs.declared.errors.Error.{Error}
-use Rattle.whole.specs.declared.errors.Error.the-variants.{
-  Syntax,
-  IllegalFunctionCall,
-  Overflow,
-  TypeMismatch,
-  OutOfStringSpace,
-  StringTooLong,
-}
+use Rattle.whole.specs.declared.errors.Error.the-variants.{Syntax, IllegalFunctionCall, Overflow, TypeMismatch, OutOfStringSpace, StringTooLong}
 use Rattle.words.specs.Spellings.{sameBytes, meaning}
 use Rattle.words.specs.Classes.{capitalOf, isLetter, isHex, hexDigit, signs, pairs, classOf}
 use Rattle.words.specs.Vocabulary.{reserved}
@@ -31,19 +24,9 @@ use Rattle.words.specs.Tokens.{
   signToken,
   tokenAt,
 }
-use Rattle.reader.specs.Functions.{formFor, anyFor}
-use Rattle.reader.specs.Formulas.{
-  Reading,
-  bad,
-  good,
-  countOf,
-  formulaAt,
-  climbAt,
-  operandAt,
-  argumentsAt,
-  formulaOf,
-}
-use Rattle.formulas.specs.Strings.{
+use Rattle.grammar.specs.Functions.{formFor, anyFor}
+use Rattle.grammar.specs.Formulas.{Reading, bad, good, countOf, formulaAt, climbAt, operandAt, argumentsAt, formulaOf}
+use Rattle.variables.specs.Strings.{
   Value,
   whole,
   text,
@@ -56,9 +39,9 @@ use Rattle.formulas.specs.Strings.{
   letAllGo,
   produced,
 }
-use Rattle.formulas.specs.Variables.{StringVariable, Variables, wordOf, bytesOf, stringBytes}
-use Rattle.formulas.specs.Functions.{argument, startsWith, found, placeOf}
-use Rattle.formulas.specs.Values.{isBefore, wantAt, valueOf, valuesOf}
+use Rattle.variables.specs.Variables.{StringVariable, Variables, wordOf, bytesOf, stringBytes}
+use Rattle.functions.specs.Functions.{argument, startsWith, found, placeOf}
+use Rattle.operators.specs.Values.{isBefore, wantAt, valueOf, valuesOf}
 
 -- A$ is "LOT ", of 4 bytes, and B$ is "B"
 unfoldable pub given : Variables

@@ -3,27 +3,32 @@
 // the number variables, `labels` and `lengths` the string variables.
 ghost use mathlib.Core.Path.{_≡_};
 ghost use Prim.Native.Nat.{ℕ};
-ghost use Rattle.reader.specs.Trees.{Formula, none};
-ghost use Rattle.reader.specs.Formulas.{good, formulaOf};
-ghost use Rattle.reader.specs.Answers.{formulaIn, operandOf, argumentsOf};
+ghost use Rattle.grammar.specs.Trees.{Formula, none, Arguments, call};
+ghost use Rattle.grammar.specs.Formulas.{good, formulaOf};
+ghost use Rattle.expressions.specs.Answers.{formulaIn, operandOf, argumentsOf};
 ghost use Rattle.formulas.specs.Memory.{Scans, Reads, OperandReads, Ready, Evaluated};
-use crate::arguments::Given;
-use crate::arguments::Taken;
-use crate::arguments::given_length;
-use crate::arguments::has_third;
-use crate::arguments::take_argument;
-use crate::functions::called;
+ghost use lib.Dec.{eqb};
+ghost use Rattle.words.specs.declared.symbols.Function.the-variants.{Instr};
+ghost use Rattle.grammar.specs.Formulas as formulas;
 use crate::operands::closed;
 use crate::operands::complemented;
 use crate::operands::named;
 use crate::operands::negated;
 use crate::operands::quoted;
-use crate::operators::Turn;
-use crate::operators::joined;
-use crate::operators::turn_of;
-use crate::values::Worked;
-use crate::values::text_length;
-use reader::level_of;
+use expressions::FormulaRead;
+use expressions::formula_at;
+use functions::Given;
+use functions::Taken;
+use functions::called;
+use functions::given_length;
+use functions::take_argument;
+use grammar::is_symbol;
+use grammar::level_of;
+use operators::Turn;
+use operators::joined;
+use operators::turn_of;
+use variables::Worked;
+use variables::text_length;
 use whole::Error;
 use words::Function;
 use words::Scanned;
@@ -168,6 +173,34 @@ fn operand(
         }
         _ => Worked::Fault(Error::Syntax),
     }
+}
+
+// Whether a third argument follows the first two.
+fn has_third(line: &[u8], ahead: Scanned) -> bool
+    ensures { λ r. ⌜
+        ((a : Arguments) (u : Scanned) → argumentsOf (now (line .entry)) Instr none (formulaIn (now (line .entry)) 0 ahead) ≡ good (call Instr a) u
+        → r ≡ eqb (formulas.countOf a) 3)
+        ⌝ }
+{
+    let FormulaRead::Good {
+        ahead: comma,
+        sort: _,
+        deepest: _,
+    } = formula_at(line, ahead)
+    else {
+        return false;
+    };
+    let second = token_at(line, comma.next);
+    let FormulaRead::Good {
+        ahead: follow,
+        sort: _,
+        deepest: _,
+    } = formula_at(line, second)
+    else {
+        return false;
+    };
+    let token = follow.token;
+    is_symbol(Sign::Comma, token)
 }
 
 // A function from its first argument on: each is tested as soon as it is worked out.

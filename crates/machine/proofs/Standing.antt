@@ -28,10 +28,10 @@ use Rattle.words.specs.declared.symbols.Token.the-variants.{
   Symbol,
   Unreadable,
 }
-use Rattle.reader.specs.Trees.{Part}
-use Rattle.reader.specs.Statements.{bad, byToken, begunAt, badPart, goodPart}
-use Rattle.reader.specs.Answers.{partOf}
-use Rattle.reader.proofs.Parts.{partBy, unrolled}
+use Rattle.grammar.specs.Trees.{Part}
+use Rattle.statements.specs.Statements.{bad, byToken, begunAt, badPart, goodPart}
+use Rattle.statements.specs.Answers.{partOf}
+use Rattle.statements.proofs.Parts.{partBy, unrolled}
 use Rattle.loader.specs.Lines.{Line, linesOf, numberOf, located, firstOf, lineAt, has, fromNumber, findLine}
 use Rattle.loader.specs.Loading.{loadOf}
 use Rattle.loader.specs.declared.lines.NumberFound.{NumberFound}

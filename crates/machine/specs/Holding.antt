@@ -11,11 +11,11 @@ use Rattle.words.specs.Places.{place}
 use Rattle.words.specs.declared.names.Telling.{Telling}
 use Rattle.words.specs.declared.symbols.Scanned.{Scanned}
 use Rattle.loader.specs.Lines.{Line, linesFrom, linesOf}
-use Rattle.reader.specs.Trees.{Part}
-use Rattle.reader.specs.Statements.{PartReading, badPart, goodPart}
-use Rattle.reader.specs.Answers.{partOf}
-use Rattle.formulas.specs.Variables.{Variables}
-use Rattle.formulas.specs.Memory.{sumOf, emptyTables, numbersHeld, stringsHeld, TidyNumbers, TidyStrings}
+use Rattle.grammar.specs.Trees.{Part}
+use Rattle.statements.specs.Statements.{PartReading, badPart, goodPart}
+use Rattle.statements.specs.Answers.{partOf}
+use Rattle.variables.specs.Variables.{Variables}
+use Rattle.variables.specs.Memory.{sumOf, emptyTables, numbersHeld, stringsHeld, TidyNumbers, TidyStrings}
 use Rattle.machine.specs.Machine as spec
 use Rattle.machine.specs.Machine.{Rest, nothing, part, loop, call, columnAfter}
 use Rattle.machine.specs.declared.machine.Machine.{Machine}

@@ -9,9 +9,9 @@ use lib.ListN.{length, replicate}
 use Rattle.whole.specs.Whole.{num}
 use Rattle.words.specs.declared.names.Telling.{Telling}
 use Rattle.loader.specs.Lines.{Line}
-use Rattle.reader.specs.Trees.{Part}
-use Rattle.formulas.specs.Strings.{Room}
-use Rattle.formulas.specs.Variables.{Variables, stringBytes}
+use Rattle.grammar.specs.Trees.{Part}
+use Rattle.variables.specs.Strings.{Room}
+use Rattle.variables.specs.Variables.{Variables, stringBytes}
 
 -- what of a part is still to be done
 pub data Rest : Type 0 where

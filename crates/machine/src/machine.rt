@@ -1,7 +1,7 @@
 // The machine: the variables' tables, and counts of what was printed, taken and done.
 ghost use mathlib.Core.Path.{_≡_};
 ghost use Rattle.machine.specs.Holding.{freshMachine};
-use formulas::Tables;
+use variables::Tables;
 
 // The bytes since the last byte 10, and how many bytes were written.
 pub struct Printer {

@@ -7,20 +7,13 @@ use native.Mathlib.Omega.{arith}
 use borrow.Author.Tests.{lt-ltb, le-ltb, ltb-true, ltb-false}
 use lib.Dec.{ltb}
 use Rattle.words.proofs.Choices.{by-test}
-use Rattle.reader.specs.Trees.{Formula, Statement, ifThen, ifElse, Part, last, more}
-use Rattle.reader.specs.Types.{sortOf, depthOf}
-use Rattle.reader.specs.Lines.{
-  formulasOf,
-  deepest,
-  isWhole,
-  rightlyTyped,
-  statementsOf,
-  withinIf,
-  deepestIn,
-  allTyped,
-}
-use Rattle.reader.specs.Answers.{cappedDepth, verdictOf}
-use Rattle.reader.proofs.Answering.{max-assoc}
+use Rattle.grammar.specs.Trees.{Formula, Statement, ifThen, ifElse, Part, last, more}
+use Rattle.expressions.specs.Types.{sortOf, depthOf}
+use Rattle.statements.specs.Parts.{formulasOf, deepest, rightlyTyped, statementsOf, withinIf, deepestIn, allTyped}
+use Rattle.expressions.specs.Types.{isWhole}
+use Rattle.expressions.specs.Answers.{cappedDepth}
+use Rattle.reader.specs.Answers.{verdictOf}
+use Rattle.expressions.proofs.Answering.{max-assoc}
 
 -- ---- lists of statements
 

@@ -9,33 +9,18 @@ use Rattle.words.specs.declared.symbols.Scanned.{Scanned}
 use Rattle.words.specs.declared.symbols.Sign.the-variants.{Colon}
 use Rattle.words.specs.declared.symbols.Word.the-variants.{Else}
 use Rattle.words.proofs.Choices.{by-test}
-use Rattle.reader.specs.Tests.{choose, isSymbol, isKeyword, endsLine}
-use Rattle.reader.specs.Trees.{Formula, Statement, ifThen, ifElse, Part, last, more}
-use Rattle.reader.specs.Statements.{
-  Begun,
-  bad,
-  done,
-  choice,
-  begunAt,
-  PartReading,
-  badPart,
-  goodPart,
-  mappedPart,
-  following,
-  branched,
-  doesNotRead,
-  reads,
-  whole,
-  readLine,
-}
-use Rattle.reader.specs.Lines.{statementsOf, withinIf}
-use Rattle.reader.specs.Answers.{begunAnswer, followsDone, followOf, partOf}
+use Rattle.grammar.specs.Tests.{choose, isSymbol, isKeyword, endsLine}
+use Rattle.grammar.specs.Trees.{Formula, Statement, ifThen, ifElse, Part, last, more}
+use Rattle.statements.specs.Statements.{Begun, bad, done, choice, begunAt, PartReading, badPart, goodPart, mappedPart, following, branched, doesNotRead, reads, whole, readLine}
+use Rattle.statements.specs.Parts.{statementsOf, withinIf}
+use Rattle.statements.specs.Answers.{begunAnswer, partOf}
+use Rattle.reader.specs.Answers.{followsDone, followOf}
 use Rattle.reader.specs.declared.lines.Follow.{Follow}
 use Rattle.reader.specs.declared.lines.Follow.the-variants as follow
-use Rattle.reader.specs.declared.statements.StatementRead.{StatementRead}
-use Rattle.reader.proofs.Endings.{statement-ends, else-goes-on}
-use Rattle.reader.proofs.Parts.{partBy, unrolled}
-use Rattle.reader.proofs.Beginning.{Alone, begun-alone}
+use Rattle.statements.specs.declared.reading.StatementRead.{StatementRead}
+use Rattle.grammar.proofs.Endings.{statement-ends, else-goes-on}
+use Rattle.statements.proofs.Parts.{partBy, unrolled}
+use Rattle.statements.proofs.Beginning.{Alone, begun-alone}
 
 -- ---- a question
 

@@ -10,59 +10,27 @@ use Rattle.words.specs.declared.symbols.Scanned.{Scanned}
 use Rattle.words.specs.declared.symbols.Sign.the-variants.{Colon}
 use Rattle.words.specs.declared.symbols.Word.the-variants.{Else}
 use Rattle.words.proofs.Choices.{by-test}
-use Rattle.reader.specs.Tests.{choose, isSymbol, isKeyword, endsLine}
-use Rattle.reader.specs.Trees.{Formula, Statement, ifElse, Part, last, more}
-use Rattle.reader.specs.Types.{sortOf, depthOf}
-use Rattle.reader.specs.Statements.{
-  Begun,
-  bad,
-  done,
-  choice,
-  begunAt,
-  PartReading,
-  badPart,
-  goodPart,
-  mappedPart,
-  following,
-  branched,
-  whole,
-  readLine,
-}
-use Rattle.reader.specs.Lines.{
-  formulasOf,
-  deepest,
-  isWhole,
-  rightlyTyped,
-  statementsOf,
-  withinIf,
-  deepestIn,
-  allTyped,
-  judgedReading,
-  judgedOf,
-}
-use Rattle.reader.specs.Answers.{weight, cappedDepth, begunAnswer, verdictOf, Tallied, followsDone, followOf, partOf}
-use Rattle.reader.specs.declared.statements.StatementRead.{StatementRead}
-use Rattle.reader.specs.declared.statements.StatementRead.the-variants as statement
+use Rattle.grammar.specs.Tests.{choose, isSymbol, isKeyword, endsLine}
+use Rattle.grammar.specs.Trees.{Formula, Statement, ifElse, Part, last, more}
+use Rattle.expressions.specs.Types.{sortOf, depthOf}
+use Rattle.statements.specs.Statements.{Begun, bad, done, choice, begunAt, PartReading, badPart, goodPart, mappedPart, following, branched, whole, readLine}
+use Rattle.statements.specs.Parts.{formulasOf, deepest, rightlyTyped, statementsOf, withinIf, deepestIn, allTyped}
+use Rattle.expressions.specs.Types.{isWhole}
+use Rattle.reader.specs.Lines.{judgedReading, judgedOf}
+use Rattle.expressions.specs.Answers.{weight, cappedDepth}
+use Rattle.statements.specs.Answers.{begunAnswer, partOf}
+use Rattle.reader.specs.Answers.{verdictOf, Tallied, followsDone, followOf}
+use Rattle.statements.specs.declared.reading.StatementRead.{StatementRead}
+use Rattle.statements.specs.declared.reading.StatementRead.the-variants as statement
 use Rattle.reader.specs.declared.lines.Judged.{Judged}
 use Rattle.reader.specs.declared.lines.Judged.the-variants.{Unreadable}
 use Rattle.reader.specs.declared.lines.Follow.{Follow}
 use Rattle.reader.specs.declared.lines.Follow.the-variants as follow
-use Rattle.reader.proofs.Endings.{statement-ends, else-goes-on}
-use Rattle.reader.proofs.Weights.{symbol-reads, keyword-reads}
-use Rattle.reader.proofs.Tallies.{
-  deeper-last,
-  typed-last,
-  deeper-more,
-  typed-more,
-  deeper-then,
-  typed-then,
-  deeper-else,
-  typed-else,
-  capped-max,
-  capped-verdict,
-}
-use Rattle.reader.proofs.Parts.{weightAt, next-lighter, partBy, unrolled}
-use Rattle.reader.proofs.Beginning.{Within, begun-within, Alone, begun-alone}
+use Rattle.grammar.proofs.Endings.{statement-ends, else-goes-on}
+use Rattle.expressions.proofs.Weights.{symbol-reads, keyword-reads}
+use Rattle.reader.proofs.Tallies.{deeper-last, typed-last, deeper-more, typed-more, deeper-then, typed-then, deeper-else, typed-else, capped-max, capped-verdict}
+use Rattle.statements.proofs.Parts.{weightAt, next-lighter, partBy, unrolled}
+use Rattle.statements.proofs.Beginning.{Within, begun-within, Alone, begun-alone}
 
 -- ---- what the rest of a line comes to
 

@@ -13,12 +13,13 @@ use Rattle.words.specs.Vocabulary.{reserved}
 use Rattle.words.specs.Names.{tellingOf}
 use Rattle.words.specs.Tokens.{markOf, wordToken, numberToken, hexFrom, hexToken, textToken, signToken, tokenAt, _upto_}
 use Rattle.words.specs.declared.symbols.Token.the-variants.{EndOfLine}
-use Rattle.reader.specs.Trees.{Formula, number, twoSided}
-use Rattle.reader.specs.Functions.{formFor, anyFor}
-use Rattle.reader.specs.Formulas.{Reading, good, countOf, formulaAt, climbAt, operandAt, argumentsAt, formulaOf}
-use Rattle.reader.specs.Types.{allMeet, sortOf, sortsOf, depthOf, deepestOf}
-use Rattle.reader.specs.Statements.{itemsAt, printAt, forAt, inputAt, begunAt, partAt, readLine}
-use Rattle.reader.specs.Lines.{deepest, allSome, statementsOf, withinIf, deepestIn, allTyped, judgedOf}
+use Rattle.grammar.specs.Trees.{Formula, number, twoSided}
+use Rattle.grammar.specs.Functions.{formFor, anyFor}
+use Rattle.grammar.specs.Formulas.{Reading, good, countOf, formulaAt, climbAt, operandAt, argumentsAt, formulaOf}
+use Rattle.expressions.specs.Types.{allMeet, sortOf, sortsOf, depthOf, deepestOf}
+use Rattle.statements.specs.Statements.{itemsAt, printAt, forAt, inputAt, begunAt, partAt, readLine}
+use Rattle.statements.specs.Parts.{deepest, allSome, statementsOf, withinIf, deepestIn, allTyped}
+use Rattle.reader.specs.Lines.{judgedOf}
 use Rattle.reader.specs.declared.lines.Judged.{Judged}
 use Rattle.reader.specs.declared.lines.Judged.the-variants.{Unreadable, TooDeep, Reads}
 

@@ -1,9 +1,3 @@
-pub mod Tests
-pub mod Trees
-pub mod Functions
-pub mod Formulas
-pub mod Types
-pub mod Statements
-pub mod Lines
 pub mod Answers
 pub mod Examples
+pub mod Lines

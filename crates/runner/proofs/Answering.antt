@@ -16,11 +16,11 @@ use Rattle.words.specs.declared.names.Telling.{Telling}
 use Rattle.words.specs.declared.symbols.Scanned.{Scanned}
 use Rattle.words.specs.declared.symbols.Token.{Token}
 use Rattle.words.specs.declared.symbols.Token.the-variants as token
-use Rattle.reader.specs.Tests.{onName}
-use Rattle.formulas.specs.Memory.{sumOf}
-use Rattle.formulas.specs.declared.tables.Slot.{Slot}
-use Rattle.formulas.specs.declared.tables.Slot.the-variants as slot
-use Rattle.formulas.specs.declared.tables.Tables.{Tables}
+use Rattle.grammar.specs.Tests.{onName}
+use Rattle.variables.specs.Memory.{sumOf}
+use Rattle.variables.specs.declared.tables.Slot.{Slot}
+use Rattle.variables.specs.declared.tables.Slot.the-variants as slot
+use Rattle.variables.specs.declared.tables.Tables.{Tables}
 use Rattle.runner.specs.Asking.{stringAsked, asked, askOf}
 use Rattle.runner.specs.declared.asking.Asked.{Asked}
 use Rattle.runner.specs.declared.asking.Asked.the-variants.{Text, Refused}

@@ -16,13 +16,14 @@ use Rattle.loader.specs.Loading.{loadOf}
 use Rattle.loader.specs.declared.lines.LineSpan.{LineSpan}
 use Rattle.loader.specs.declared.lines.LineFound.the-variants.{Is, None}
 use Rattle.loader.specs.declared.loading.Loaded.the-variants.{Fine}
-use Rattle.reader.specs.Trees.{Part}
-use Rattle.reader.specs.Statements.{goodPart, LineReading, doesNotRead, reads, readLine}
-use Rattle.reader.specs.Lines.{statementsOf, deepestIn, judgedReading, judgedOf}
-use Rattle.reader.specs.Answers.{partOf}
+use Rattle.grammar.specs.Trees.{Part}
+use Rattle.statements.specs.Statements.{goodPart, LineReading, doesNotRead, reads, readLine}
+use Rattle.statements.specs.Parts.{statementsOf, deepestIn}
+use Rattle.reader.specs.Lines.{judgedReading, judgedOf}
+use Rattle.statements.specs.Answers.{partOf}
 use Rattle.reader.specs.declared.lines.Judged.{Judged}
 use Rattle.reader.specs.declared.lines.Judged.the-variants.{Unreadable, TooDeep, Reads}
-use Rattle.reader.proofs.Views.{line-view}
+use Rattle.statements.proofs.Views.{line-view}
 use Rattle.machine.specs.Machine.{Machine}
 use Rattle.machine.specs.Holding.{linesAt, bodyOf, positionOf, Begins, Positioned}
 use Rattle.machine.specs.declared.positions.Position.{Position}

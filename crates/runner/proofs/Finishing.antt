@@ -14,11 +14,11 @@ use Rattle.loader.specs.Loading.{loadOf}
 use Rattle.loader.specs.declared.loading.Loaded.the-variants as loaded
 use Rattle.loader.specs.declared.refusals.Refusal.{Refusal}
 use Rattle.loader.specs.declared.refusals.Refusal.the-variants.{SpaceTooLong}
-use Rattle.formulas.specs.Variables.{stringBytes, joinedStrings}
-use Rattle.formulas.specs.Memory.{stringsHeld}
-use Rattle.formulas.specs.declared.tables.Tables.{Tables}
-use Rattle.formulas.proofs.Holding.{cleaned, strings-live}
-use Rattle.formulas.proofs.Told.{numbers-told, strings-told}
+use Rattle.variables.specs.Variables.{stringBytes, joinedStrings}
+use Rattle.variables.specs.Memory.{stringsHeld}
+use Rattle.variables.specs.declared.tables.Tables.{Tables}
+use Rattle.variables.proofs.Holding.{cleaned, strings-live}
+use Rattle.variables.proofs.Told.{numbers-told, strings-told}
 use Rattle.machine.specs.Machine as spec
 use Rattle.machine.specs.Holding.{variablesOf, Settled, Sound, Same}
 use Rattle.machine.specs.declared.machine.Machine.{Machine}

@@ -8,9 +8,9 @@ use lib.ListN.{take, drop}
 use Rattle.words.specs.declared.places.Place.{Place}
 use Rattle.words.specs.declared.symbols.Scanned.{Scanned}
 use Rattle.loader.specs.declared.lines.LineSpan.{LineSpan}
-use Rattle.reader.specs.Trees.{Part}
-use Rattle.reader.specs.Statements.{goodPart}
-use Rattle.reader.specs.Answers.{partOf}
+use Rattle.grammar.specs.Trees.{Part}
+use Rattle.statements.specs.Statements.{goodPart}
+use Rattle.statements.specs.Answers.{partOf}
 use Rattle.machine.specs.Machine as spec
 use Rattle.machine.specs.Holding.{linesAt, Parted, foundIn, entryAt, Sound, Same}
 use Rattle.machine.specs.declared.machine.Machine.{Machine}
@@ -22,10 +22,10 @@ use Rattle.machine.specs.declared.records.Found.{Found}
 use Rattle.machine.specs.declared.records.Sought.{Sought}
 use Rattle.machine.proofs.Standing as standing
 use Rattle.machine.proofs.Standing.{told-as}
-use Rattle.steps.specs.Steps as step
-use Rattle.steps.specs.Steps.{headOf, tailOf, doStatement}
-use Rattle.steps.specs.Turns.{Comes, Turns, Told, FoundBelow, Standing, soughtBy}
-use Rattle.steps.proofs.Jumps.{found-low}
+use Rattle.turns.specs.Steps as step
+use Rattle.turns.specs.Steps.{headOf, tailOf, doStatement}
+use Rattle.turns.specs.Turns.{Comes, Turns, Told, FoundBelow, Standing, soughtBy}
+use Rattle.control.proofs.Jumps.{found-low}
 use Rattle.runner.specs.Standings.{GoesTo, nextOf, stepped, Stood, Turnable, TurnAs}
 
 -- ---- one step more changes nothing else

@@ -13,13 +13,13 @@ use Rattle.words.specs.declared.names.Kind.the-variants as kind
 use Rattle.words.specs.declared.names.Name.{Name}
 use Rattle.words.specs.declared.names.Telling.{Telling}
 use Rattle.words.specs.declared.symbols.Scanned.{Scanned}
-use Rattle.reader.specs.Tests.{onName}
-use Rattle.formulas.specs.Variables.{wordOf}
-use Rattle.formulas.specs.Memory.{namesIn, numbersIn, slotIn, sumOf}
-use Rattle.formulas.specs.declared.tables.Tables.{Tables}
-use Rattle.formulas.specs.declared.tables.Strings.{Strings}
-use Rattle.formulas.specs.declared.tables.Slot.{Slot}
-use Rattle.formulas.specs.declared.tables.Slot.the-variants as slot
+use Rattle.grammar.specs.Tests.{onName}
+use Rattle.variables.specs.Variables.{wordOf}
+use Rattle.variables.specs.Memory.{namesIn, numbersIn, slotIn, sumOf}
+use Rattle.variables.specs.declared.tables.Tables.{Tables}
+use Rattle.variables.specs.declared.tables.Strings.{Strings}
+use Rattle.variables.specs.declared.tables.Slot.{Slot}
+use Rattle.variables.specs.declared.tables.Slot.the-variants as slot
 use Rattle.space.specs.declared.offsets.Offset.{Offset}
 use Rattle.runner.specs.declared.asking.Asked.{Asked}
 use Rattle.runner.specs.declared.asking.Asked.the-variants.{Whole, Text, Refused}

@@ -17,17 +17,17 @@ use Rattle.words.specs.Places.{lineNumber}
 use Rattle.words.specs.Tokens.{markOf, wordToken, numberToken, hexFrom, hexToken, textToken, signToken, tokenAt}
 use Rattle.loader.specs.Lines.{linesFrom, numberOf, fromNumber}
 use Rattle.loader.specs.Loading.{isPlain, numbered, judged, loadLines, loadOf}
-use Rattle.reader.specs.Functions.{formFor, anyFor}
-use Rattle.reader.specs.Formulas.{countOf, formulaAt, climbAt, operandAt, argumentsAt, formulaOf}
-use Rattle.reader.specs.Types.{depthOf, deepestOf}
-use Rattle.reader.specs.Statements.{itemsAt, printAt, forAt, inputAt, begunAt, partAt, readLine}
-use Rattle.reader.specs.Lines.{deepest, statementsOf, withinIf, deepestIn}
-use Rattle.formulas.specs.Strings.{make, letGo, letAllGo, produced}
-use Rattle.formulas.specs.Variables.{NumberVariable, wordOf, bytesOf, stringBytes, hasNumber, hasString, setNumber, setString, joinedStrings}
-use Rattle.formulas.specs.Functions.{argument, startsWith, found, placeOf}
-use Rattle.formulas.specs.Values.{isBefore, wantAt, valueOf, valuesOf}
+use Rattle.grammar.specs.Functions.{formFor, anyFor}
+use Rattle.grammar.specs.Formulas.{countOf, formulaAt, climbAt, operandAt, argumentsAt, formulaOf}
+use Rattle.expressions.specs.Types.{depthOf, deepestOf}
+use Rattle.statements.specs.Statements.{itemsAt, printAt, forAt, inputAt, begunAt, partAt, readLine}
+use Rattle.statements.specs.Parts.{deepest, statementsOf, withinIf, deepestIn}
+use Rattle.variables.specs.Strings.{make, letGo, letAllGo, produced}
+use Rattle.variables.specs.Variables.{NumberVariable, wordOf, bytesOf, stringBytes, hasNumber, hasString, setNumber, setString, joinedStrings}
+use Rattle.functions.specs.Functions.{argument, startsWith, found, placeOf}
+use Rattle.operators.specs.Values.{isBefore, wantAt, valueOf, valuesOf}
 use Rattle.machine.specs.Machine.{columnAfter, write, sought, passed}
-use Rattle.steps.specs.Steps.{printItems, returned}
+use Rattle.turns.specs.Steps.{printItems, returned}
 use Rattle.runner.specs.Run.{Ran, enter, running, runOf}
 use Rattle.runner.specs.declared.running.Outcome.{Outcome}
 use Rattle.runner.specs.declared.running.Outcome.the-variants.{Ended, Failed}

@@ -18,17 +18,17 @@ use Rattle.loader.specs.declared.refusals.Refusal.the-variants.{SpaceTooLong}
 use Rattle.words.specs.declared.places.Place.{Place}
 use Rattle.words.specs.Places.{place, lineNumber}
 use Rattle.words.specs.declared.places.LineNumber.{LineNumber}
-use Rattle.reader.specs.Trees.{Statement, Part, last, more}
-use Rattle.reader.specs.Statements.{LineReading, doesNotRead, reads, readLine}
-use Rattle.reader.specs.Lines.{statementsOf, deepestIn}
-use Rattle.formulas.specs.Variables.{Variables, stringBytes, joinedStrings}
-use Rattle.formulas.specs.Memory.{numbersTable, stringsTable}
-use Rattle.formulas.specs.declared.tables.Tables.{Tables}
+use Rattle.grammar.specs.Trees.{Statement, Part, last, more}
+use Rattle.statements.specs.Statements.{LineReading, doesNotRead, reads, readLine}
+use Rattle.statements.specs.Parts.{statementsOf, deepestIn}
+use Rattle.variables.specs.Variables.{Variables, stringBytes, joinedStrings}
+use Rattle.variables.specs.Memory.{numbersTable, stringsTable}
+use Rattle.variables.specs.declared.tables.Tables.{Tables}
 use Rattle.runner.specs.declared.running.Ran as code
 use Rattle.runner.specs.declared.running.Outcome.{Outcome}
 use Rattle.runner.specs.declared.running.Outcome.the-variants.{Ended, Stopped, Out, Failed, Refused}
 use Rattle.machine.specs.Machine.{Rest, nothing, part, Position, Machine, fresh, withStep}
-use Rattle.steps.specs.Steps.{Next, goesOn, enters, ends, stops, fails, headOf, tailOf, doStatement}
+use Rattle.turns.specs.Steps.{Next, goesOn, enters, ends, stops, fails, headOf, tailOf, doStatement}
 
 pub record Ran : Type 0 where
   pub ending : Outcome

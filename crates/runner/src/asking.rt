@@ -1,16 +1,16 @@
 // Asking for one variable after a run.
 ghost use mathlib.Core.Path.{_≡_};
 ghost use lib.ListN.{length};
-ghost use Rattle.formulas.specs.Memory.{namesIn, numbersIn, slotIn};
-ghost use Rattle.formulas.specs.Variables.{wordOf};
+ghost use Rattle.variables.specs.Memory.{namesIn, numbersIn, slotIn};
+ghost use Rattle.variables.specs.Variables.{wordOf};
 ghost use Rattle.runner.specs.Asking.{stringAsked, askOf};
-use formulas::Numbers;
-use formulas::Slot;
-use formulas::Strings;
-use formulas::Tables;
-use formulas::offset_of;
-use formulas::slot_of;
 use space::Offset;
+use variables::Numbers;
+use variables::Slot;
+use variables::Strings;
+use variables::Tables;
+use variables::offset_of;
+use variables::slot_of;
 use words::Kind;
 use words::Place;
 use words::Telling;

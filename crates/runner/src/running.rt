@@ -10,8 +10,6 @@ ghost use Rattle.machine.specs.Holding.{linesAt, positionOf, entryAt, Positione
 ghost use Rattle.runner.specs.Run as run;
 ghost use Rattle.runner.specs.Run.{runOf, answerOf, spaceAfter, roomAfter};
 ghost use Rattle.runner.specs.Standings.{Reached, StandsAs, GoesTo, nextOf, Turnable, TurnAs, runIn, endedAs, RanAs, refusedAs};
-use formulas::Tables;
-use formulas::clean_up;
 use loader::LineFound;
 use loader::LineSpan;
 use loader::Loaded;
@@ -32,6 +30,8 @@ use reader::Judged;
 use reader::judge;
 use steps::do_statement;
 use steps::sought_record;
+use variables::Tables;
+use variables::clean_up;
 use whole::Error;
 use words::LineNumber;
 use words::Place;

@@ -1,60 +1,31 @@
 -- How a statement that reads begins, as what holds of each way that it can: a formula, the items of a PRINT, a FOR, a LINE INPUT.
 use mathlib.Core.Path.{_≡_, refl}
 use mathlib.Core.Bool.{Bool, true, false}
-use mathlib.Core.List.{List, [], _∷_}
+use mathlib.Core.List.{List, []}
 use Prim.Native.Nat.{ℕ, _≤_}
 use lib.ListN.{length}
 use denote.Enum.Declared.{tagOf}
-use types.Run.{OneOf, miss}
 use Rattle.words.specs.declared.names.Name.{Name}
 use Rattle.words.specs.declared.places.LineNumber.{LineNumber}
 use Rattle.words.specs.declared.symbols.Scanned.{Scanned}
 use Rattle.words.specs.declared.symbols.Token.{Token}
-use Rattle.words.specs.declared.symbols.Token.the-variants.{
-  EndOfLine,
-  Keyword,
-  Not,
-  Infix,
-  Call,
-  Named,
-  Number,
-  Hexadecimal,
-  LineOnly,
-  Quoted,
-  Symbol,
-  Unreadable,
-}
 use Rattle.words.specs.declared.symbols.Sign.the-variants.{Semicolon, Equal}
 use Rattle.words.specs.declared.symbols.Word.{Word}
 use Rattle.words.specs.declared.symbols.Word.the-variants.{Then, Goto, To, Step, Input}
 use Rattle.words.proofs.Choices.{by-test}
-use Rattle.reader.specs.Tests.{choose, isSymbol, isKeyword, onName, onLine}
-use Rattle.reader.specs.Trees.{Formula, number, Variable, Item, Part, assign, print, for, lineInput}
-use Rattle.reader.specs.Formulas as formulas
-use Rattle.reader.specs.Formulas.{Reading, good, after, enough, formulaOf}
-use Rattle.reader.specs.Statements.{
-  Begun,
-  bad,
-  done,
-  choice,
-  onFormula,
-  variableOf,
-  assignAt,
-  Items,
-  noItems,
-  items,
-  itemsAt,
-  printed,
-  printAt,
-  ifAt,
-  forAt,
-  targetAt,
-  inputAt,
-}
-use Rattle.reader.specs.Answers.{lineOf, itemsOf}
-use Rattle.reader.specs.declared.tests.NamedLine.the-variants.{Names, NoLine}
-use Rattle.reader.proofs.Findings.{by-name, by-line, by-text}
-use Rattle.steps.specs.Turns.{Formed, Itemed, Counts, Asks}
+use Rattle.grammar.specs.Tests.{choose, isSymbol, isKeyword, onLine}
+use Rattle.grammar.specs.Trees.{Formula, number, Variable, Item, assign, print, for, lineInput}
+use Rattle.grammar.specs.Formulas as formulas
+use Rattle.grammar.specs.Formulas.{Reading, good, after, enough, formulaOf}
+use Rattle.statements.specs.Statements.{Begun, bad, done, choice, onFormula, variableOf, assignAt, Items, noItems, items, itemsAt, printed, printAt, ifAt, forAt, targetAt, inputAt}
+use Rattle.grammar.specs.Answers.{lineOf}
+use Rattle.statements.specs.Answers.{itemsOf}
+use Rattle.grammar.specs.declared.tests.NamedLine.the-variants.{Names, NoLine}
+use Rattle.statements.proofs.Findings.{by-name, by-line, by-text}
+use Rattle.turns.specs.Turns.{Formed}
+use Rattle.control.specs.Answers.{Counts}
+use Rattle.dialogue.specs.Showing.{Itemed}
+use Rattle.dialogue.specs.Asking.{Asks}
 use Rattle.steps.specs.Doing.{Begins, lineAt}
 
 -- ---- what holds of each way, and where nothing reads, holds
@@ -154,37 +125,10 @@ module _ (s : List ℕ) (short : length s ≤ 255) where
         (by-input (λ b. Begins b → Asks s t) (λ x. absurd x) s t
         λ text v u e _. record { short = short; scans = record { from = w .next; is = refl }; prompt = text; target = v; end = u; is = e })
 
--- ---- a name or a line number, or neither
-
-abbrev pub tokenTag : Token → ℕ
-tokenTag t = tagOf Rattle.words.proofs.symbols.Token.the-type t
+-- ---- a word, and a line number or none
 
 abbrev pub wordTag : Word → ℕ
 wordTag w = tagOf Rattle.words.proofs.symbols.Word.the-type w
-
--- what holds of every name, and of what is none
-pub by-named : (P : Token → Type 0) → ((v : Name) → P (Named v))
-    → ((t : Token) → ((A : Type 0) (go : Name → A) (other : A) → onName t go other ≡ other) → P t) → (t : Token) → P t
-by-named P name none EndOfLine = none EndOfLine (λ A go other. refl)
-by-named P name none (Keyword w) = none (Keyword w) (λ A go other. refl)
-by-named P name none Not = none Not (λ A go other. refl)
-by-named P name none (Infix op) = none (Infix op) (λ A go other. refl)
-by-named P name none (Call f) = none (Call f) (λ A go other. refl)
-by-named P name none (Named v) = name v
-by-named P name none (Number n) = none (Number n) (λ A go other. refl)
-by-named P name none (Hexadecimal n) = none (Hexadecimal n) (λ A go other. refl)
-by-named P name none (LineOnly l) = none (LineOnly l) (λ A go other. refl)
-by-named P name none (Quoted q) = none (Quoted q) (λ A go other. refl)
-by-named P name none (Symbol s) = none (Symbol s) (λ A go other. refl)
-by-named P name none Unreadable = none Unreadable (λ A go other. refl)
-
--- all tokens but names
-abbrev pub noNames : List ℕ
-noNames = 0 ∷ 1 ∷ 2 ∷ 3 ∷ 4 ∷ 6 ∷ 7 ∷ 8 ∷ 9 ∷ 10 ∷ 11 ∷ []
-
-pub no-name : {A : Type 0} (t : Token) (go : Name → A) (other : A) → OneOf noNames (tokenTag t) → onName t go other ≡ other
-no-name t go other h =
-    by-named (λ x. OneOf noNames (tokenTag x) → onName x go other ≡ other) (λ v h. absurd (miss noNames 5 tt h)) (λ x no h. no _ go other) t h
 
 pub on-line : (t : Token) (go : LineNumber → Begun) (other : Begun) {l : LineNumber} → lineOf t ≡ Names l → onLine t go other ≡ go l
 on-line t go other {l} e =

@@ -1,6 +1,6 @@
 -- Turns of statements that only go on or end, and what a part's first statement does, by how it begins.
 use mathlib.Core.Path.{_≡_, refl, sym, ap, _∙_}
-use mathlib.Core.Bool.{Bool, true, false}
+use mathlib.Core.Bool.{Bool, true, false, false≢true}
 use mathlib.Core.List.{List, _∷_, []}
 use Prim.Native.Nat.{ℕ}
 use native.Mathlib.Omega.{arith}
@@ -59,15 +59,16 @@ use Rattle.words.specs.declared.symbols.Word.the-variants.{
   Restore,
 }
 use Rattle.words.proofs.Choices.{by-test}
-use Rattle.reader.specs.Tests.{isSymbol, isKeyword, endsStatement}
-use Rattle.reader.specs.Trees as tree
-use Rattle.reader.specs.Trees.{Part, last, more}
-use Rattle.reader.specs.Formulas.{good, after, formulaOf}
-use Rattle.reader.specs.Statements.{Begun, bad, done, choice, variableOf, items, printAt, ifAt, forAt, inputAt, byWord, byMark, byToken, begunAt, PartReading, badPart, goodPart}
-use Rattle.reader.specs.Answers.{lineOf, itemsOf, partOf}
-use Rattle.reader.specs.declared.tests.NamedLine.the-variants.{Names}
-use Rattle.reader.proofs.Parts.{partBy, unrolled}
-use Rattle.reader.proofs.Views.{More, Final, plain, thens, elses, more-view, final-view}
+use Rattle.grammar.specs.Tests.{isSymbol, isKeyword, endsStatement}
+use Rattle.grammar.specs.Trees as tree
+use Rattle.grammar.specs.Trees.{Part, last, more}
+use Rattle.grammar.specs.Formulas.{good, after, formulaOf}
+use Rattle.statements.specs.Statements.{Begun, bad, done, choice, variableOf, items, printAt, ifAt, forAt, inputAt, byWord, byMark, byToken, begunAt, PartReading, badPart, goodPart}
+use Rattle.grammar.specs.Answers.{lineOf}
+use Rattle.statements.specs.Answers.{itemsOf, partOf}
+use Rattle.grammar.specs.declared.tests.NamedLine.the-variants.{Names}
+use Rattle.statements.proofs.Parts.{partBy, unrolled}
+use Rattle.statements.proofs.Views.{More, Final, plain, thens, elses, more-view, final-view}
 use Rattle.machine.specs.Machine as spec
 use Rattle.machine.specs.Machine.{Rest, nothing, part}
 use Rattle.machine.specs.Holding.{linesAt, bodyOf, positionOf, isSought, Parted, Positioned, Sound}
@@ -78,14 +79,14 @@ use Rattle.machine.specs.declared.records.Record.{Record}
 use Rattle.machine.specs.declared.records.Found.{Found}
 use Rattle.machine.specs.declared.records.Sought.the-variants as sought
 use Rattle.machine.proofs.Standing.{true-part}
-use Rattle.steps.specs.Steps as step
-use Rattle.steps.specs.Steps.{goesOn, ends, stops, fails, nextOn, headOf, tailOf, doStatement}
-use Rattle.steps.specs.Turns.{turnedTo, afterOf, Turns, anyRecords, Told, Standing, soughtBy}
+use Rattle.turns.specs.Steps as step
+use Rattle.turns.specs.Steps.{goesOn, ends, stops, fails, nextOn, headOf, tailOf, doStatement}
+use Rattle.turns.specs.Turns.{turnedTo, afterOf, Turns, anyRecords, Told, Standing, soughtBy}
 use Rattle.steps.specs.Doing.{Begins, Does, setAt, loopAt, nextAt, jumpAt, callAt, lineAt}
-use Rattle.steps.proofs.Keeping.{leaves-unprinted}
-use Rattle.steps.proofs.Leading.{leads-self, turns-fails, turns-on, turns-ends, turns-stops}
-use Rattle.steps.proofs.Items.{colon-ends}
-use Rattle.steps.proofs.Beginning.{tokenTag, wordTag, if-so, by-assign, by-items, by-condition, by-for, by-input, no-name, on-line, no-line}
+use Rattle.turns.proofs.Keeping.{leaves-unprinted}
+use Rattle.turns.proofs.Leading.{leads-self, turns-fails, turns-on, turns-ends, turns-stops}
+use Rattle.turns.proofs.Tokens.{tokenTag, no-name}
+use Rattle.steps.proofs.Beginning.{wordTag, if-so, by-assign, by-items, by-condition, by-for, by-input, on-line, no-line}
 
 -- ---- turns that change nothing
 
@@ -148,6 +149,21 @@ module _ {text line : List ℕ} {here : Place} (st : Standing text line here) (u
       }
 
 -- ---- a part that reads
+
+-- a colon ends a statement
+colon-ends : (t : Token) → isSymbol Colon t ≡ true → endsStatement t ≡ true
+colon-ends EndOfLine e = refl
+colon-ends (Keyword w) e = absurd (false≢true e)
+colon-ends Not e = absurd (false≢true e)
+colon-ends (Infix op) e = absurd (false≢true e)
+colon-ends (Call f) e = absurd (false≢true e)
+colon-ends (Named v) e = absurd (false≢true e)
+colon-ends (Number n) e = absurd (false≢true e)
+colon-ends (Hexadecimal n) e = absurd (false≢true e)
+colon-ends (LineOnly l) e = absurd (false≢true e)
+colon-ends (Quoted q) e = absurd (false≢true e)
+colon-ends (Symbol s) e = e
+colon-ends Unreadable e = absurd (false≢true e)
 
 begins-by : (p : ℕ) (go : Bool → ℕ → PartReading) (b : Begun) {q : Part} {u : Scanned} → partBy p go b ≡ goodPart q u → Begins b
 begins-by p go bad e = let y : _≡_ {A = ℕ} 0 1 = cc in absurd (omega arith)

@@ -50,19 +50,20 @@ use Rattle.words.specs.declared.symbols.Word.the-variants.{
   Read,
   Restore,
 }
-use Rattle.reader.specs.Tests.{isKeyword, onName}
-use Rattle.reader.specs.Trees.{Statement, next, nextOf, Part, last, more}
-use Rattle.reader.specs.Formulas.{after}
-use Rattle.reader.specs.Statements.{Begun, bad, done, variableOf, forAt, byWord, byMark, byToken, begunAt, goodPart}
-use Rattle.reader.specs.Answers.{partOf}
-use Rattle.reader.proofs.Findings.{by-name, by-line}
-use Rattle.reader.proofs.Views.{Final, plain, thens, elses, more-view, final-view}
+use Rattle.grammar.specs.Tests.{isKeyword, onName}
+use Rattle.grammar.specs.Trees.{Statement, next, nextOf, Part, last, more}
+use Rattle.grammar.specs.Formulas.{after}
+use Rattle.statements.specs.Statements.{Begun, bad, done, variableOf, forAt, byWord, byMark, byToken, begunAt, goodPart}
+use Rattle.statements.specs.Answers.{partOf}
+use Rattle.statements.proofs.Findings.{by-name, by-line}
+use Rattle.statements.proofs.Views.{Final, plain, thens, elses, more-view, final-view}
 use Rattle.machine.specs.declared.records.Sought.{Sought}
 use Rattle.machine.specs.declared.records.Sought.the-variants as sought
-use Rattle.steps.specs.Steps.{headOf}
-use Rattle.steps.specs.Turns.{soughtBy}
+use Rattle.turns.specs.Steps.{headOf}
+use Rattle.turns.specs.Turns.{soughtBy}
 use Rattle.steps.specs.Doing.{Seeks, loopAt, nextAt, soughtLoop}
-use Rattle.steps.proofs.Beginning.{tokenTag, wordTag, by-named, if-so, by-assign, by-items, by-condition, by-for, by-input}
+use Rattle.turns.proofs.Tokens.{tokenTag, by-named}
+use Rattle.steps.proofs.Beginning.{wordTag, if-so, by-assign, by-items, by-condition, by-for, by-input}
 use Rattle.steps.proofs.Dispatching.{begun-token}
 
 -- ---- the statement that begins a part

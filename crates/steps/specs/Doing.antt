@@ -6,12 +6,12 @@ use Prim.Native.Nat.{ℕ}
 use Rattle.words.specs.declared.places.Place.{Place}
 use Rattle.words.specs.declared.symbols.Scanned.{Scanned}
 use Rattle.words.specs.declared.symbols.Word.the-variants.{Else, Input}
-use Rattle.reader.specs.Tests.{choose, isKeyword, endsStatement, onName, onLine}
-use Rattle.reader.specs.Trees as tree
-use Rattle.reader.specs.Trees.{Part}
-use Rattle.reader.specs.Formulas.{after}
-use Rattle.reader.specs.Statements.{Begun, bad, done, choice, variableOf, assignAt, forAt, inputAt, goodPart}
-use Rattle.reader.specs.Answers.{partOf}
+use Rattle.grammar.specs.Tests.{choose, isKeyword, endsStatement, onName, onLine}
+use Rattle.grammar.specs.Trees as tree
+use Rattle.grammar.specs.Trees.{Part}
+use Rattle.grammar.specs.Formulas.{after}
+use Rattle.statements.specs.Statements.{Begun, bad, done, choice, variableOf, assignAt, forAt, inputAt, goodPart}
+use Rattle.statements.specs.Answers.{partOf}
 use Rattle.machine.specs.Machine as spec
 use Rattle.machine.specs.Holding.{linesAt, Positioned, positionOf}
 use Rattle.machine.specs.declared.machine.Machine.{Machine}
@@ -20,8 +20,8 @@ use Rattle.machine.specs.declared.records.Record.{Record}
 use Rattle.machine.specs.declared.records.Found.{Found}
 use Rattle.machine.specs.declared.records.Sought.{Sought}
 use Rattle.machine.specs.declared.records.Sought.the-variants as sought
-use Rattle.steps.specs.Steps.{doStatement}
-use Rattle.steps.specs.Turns.{afterOf, Turns, Told, soughtBy}
+use Rattle.turns.specs.Steps.{doStatement}
+use Rattle.turns.specs.Turns.{afterOf, Turns, Told, soughtBy}
 
 -- it reads: what follows it ends it
 abbrev pub Begins : Begun → Type 0

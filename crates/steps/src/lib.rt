@@ -1,12 +1,5 @@
-// What each statement does.
-mod branching;
-mod inputting;
-mod jumping;
-mod looping;
-mod outputting;
-mod setting;
-mod statements;
-mod turning;
+// The statement that stands at a place of a line: which it is, and doing it.
+mod doing;
 
-pub use statements::do_statement;
-pub use statements::sought_record;
+pub use doing::do_statement;
+pub use doing::sought_record;

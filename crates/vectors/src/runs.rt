@@ -1,19 +1,19 @@
 // The cases of runs: everything that a run answers and leaves in what is lent.
+ghost use mathlib.Core.Path.{_≡_};
+ghost use Prim.Native.Nat.{_<_};
+ghost use lib.ListN.{length};
 use crate::saying::front;
 use crate::saying::line_end;
 use crate::saying::number;
 use crate::saying::others;
 use crate::saying::tally;
 use crate::saying::word;
-use formulas::Numbers;
-use formulas::Strings;
-use formulas::Tables;
 use runner::Outcome;
 use runner::Ran;
 use runner::run;
-ghost use mathlib.Core.Path.{_≡_};
-ghost use Prim.Native.Nat.{_<_};
-ghost use lib.ListN.{length};
+use variables::Numbers;
+use variables::Strings;
+use variables::Tables;
 
 // What the lent bytes hold before a run.
 const OLD: u8 = 170;

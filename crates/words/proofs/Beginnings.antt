@@ -3,6 +3,7 @@ use mathlib.Core.Path.{_≡_, ap}
 use mathlib.Core.Logic.{⊎-elim}
 use mathlib.Core.List.{List, [], _∷_}
 use Prim.Native.Nat.{ℕ, _+_, _-_, _≤_, _<_}
+use native.Mathlib.Omega.{arith}
 use lib.ListN.{length, getD, take, drop, drop-of-length-le, List·getD-eq-default}
 use lib.Seq.{drop-drop}
 use Rattle.whole.specs.Bytes.{leading}
@@ -26,10 +27,12 @@ mark-here s i =
     ⊎-elim (λ h. ap markOf (drop-next s i h)) (λ h. rw (drop-of-length-le s h, List·getD-eq-default s 0 h)) (less i (length s))
 
 -- a word is its run, looked up, with the mark after it
-pub word-here : (s : List ℕ) (i n : ℕ) (f : WordFound) (m : Mark) → n ≡ length (leading (passes Word) (drop i s))
-    → f ≡ wordOf (take (i + n - i) (drop i s)) → m ≡ markOf (drop (i + n) s) → wordToken (length s) i (drop i s) ≡ marked f m i n (length s)
+pub word-here : (s : List ℕ) (i end : ℕ) (f : WordFound) (m : Mark) → end ≡ i + length (leading (passes Word) (drop i s))
+    → f ≡ wordOf (take (end - i) (drop i s)) → m ≡ markOf (drop end s) → wordToken (length s) i (drop i s) ≡ marked f m i (end - i) (length s)
 unfolding wordToken
-word-here s i n f m e p q = rw (p, q, run-part (passes Word) s i e, e, drop-drop)
+word-here s i end f m e p q =
+    let z : end - i ≡ length (leading (passes Word) (drop i s)) = omega arith in
+    rw (p, q, run-part (passes Word) s i e, z, e, drop-drop)
 
 module _ (line : List ℕ) (at : Place) (i : ℕ) (first : i ≡ at .0 + blanksOf (drop (at .0) line)) where
   -- where only blanks are left, the line ends

@@ -1,7 +1,7 @@
 -- Words as numbers: two words of bytes have one number only where they are the same word.
 use mathlib.Core.Path.{_≡_, refl, ap, _∙_}
 use mathlib.Core.Bool.{Bool, true, false, _&&_, and-false}
-use mathlib.Core.List.{List, [], _∷_, map}
+use mathlib.Core.List.{List, [], _∷_, _++_, map}
 use Prim.Native.Nat.{ℕ, suc, _+_, _*_, _≤_, _<_}
 use native.Mathlib.Omega.{arith}
 use borrow.Author.Tests.{lt-ltb, ltb-true, leb-true, eq-eqb, eqb-true, ne-eqb, eqb-false}
@@ -15,6 +15,7 @@ use Rattle.words.specs.Packed.{packed, unpackedIn, unpacked}
 use Rattle.words.specs.declared.vocabulary.WordFound.{WordFound}
 use Rattle.words.specs.declared.vocabulary.WordFound.the-variants.{Free}
 use Rattle.words.proofs.Choices.{by-test, both}
+use Rattle.words.proofs.Tables.{NoKey, passed-over}
 
 -- ---- lists of bytes
 
@@ -75,6 +76,12 @@ found [] w h k = refl
 found (e ∷ es) w h k =
     let m = both (small (e .spelling)) (every small es) k in
     rw (packed-tells w (e .spelling) h (m .0), found es w h (m .1))
+
+-- a number that none of a table's words has is looked up in what follows the table
+pub none-packed : (n : ℕ) (table more : List (Spelt WordFound)) → NoKey (λ e. packed (e .spelling)) n table (Unit {0}) → unpackedIn (table ++ more) n ≡ unpackedIn more n
+unfolding unpackedIn
+none-packed n table more r =
+    passed-over (λ t. unpackedIn t n) (λ e. packed (e .spelling)) n (λ e es d. rw (ne-eqb n (packed (e .spelling)) d)) table more r .0
 
 pub unpacked-word : (s : List ℕ) → ((i : ℕ) → getD s i 0 < 256) → unpacked (packed (map capitalOf s)) ≡ wordOf s
 unfolding reserved bytes

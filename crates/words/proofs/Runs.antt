@@ -1,16 +1,16 @@
 -- Runs: the bytes at the front of a list that pass a test, and where a run that begins at a place of a line ends.
 use mathlib.Core.Path.{_≡_, refl, ap, _∙_}
 use mathlib.Core.Logic.{⊎-elim}
-use mathlib.Core.Bool.{Bool, true}
+use mathlib.Core.Bool.{Bool, true, false}
 use mathlib.Core.List.{List, [], _∷_}
 use Prim.Native.Nat.{ℕ, zero, suc, _+_, _-_, _≤_, _<_}
 use native.Mathlib.Nat.{add-zero}
 use native.Mathlib.Omega.{arith}
-use lib.ListN.{length, getD, take, drop, length-drop, List·getD-eq-default}
+use lib.ListN.{length, getD, take, drop, length-drop, drop-of-length-le, List·getD-eq-default}
 use lib.Seq.{getD-drop}
 use Rattle.whole.specs.Bytes.{leading}
 use Rattle.whole.proofs.Numbers.{less}
-use Rattle.whole.proofs.Reading.{part-from, leading-inside}
+use Rattle.whole.proofs.Reading.{drop-next, leading-inside}
 use Rattle.words.proofs.Choices.{by-test}
 
 -- a byte that a test tells from the 0 past the end stands within the line
@@ -46,15 +46,24 @@ module _ (test : ℕ → Bool) where
   run-passes (b ∷ s) (suc i) h =
       by-test (test b) (λ e. let k = rw e at h in run-passes s i (omega arith)) (λ e. let k = rw e at h in absurd (omega arith))
 
-  module _ (s : List ℕ) (i : ℕ) {n : ℕ} where
-    -- the code takes a run of the part from a place on
-    pub run-from : n ≡ length (leading test (take (length s - i) (drop i s))) → n ≡ length (leading test (drop i s))
-    run-from e = e ∙ ap (λ l. length (leading test l)) (part-from s i)
+  -- a byte that passes is one of the run from its place on; one that does not, and the end, end it
+  pub run-more : (s : List ℕ) (i : ℕ) → i < length s → test (getD s i 0) ≡ true → length (leading test (drop i s)) ≡ 1 + length (leading test (drop (i + 1) s))
+  unfolding leading
+  run-more s i h e = rw (drop-next s i h, e) (omega arith)
 
-    -- it ends within the line
-    pub run-within : i ≤ length s → n ≡ length (leading test (drop i s)) → i + n ≤ length s
-    run-within h e = omega (arith, leading-inside test (drop i s), length-drop i s)
+  pub run-stops : (s : List ℕ) (i : ℕ) → i < length s → test (getD s i 0) ≡ false → length (leading test (drop i s)) ≡ 0
+  unfolding leading
+  run-stops s i h e = rw (drop-next s i h, e)
+
+  pub run-past : (s : List ℕ) (i : ℕ) → length s ≤ i → length (leading test (drop i s)) ≡ 0
+  unfolding leading
+  run-past s i h = rw (drop-of-length-le s h)
+
+  module _ (s : List ℕ) (i : ℕ) {end : ℕ} (ends : end ≡ i + length (leading test (drop i s))) where
+    -- a run ends within the line
+    pub run-within : i ≤ length s → end ≤ length s
+    run-within h = omega (arith, leading-inside test (drop i s), length-drop i s)
 
     -- and is the part from its place to its end
-    pub run-part : n ≡ length (leading test (drop i s)) → take (i + n - i) (drop i s) ≡ leading test (drop i s)
-    run-part e = let z : i + n - i ≡ n = omega arith in rw (z, e) (take-run (drop i s))
+    pub run-part : take (end - i) (drop i s) ≡ leading test (drop i s)
+    run-part = let z : end - i ≡ length (leading test (drop i s)) = omega arith in rw z (take-run (drop i s))

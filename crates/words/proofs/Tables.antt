@@ -1,7 +1,7 @@
 -- Tables of spellings, and what a `match` on a number tells of one.
 use mathlib.Core.Path.{_≡_, refl, _∙_}
 use mathlib.Core.Bool.{Bool, true, _&&_}
-use mathlib.Core.List.{List, [], _∷_}
+use mathlib.Core.List.{List, [], _∷_, _++_}
 use Prim.Native.Nat.{ℕ}
 use Rattle.words.specs.Spellings.{Spelt, sameBytes, meaning}
 use Rattle.words.proofs.Choices.{both, by-test}
@@ -11,14 +11,14 @@ abbrev pub NoKey : {A : Type 0} → (Spelt A → ℕ) → ℕ → List (Spelt A)
 NoKey key n [] earlier = earlier
 NoKey key n (e ∷ es) earlier = NoKey key n es (earlier × (n ≡ key e → ⊥))
 
--- where each entry of another key is passed over, a table without the key answers as the empty one
-pub none-found : {A : Type 0} (answer : List (Spelt A) → A) (key : Spelt A → ℕ) (n : ℕ)
+-- where each entry of another key is passed over, a table without the key answers as what follows it
+pub passed-over : {A : Type 0} (answer : List (Spelt A) → A) (key : Spelt A → ℕ) (n : ℕ)
     → ((e : Spelt A) (es : List (Spelt A)) → (n ≡ key e → ⊥) → answer (e ∷ es) ≡ answer es)
-    → (table : List (Spelt A)) {earlier : Type 0} → NoKey key n table earlier → (answer table ≡ answer []) × earlier
-none-found answer key n pass [] r = (refl, r)
-none-found answer key n pass (e ∷ es) r =
-    let later = none-found answer key n pass es r in
-    (pass e es (later .1 .1) ∙ later .0, later .1 .0)
+    → (table more : List (Spelt A)) {earlier : Type 0} → NoKey key n table earlier → (answer (table ++ more) ≡ answer more) × earlier
+passed-over answer key n pass [] more r = (refl, r)
+passed-over answer key n pass (e ∷ es) more r =
+    let later = passed-over answer key n pass es more r in
+    (pass e (es ++ more) (later .1 .1) ∙ later .0, later .1 .0)
 
 -- whether everything in a table passes a test
 unfoldable pub every : {A : Type 0} → (A → Bool) → List (Spelt A) → Bool

@@ -10,7 +10,7 @@ use Rattle.words.specs.Spellings.{Spelt, _means_, meaning}
 use Rattle.words.specs.declared.classes.ByteClass.{ByteClass}
 use Rattle.words.specs.declared.classes.ByteClass.the-variants as class
 use Rattle.words.specs.declared.classes.Run.{Run}
-use Rattle.words.specs.declared.classes.Run.the-variants.{Word, Hex, Unquoted}
+use Rattle.words.specs.declared.classes.Run.the-variants as run
 use Rattle.words.specs.declared.classes.SignFound.{SignFound}
 use Rattle.words.specs.declared.classes.SignFound.the-variants.{Is, None}
 use Rattle.whole.specs.declared.arithmetic.Operator.the-variants.{
@@ -109,8 +109,9 @@ ofWord class.Sign = false
 ofWord class.Quote = false
 ofWord class.Other = false
 
--- whether a byte belongs to a run: a word's, a hexadecimal number's, a quoted text's
+-- whether a byte belongs to a run: of blanks, a word's, a hexadecimal number's, a quoted text's
 abbrev pub passes : Run → ℕ → Bool
-passes Word b = ofWord (classOf b)
-passes Hex b = isHex b
-passes Unquoted b = not (is "\"" b)
+passes run.Blank b = is " " b
+passes run.Word b = ofWord (classOf b)
+passes run.Hex b = isHex b
+passes run.Unquoted b = not (is "\"" b)

@@ -1,5 +1,5 @@
 -- The reserved words: the capital words of the papers' statements, operators and functions, with or without `$`.
-use mathlib.Core.List.{List, [], _∷_, map}
+use mathlib.Core.List.{List, [], _∷_, _++_, map}
 use Prim.Native.Nat.{ℕ}
 use Rattle.words.specs.Spellings.{Spelt, _means_, meaning}
 use Rattle.words.specs.Classes.{capitalOf}
@@ -48,10 +48,11 @@ use Rattle.words.specs.declared.symbols.Word.the-variants.{
   Restore,
 }
 
--- each as it is spelt, without the `$` that the name of a function may end in
-unfoldable pub reserved : List (Spelt WordFound)
-reserved =
-    -- statements
+-- Each as it is spelt, without the `$` that the name of a function may end in.
+
+-- the words of statements, the second paper's last
+abbrev pub statementWords : List (Spelt WordFound)
+statementWords =
     ("LET" means Plain (Keyword Let))
     ∷ ("PRINT" means Plain (Keyword Print))
     ∷ ("IF" means Plain (Keyword If))
@@ -69,37 +70,57 @@ reserved =
     ∷ ("END" means Plain (Keyword End))
     ∷ ("STOP" means Plain (Keyword Stop))
     ∷ ("REM" means Remark)
-    -- operators
-    ∷ ("MOD" means Plain (Infix Modulo))
-    ∷ ("NOT" means Plain Not)
-    ∷ ("AND" means Plain (Infix And))
-    ∷ ("OR" means Plain (Infix Or))
-    ∷ ("XOR" means Plain (Infix Xor))
-    ∷ ("EQV" means Plain (Infix Eqv))
-    ∷ ("IMP" means Plain (Infix Imp))
-    -- functions
-    ∷ ("LEN" means Plain (Call Len))
-    ∷ ("ASC" means Plain (Call Asc))
-    ∷ ("CHR" means Dollared (Call Chr))
-    ∷ ("LEFT" means Dollared (Call Left))
-    ∷ ("RIGHT" means Dollared (Call Right))
-    ∷ ("MID" means Dollared (Call Mid))
-    ∷ ("SPACE" means Dollared (Call Space))
-    ∷ ("STRING" means Dollared (Call String))
-    ∷ ("INSTR" means Plain (Call Instr))
-    ∷ ("STR" means Dollared (Call Str))
-    ∷ ("HEX" means Dollared (Call Hex))
-    ∷ ("VAL" means Plain (Call Val))
-    ∷ ("ABS" means Plain (Call Abs))
-    ∷ ("SGN" means Plain (Call Sgn))
-    ∷ ("FRE" means Plain (Call Fre))
-    -- statements of the second paper
     ∷ ("WHILE" means Plain (Keyword While))
     ∷ ("WEND" means Plain (Keyword Wend))
     ∷ ("DATA" means Plain (Keyword Data))
     ∷ ("READ" means Plain (Keyword Read))
     ∷ ("RESTORE" means Plain (Keyword Restore))
     ∷ []
+
+abbrev pub operatorWords : List (Spelt WordFound)
+operatorWords =
+    ("MOD" means Plain (Infix Modulo))
+    ∷ ("NOT" means Plain Not)
+    ∷ ("AND" means Plain (Infix And))
+    ∷ ("OR" means Plain (Infix Or))
+    ∷ ("XOR" means Plain (Infix Xor))
+    ∷ ("EQV" means Plain (Infix Eqv))
+    ∷ ("IMP" means Plain (Infix Imp))
+    ∷ []
+
+-- functions without a `$`, and with it
+abbrev pub plainFunctions : List (Spelt WordFound)
+plainFunctions =
+    ("LEN" means Plain (Call Len))
+    ∷ ("ASC" means Plain (Call Asc))
+    ∷ ("INSTR" means Plain (Call Instr))
+    ∷ ("VAL" means Plain (Call Val))
+    ∷ ("ABS" means Plain (Call Abs))
+    ∷ ("SGN" means Plain (Call Sgn))
+    ∷ ("FRE" means Plain (Call Fre))
+    ∷ []
+
+abbrev pub dollarFunctions : List (Spelt WordFound)
+dollarFunctions =
+    ("CHR" means Dollared (Call Chr))
+    ∷ ("LEFT" means Dollared (Call Left))
+    ∷ ("RIGHT" means Dollared (Call Right))
+    ∷ ("MID" means Dollared (Call Mid))
+    ∷ ("SPACE" means Dollared (Call Space))
+    ∷ ("STRING" means Dollared (Call String))
+    ∷ ("STR" means Dollared (Call Str))
+    ∷ ("HEX" means Dollared (Call Hex))
+    ∷ []
+
+abbrev pub functionWords : List (Spelt WordFound)
+functionWords = plainFunctions ++ dollarFunctions
+
+-- the words of formulas
+abbrev pub formulaWords : List (Spelt WordFound)
+formulaWords = operatorWords ++ functionWords
+
+unfoldable pub reserved : List (Spelt WordFound)
+reserved = statementWords ++ formulaWords
 
 -- letters are folded to capitals; the whole word decides
 abbrev pub wordOf : List ℕ → WordFound

@@ -1,6 +1,7 @@
 // The classes of bytes, the signs, and runs of bytes that belong together.
 ghost use mathlib.Core.Path.{_≡_};
-ghost use lib.ListN.{length};
+ghost use Prim.Native.Nat.{_+_};
+ghost use lib.ListN.{length, getD, drop};
 ghost use Rattle.whole.specs.Bytes.{leading};
 ghost use Rattle.words.specs.Classes.{capitalOf, isLetter, signOf, classOf, isHex, passes};
 use crate::symbols::Sign;
@@ -24,11 +25,19 @@ pub enum SignFound {
     None,
 }
 
-// The runs of bytes that a token is made of.
+// The runs of bytes that a token is made of, and the blanks before it.
 pub enum Run {
+    Blank,
     Word,
     Hex,
     Unquoted,
+}
+
+// The byte at a place; 0 past the line's end.
+pub fn byte_at(line: &[u8], at: usize) -> u8
+    ensures { λ r. ⌜ r ≡ getD (now (line .entry)) at 0 ⌝ }
+{
+    if at < line.len() { line[at] } else { 0 }
 }
 
 // How far a small letter stands above its capital.
@@ -65,22 +74,23 @@ fn is_hex(byte: u8) -> bool
 pub fn sign_of(byte: u8) -> SignFound
     ensures { λ r. ⌜ r ≡ signOf byte ⌝ }
 {
-    match byte {
-        b'(' => SignFound::Is(Token::Symbol(Sign::Open)),
-        b')' => SignFound::Is(Token::Symbol(Sign::Close)),
-        b',' => SignFound::Is(Token::Symbol(Sign::Comma)),
-        b';' => SignFound::Is(Token::Symbol(Sign::Semicolon)),
-        b':' => SignFound::Is(Token::Symbol(Sign::Colon)),
-        b'?' => SignFound::Is(Token::Symbol(Sign::Question)),
-        b'=' => SignFound::Is(Token::Symbol(Sign::Equal)),
-        b'<' => SignFound::Is(Token::Infix(Operator::Less)),
-        b'>' => SignFound::Is(Token::Infix(Operator::Greater)),
-        b'+' => SignFound::Is(Token::Infix(Operator::Add)),
-        b'-' => SignFound::Is(Token::Symbol(Sign::Minus)),
-        b'*' => SignFound::Is(Token::Infix(Operator::Multiply)),
-        b'\\' => SignFound::Is(Token::Infix(Operator::Divide)),
-        _ => SignFound::None,
-    }
+    let token = match byte {
+        b'(' => Token::Symbol(Sign::Open),
+        b')' => Token::Symbol(Sign::Close),
+        b',' => Token::Symbol(Sign::Comma),
+        b';' => Token::Symbol(Sign::Semicolon),
+        b':' => Token::Symbol(Sign::Colon),
+        b'?' => Token::Symbol(Sign::Question),
+        b'=' => Token::Symbol(Sign::Equal),
+        b'<' => Token::Infix(Operator::Less),
+        b'>' => Token::Infix(Operator::Greater),
+        b'+' => Token::Infix(Operator::Add),
+        b'-' => Token::Symbol(Sign::Minus),
+        b'*' => Token::Infix(Operator::Multiply),
+        b'\\' => Token::Infix(Operator::Divide),
+        _ => return SignFound::None,
+    };
+    SignFound::Is(token)
 }
 
 // The class of a byte, by a ladder of tests.
@@ -110,6 +120,7 @@ fn in_run(run: Run, byte: u8) -> bool
     ensures { λ r. ⌜ r ≡ passes run byte ⌝ }
 {
     match run {
+        Run::Blank => byte == b' ',
         Run::Word => match class_of(byte) {
             ByteClass::Letter => true,
             ByteClass::Digit => true,
@@ -120,16 +131,16 @@ fn in_run(run: Run, byte: u8) -> bool
     }
 }
 
-// How many bytes of a run stand at the front.
-pub fn run_length(bytes: &[u8], run: Run) -> usize
-    ensures { λ r. ⌜ r ≡ length (leading (passes run) (now (bytes .entry))) ⌝ }
+// The place where the run that stands at a place ends.
+pub fn run_end(line: &[u8], at: usize, run: Run) -> usize
+    ensures { λ r. ⌜ r ≡ at + length (leading (passes run) (drop at (now (line .entry)))) ⌝ }
 {
-    let mut count = 0;
-    while count < bytes.len() {
-        if !in_run(run, bytes[count]) {
-            return count;
+    let mut end = at;
+    while end < line.len() {
+        if !in_run(run, line[end]) {
+            return end;
         }
-        count += 1;
+        end += 1;
     }
-    count
+    end
 }

@@ -1,6 +1,10 @@
 // Names of variables: where one stands, whose it is, and the characters that tell it from others.
 ghost use mathlib.Core.Path.{_≡_};
+ghost use Prim.Native.Nat.{_≤_};
+ghost use lib.ListN.{getD, take, drop};
+ghost use Rattle.words.specs.Classes.{capitalOf};
 ghost use Rattle.words.specs.Names.{nameBytes, tellingOf, alike};
+use crate::classes::byte_at;
 use crate::classes::capital;
 use crate::places::Place;
 
@@ -23,6 +27,20 @@ pub struct Telling {
     pub second: u8,
 }
 
+// A character of so many from a place on, in capitals; 0 where there is none.
+fn character(line: &[u8], at: usize, len: usize, index: usize) -> u8
+    requires { ⌜ index ≤ 1 ⌝ }
+    ensures { λ r. ⌜ r ≡ capitalOf (getD (take len (drop at (now (line .entry)))) index 0) ⌝ }
+{
+    if len <= index {
+        return 0;
+    }
+    if line.len() <= at {
+        return 0;
+    }
+    capital(byte_at(line, at + index))
+}
+
 // The characters that tell a name, in capitals.
 pub fn telling_of(line: &[u8], name: Name) -> Telling
     ensures { λ r. ⌜ r ≡ tellingOf (nameBytes (now (line .entry)) name) ⌝ }
@@ -30,19 +48,10 @@ pub fn telling_of(line: &[u8], name: Name) -> Telling
     let place = name.at;
     let at = place.0;
     let len = name.len;
-    if len == 0 || line.len() <= at {
-        return Telling {
-            first: 0,
-            second: 0,
-        };
+    Telling {
+        first: character(line, at, len, 0),
+        second: character(line, at, len, 1),
     }
-    let first = capital(line[at]);
-    let next = at + 1;
-    if len == 1 || line.len() <= next {
-        return Telling { first, second: 0 };
-    }
-    let second = capital(line[next]);
-    Telling { first, second }
 }
 
 // Whether two names are one variable's.

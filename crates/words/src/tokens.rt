@@ -2,16 +2,17 @@
 ghost use mathlib.Core.Path.{_≡_};
 ghost use mathlib.Core.Bool.{true};
 ghost use Prim.Native.Nat.{ℕ, _+_, _^_, _≤_, _<_};
-ghost use lib.ListN.{length, getD, drop};
+ghost use lib.ListN.{length, drop};
 ghost use Rattle.whole.specs.Bytes.{leading};
 ghost use Rattle.words.specs.Classes.{isHex, hexDigit, pairOf};
-ghost use Rattle.words.specs.Tokens.{_upto_, unreadable, markOf, nameToken, marked, wordToken, numberToken, hexFrom, hexToken, textToken, signToken, otherToken, tokenAt};
+ghost use Rattle.words.specs.Tokens.{_upto_, unreadable, markOf, kindOf, nameToken, marked, wordToken, numberToken, hexFrom, hexToken, textToken, signToken, otherToken, tokenAt};
 use crate::classes::ByteClass;
 use crate::classes::Run;
 use crate::classes::SignFound;
+use crate::classes::byte_at;
 use crate::classes::capital;
 use crate::classes::class_of;
-use crate::classes::run_length;
+use crate::classes::run_end;
 use crate::classes::sign_of;
 use crate::names::Kind;
 use crate::names::Name;
@@ -25,7 +26,6 @@ use crate::vocabulary::WordFound;
 use crate::vocabulary::word_of;
 use whole::Magnitude;
 use whole::Operator;
-use whole::leading_blanks;
 use whole::leading_digits;
 
 // What follows a word at once.
@@ -33,13 +33,6 @@ pub enum Mark {
     Dollar,
     Percent,
     Bare,
-}
-
-// The byte at a place; 0 past the line's end.
-fn byte_at(line: &[u8], at: usize) -> u8
-    ensures { λ r. ⌜ r ≡ getD (now (line .entry)) at 0 ⌝ }
-{
-    if at < line.len() { line[at] } else { 0 }
 }
 
 // A token that ends before a place.
@@ -74,11 +67,10 @@ fn mark_at(line: &[u8], at: usize) -> Mark
 fn plain(token: Token, mark: Mark, at: usize, after: usize) -> Scanned
     ensures { λ r. ⌜ ((n end : ℕ) → after ≡ at + n → r ≡ marked (WordFound.Plain token) mark at n end) ⌝ }
 {
-    match mark {
-        Mark::Bare => up_to(token, after),
-        Mark::Dollar => unreadable(at),
-        Mark::Percent => unreadable(at),
-    }
+    let Mark::Bare = mark else {
+        return unreadable(at);
+    };
+    up_to(token, after)
 }
 
 // A reserved word that its own `$` must follow.
@@ -86,29 +78,20 @@ fn dollared(token: Token, mark: Mark, at: usize, after: usize) -> Scanned
     requires { ⌜ after < 2 ^ 63 ⌝ }
     ensures { λ r. ⌜ ((n end : ℕ) → after ≡ at + n → r ≡ marked (WordFound.Dollared token) mark at n end) ⌝ }
 {
-    match mark {
-        Mark::Dollar => up_to(token, after + 1),
-        Mark::Percent => unreadable(at),
-        Mark::Bare => unreadable(at),
-    }
+    let Mark::Dollar = mark else {
+        return unreadable(at);
+    };
+    up_to(token, after + 1)
 }
 
 // A name of so many letters and digits, whose mark tells its kind.
-fn named(mark: Mark, at: usize, len: usize) -> Scanned
-    requires { ⌜ at + len < 2 ^ 63 ⌝ }
-    ensures { λ r. ⌜ ((end : ℕ) → r ≡ marked WordFound.Free mark at len end) ⌝ }
+fn name_token(mark: Mark, at: usize, len: usize) -> Token
+    ensures { λ r. ⌜ r ≡ nameToken at len (kindOf mark) ⌝ }
 {
-    let after = at + len;
-    match mark {
-        Mark::Dollar => up_to(name_token(at, len, Kind::Text), after + 1),
-        Mark::Percent => up_to(name_token(at, len, Kind::Whole), after + 1),
-        Mark::Bare => up_to(name_token(at, len, Kind::Whole), after),
-    }
-}
-
-fn name_token(at: usize, len: usize, kind: Kind) -> Token
-    ensures { λ r. ⌜ r ≡ nameToken at len kind ⌝ }
-{
+    let kind = match mark {
+        Mark::Dollar => Kind::Text,
+        _ => Kind::Whole,
+    };
     Token::Named(Name {
         at: Place(at),
         len,
@@ -116,20 +99,31 @@ fn name_token(at: usize, len: usize, kind: Kind) -> Token
     })
 }
 
+// A name, with the mark after it.
+fn named(mark: Mark, at: usize, after: usize) -> Scanned
+    requires { ⌜ (at ≤ after) × (after < 2 ^ 63) ⌝ }
+    ensures { λ r. ⌜ ((n end : ℕ) → after ≡ at + n → r ≡ marked WordFound.Free mark at n end) ⌝ }
+{
+    let token = name_token(mark, at, after - at);
+    let Mark::Bare = mark else {
+        return up_to(token, after + 1);
+    };
+    up_to(token, after)
+}
+
 // A run of letters and digits that begins with a letter is one word.
 fn word_at(line: &[u8], at: usize) -> Scanned
     requires { ⌜ at < length (now line) ⌝ }
     ensures { λ r. ⌜ r ≡ wordToken (length (now (line .entry))) at (drop at (now (line .entry))) ⌝ }
 {
-    let len = run_length(&line[at..], Run::Word);
-    let after = at + len;
+    let after = run_end(line, at, Run::Word);
     let found = word_of(&line[at..after]);
     let mark = mark_at(line, after);
     match found {
         WordFound::Plain(token) => plain(token, mark, at, after),
         WordFound::Dollared(token) => dollared(token, mark, at, after),
         WordFound::Remark => up_to(Token::Keyword(Word::Rem), line.len()),
-        WordFound::Free => named(mark, at, len),
+        WordFound::Free => named(mark, at, after),
     }
 }
 
@@ -161,8 +155,7 @@ fn hex_digit(byte: u8) -> u16
     if byte <= b'9' {
         return (byte - b'0') as u16;
     }
-    let letter = capital(byte);
-    (letter - b'A') as u16 + 10
+    (capital(byte) - b'A') as u16 + 10
 }
 
 // Up to four hexadecimal digits, read as 16 bits.
@@ -186,16 +179,15 @@ fn hex_at(line: &[u8], at: usize) -> Scanned
     requires { ⌜ at < length (now line) ⌝ }
     ensures { λ r. ⌜ r ≡ hexToken at (drop at (now (line .entry))) ⌝ }
 {
-    let letter = capital(byte_at(line, at + 1));
-    if letter != b'H' {
+    if capital(byte_at(line, at + 1)) != b'H' {
         return unreadable(at);
     }
     let first = at + 2;
-    let count = run_length(&line[first..], Run::Hex);
+    let next = run_end(line, first, Run::Hex);
+    let count = next - first;
     if count == 0 || MOST_HEX_DIGITS < count {
         return unreadable(at);
     }
-    let next = first + count;
     let value = hex_value(&line[first..next]);
     up_to(Token::Hexadecimal(value), next)
 }
@@ -206,14 +198,13 @@ fn text_at(line: &[u8], at: usize) -> Scanned
     ensures { λ r. ⌜ r ≡ textToken at (drop at (now (line .entry))) ⌝ }
 {
     let first = at + 1;
-    let len = run_length(&line[first..], Run::Unquoted);
-    let close = first + len;
+    let close = run_end(line, first, Run::Unquoted);
     if line.len() <= close {
         return unreadable(at);
     }
     let quotation = Quotation {
         at: Place(first),
-        len,
+        len: close - first,
     };
     up_to(Token::Quoted(quotation), close + 1)
 }
@@ -222,21 +213,19 @@ fn text_at(line: &[u8], at: usize) -> Scanned
 fn pair_of(first: u8, second: u8) -> SignFound
     ensures { λ r. ⌜ r ≡ pairOf first second ⌝ }
 {
-    if first == b'<' {
-        if second == b'>' {
-            return SignFound::Is(Token::Infix(Operator::Unequal));
-        }
-        if second == b'=' {
-            return SignFound::Is(Token::Infix(Operator::AtMost));
-        }
-        return SignFound::None;
-    }
-    if first == b'>' {
-        if second == b'=' {
-            return SignFound::Is(Token::Infix(Operator::AtLeast));
-        }
-    }
-    SignFound::None
+    let operator = match first {
+        b'<' => match second {
+            b'>' => Operator::Unequal,
+            b'=' => Operator::AtMost,
+            _ => return SignFound::None,
+        },
+        b'>' => match second {
+            b'=' => Operator::AtLeast,
+            _ => return SignFound::None,
+        },
+        _ => return SignFound::None,
+    };
+    SignFound::Is(Token::Infix(operator))
 }
 
 // A comparison of two signs, or else a sign alone.
@@ -245,16 +234,15 @@ fn sign_at(line: &[u8], at: usize) -> Scanned
     ensures { λ r. ⌜ r ≡ signToken at (drop at (now (line .entry))) ⌝ }
 {
     let first = line[at];
-    let second = byte_at(line, at + 1);
-    let pair = pair_of(first, second);
+    let pair = pair_of(first, byte_at(line, at + 1));
     if let SignFound::Is(token) = pair {
         return up_to(token, at + 2);
     }
     let one = sign_of(first);
-    match one {
-        SignFound::Is(token) => up_to(token, at + 1),
-        SignFound::None => unreadable(at),
-    }
+    let SignFound::Is(token) = one else {
+        return unreadable(at);
+    };
+    up_to(token, at + 1)
 }
 
 // What neither a letter, a digit, a quote nor a sign begins.
@@ -273,11 +261,7 @@ fn other_at(line: &[u8], at: usize) -> Scanned
 pub fn token_at(line: &[u8], at: Place) -> Scanned
     ensures { λ r. ⌜ r ≡ tokenAt (now (line .entry)) at ⌝ }
 {
-    let from = at.0;
-    if line.len() <= from {
-        return up_to(Token::EndOfLine, line.len());
-    }
-    let start = from + leading_blanks(&line[from..]);
+    let start = run_end(line, at.0, Run::Blank);
     if line.len() <= start {
         return up_to(Token::EndOfLine, line.len());
     }

@@ -3,8 +3,8 @@ ghost use mathlib.Core.Path.{_≡_};
 ghost use mathlib.Core.List.{map};
 ghost use Prim.Native.Nat.{_≤_};
 ghost use Rattle.words.specs.Classes.{capitalOf};
-ghost use Rattle.words.specs.Vocabulary.{wordOf};
-ghost use Rattle.words.specs.Packed.{packed, unpacked};
+ghost use Rattle.words.specs.Vocabulary.{formulaWords, functionWords, dollarFunctions, wordOf};
+ghost use Rattle.words.specs.Packed.{packed, unpacked, unpackedIn};
 use crate::classes::capital;
 use crate::symbols::Function;
 use crate::symbols::Token;
@@ -128,57 +128,88 @@ fn pack(letters: &[u8]) -> u64
     number
 }
 
-// The reserved word that is packed so.
+// The reserved word that is packed so: a statement's, or else a formula's. A function for each kind keeps the proofs small.
 fn unpack(number: u64) -> WordFound
     ensures { λ r. ⌜ r ≡ unpacked number ⌝ }
 {
-    match number {
-        LET => WordFound::Plain(Token::Keyword(Word::Let)),
-        PRINT => WordFound::Plain(Token::Keyword(Word::Print)),
-        IF => WordFound::Plain(Token::Keyword(Word::If)),
-        THEN => WordFound::Plain(Token::Keyword(Word::Then)),
-        ELSE => WordFound::Plain(Token::Keyword(Word::Else)),
-        GOTO => WordFound::Plain(Token::Keyword(Word::Goto)),
-        GOSUB => WordFound::Plain(Token::Keyword(Word::Gosub)),
-        RETURN => WordFound::Plain(Token::Keyword(Word::Return)),
-        FOR => WordFound::Plain(Token::Keyword(Word::For)),
-        TO => WordFound::Plain(Token::Keyword(Word::To)),
-        STEP => WordFound::Plain(Token::Keyword(Word::Step)),
-        NEXT => WordFound::Plain(Token::Keyword(Word::Next)),
-        LINE => WordFound::Plain(Token::Keyword(Word::Line)),
-        INPUT => WordFound::Plain(Token::Keyword(Word::Input)),
-        END => WordFound::Plain(Token::Keyword(Word::End)),
-        STOP => WordFound::Plain(Token::Keyword(Word::Stop)),
-        REM => WordFound::Remark,
-        MOD => WordFound::Plain(Token::Infix(Operator::Modulo)),
-        NOT => WordFound::Plain(Token::Not),
-        AND => WordFound::Plain(Token::Infix(Operator::And)),
-        OR => WordFound::Plain(Token::Infix(Operator::Or)),
-        XOR => WordFound::Plain(Token::Infix(Operator::Xor)),
-        EQV => WordFound::Plain(Token::Infix(Operator::Eqv)),
-        IMP => WordFound::Plain(Token::Infix(Operator::Imp)),
-        LEN => WordFound::Plain(Token::Call(Function::Len)),
-        ASC => WordFound::Plain(Token::Call(Function::Asc)),
-        CHR => WordFound::Dollared(Token::Call(Function::Chr)),
-        LEFT => WordFound::Dollared(Token::Call(Function::Left)),
-        RIGHT => WordFound::Dollared(Token::Call(Function::Right)),
-        MID => WordFound::Dollared(Token::Call(Function::Mid)),
-        SPACE => WordFound::Dollared(Token::Call(Function::Space)),
-        STRING => WordFound::Dollared(Token::Call(Function::String)),
-        INSTR => WordFound::Plain(Token::Call(Function::Instr)),
-        STR => WordFound::Dollared(Token::Call(Function::Str)),
-        HEX => WordFound::Dollared(Token::Call(Function::Hex)),
-        VAL => WordFound::Plain(Token::Call(Function::Val)),
-        ABS => WordFound::Plain(Token::Call(Function::Abs)),
-        SGN => WordFound::Plain(Token::Call(Function::Sgn)),
-        FRE => WordFound::Plain(Token::Call(Function::Fre)),
-        WHILE => WordFound::Plain(Token::Keyword(Word::While)),
-        WEND => WordFound::Plain(Token::Keyword(Word::Wend)),
-        DATA => WordFound::Plain(Token::Keyword(Word::Data)),
-        READ => WordFound::Plain(Token::Keyword(Word::Read)),
-        RESTORE => WordFound::Plain(Token::Keyword(Word::Restore)),
-        _ => WordFound::Free,
-    }
+    let word = match number {
+        LET => Word::Let,
+        PRINT => Word::Print,
+        IF => Word::If,
+        THEN => Word::Then,
+        ELSE => Word::Else,
+        GOTO => Word::Goto,
+        GOSUB => Word::Gosub,
+        RETURN => Word::Return,
+        FOR => Word::For,
+        TO => Word::To,
+        STEP => Word::Step,
+        NEXT => Word::Next,
+        LINE => Word::Line,
+        INPUT => Word::Input,
+        END => Word::End,
+        STOP => Word::Stop,
+        REM => return WordFound::Remark,
+        WHILE => Word::While,
+        WEND => Word::Wend,
+        DATA => Word::Data,
+        READ => Word::Read,
+        RESTORE => Word::Restore,
+        _ => return formula_word(number),
+    };
+    WordFound::Plain(Token::Keyword(word))
+}
+
+// The word of a formula that is packed so: an operator, or else a function.
+fn formula_word(number: u64) -> WordFound
+    ensures { λ r. ⌜ r ≡ unpackedIn formulaWords number ⌝ }
+{
+    let operator = match number {
+        MOD => Operator::Modulo,
+        NOT => return WordFound::Plain(Token::Not),
+        AND => Operator::And,
+        OR => Operator::Or,
+        XOR => Operator::Xor,
+        EQV => Operator::Eqv,
+        IMP => Operator::Imp,
+        _ => return function_word(number),
+    };
+    WordFound::Plain(Token::Infix(operator))
+}
+
+// The function that is packed so: one without a `$`, or else one with it.
+fn function_word(number: u64) -> WordFound
+    ensures { λ r. ⌜ r ≡ unpackedIn functionWords number ⌝ }
+{
+    let function = match number {
+        LEN => Function::Len,
+        ASC => Function::Asc,
+        INSTR => Function::Instr,
+        VAL => Function::Val,
+        ABS => Function::Abs,
+        SGN => Function::Sgn,
+        FRE => Function::Fre,
+        _ => return dollar_function(number),
+    };
+    WordFound::Plain(Token::Call(function))
+}
+
+// The function with a `$` that is packed so.
+fn dollar_function(number: u64) -> WordFound
+    ensures { λ r. ⌜ r ≡ unpackedIn dollarFunctions number ⌝ }
+{
+    let function = match number {
+        CHR => Function::Chr,
+        LEFT => Function::Left,
+        RIGHT => Function::Right,
+        MID => Function::Mid,
+        SPACE => Function::Space,
+        STRING => Function::String,
+        STR => Function::Str,
+        HEX => Function::Hex,
+        _ => return WordFound::Free,
+    };
+    WordFound::Dollared(Token::Call(function))
 }
 
 // The reserved word that letters and digits spell, in capitals or not.
@@ -188,6 +219,5 @@ pub fn word_of(letters: &[u8]) -> WordFound
     if LONGEST < letters.len() {
         return WordFound::Free;
     }
-    let number = pack(letters);
-    unpack(number)
+    unpack(pack(letters))
 }

@@ -5,11 +5,11 @@ use Prim.Native.Nat.{ℕ}
 use native.Mathlib.Omega.{arith}
 use borrow.Author.Needs.{needs}
 use Rattle.loader.specs.Lines.{linesOf}
-use Rattle.reader.specs.Trees.{Part}
-use Rattle.reader.specs.Statements.{reads, readLine}
-use Rattle.reader.specs.Lines.{statementsOf}
+use Rattle.grammar.specs.Trees.{Part}
+use Rattle.statements.specs.Statements.{reads, readLine}
+use Rattle.statements.specs.Parts.{statementsOf}
 use Rattle.reader.specs.declared.lines.Follow.{Follow}
-use Rattle.reader.proofs.Parts.{weightAt}
+use Rattle.statements.proofs.Parts.{weightAt}
 use Rattle.reader.proofs.Walks.{Lighter, walk-lighter}
 use Rattle.checker.specs.Check.{anyMissing}
 use Rattle.checker.proofs.Missing.{Noticed, line-noticed, Later, noticed-here, noticed-later}

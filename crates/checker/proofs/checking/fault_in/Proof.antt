@@ -5,7 +5,7 @@ use borrow.Author.Needs.{needs}
 use borrow.Author.Tests.{not-true, not-false}
 use Rattle.whole.specs.declared.errors.Error.the-variants.{UndefinedLine}
 use Rattle.loader.specs.Lines.{linesOf}
-use Rattle.reader.specs.Statements.{readLine}
+use Rattle.statements.specs.Statements.{readLine}
 use Rattle.checker.specs.Check.{faultIn}
 use Rattle.checker.specs.declared.checking.Soundness.the-variants.{Sound, Fault}
 use Rattle.checker.proofs.Faults.{fault-by, fault-read}

@@ -9,11 +9,11 @@ use borrow.Fn.Kinds.{In}
 use borrow.Fn.PlainCycle.{Measures, is, falls, and}
 use Rattle.words.specs.declared.symbols.Scanned.{Scanned}
 use Rattle.words.proofs.token_at.Reads as token-at-reads
-use Rattle.reader.specs.Trees.{Formula, none}
-use Rattle.reader.specs.Formulas.{good}
-use Rattle.reader.specs.Answers.{weight, formulaIn, argumentsOf}
-use Rattle.reader.proofs.Steps.{level-small, operand-other, operand-no-sign}
-use Rattle.reader.proofs.level_of.Reads as level-of-reads
+use Rattle.grammar.specs.Trees.{Formula, none}
+use Rattle.grammar.specs.Formulas.{good}
+use Rattle.expressions.specs.Answers.{weight, formulaIn, argumentsOf}
+use Rattle.expressions.proofs.Steps.{level-small, operand-other, operand-no-sign}
+use Rattle.grammar.proofs.level_of.Reads as level-of-reads
 use Rattle.formulas.proofs.Climbing.{
   heft,
   formula-operand,
@@ -59,18 +59,18 @@ use Rattle.formulas.proofs.Listing.{
   listing-lightens,
   listing-goes,
 }
-use Rattle.formulas.proofs.arguments.given_length.Reads as given-length-reads
-use Rattle.formulas.proofs.arguments.has_third.Reads as has-third-reads
-use Rattle.formulas.proofs.arguments.take_argument.Reads as take-argument-reads
-use Rattle.formulas.proofs.functions.called.Reads as called-reads
+use Rattle.functions.proofs.given_length.Reads as given-length-reads
+use Rattle.formulas.proofs.evaluating.has_third.Reads as has-third-reads
+use Rattle.functions.proofs.take_argument.Reads as take-argument-reads
+use Rattle.functions.proofs.called.Reads as called-reads
 use Rattle.formulas.proofs.operands.closed.Reads as closed-reads
 use Rattle.formulas.proofs.operands.complemented.Reads as complemented-reads
 use Rattle.formulas.proofs.operands.named.Reads as named-reads
 use Rattle.formulas.proofs.operands.negated.Reads as negated-reads
 use Rattle.formulas.proofs.operands.quoted.Reads as quoted-reads
-use Rattle.formulas.proofs.operators.joined.Reads as joined-reads
-use Rattle.formulas.proofs.operators.turn_of.Reads as turn-of-reads
-use Rattle.formulas.proofs.values.text_length.Reads as text-length-reads
+use Rattle.operators.proofs.joined.Reads as joined-reads
+use Rattle.operators.proofs.turn_of.Reads as turn-of-reads
+use Rattle.variables.proofs.text_length.Reads as text-length-reads
 use Rattle.formulas.proofs.evaluating.arguments.Reads as arguments
 use Rattle.formulas.proofs.evaluating.arguments.Kinds as arguments-kinds
 use Rattle.formulas.proofs.evaluating.formula.Reads as formula

@@ -1,7 +1,7 @@
 -- What is no whole number is a text or an error.
 use mathlib.Core.Path.{_∙_}
 use Rattle.whole.specs.Whole.{flipped}
-use Rattle.formulas.specs.declared.values.Worked.the-variants as worked
+use Rattle.variables.specs.declared.values.Worked.the-variants as worked
 use Rattle.formulas.proofs.Making.{no-whole}
 use borrow.Author.Needs.{needs}
 use Rattle.formulas.proofs.operands.complemented.Statement.{statement}

@@ -1,9 +1,9 @@
 -- What stands in the entry of a name is what the variables have of it.
 use mathlib.Core.Path.{_≡_}
-use Rattle.formulas.specs.Variables.{bytesOf}
-use Rattle.formulas.specs.Memory.{bytesAt}
+use Rattle.variables.specs.Variables.{bytesOf}
+use Rattle.variables.specs.Memory.{bytesAt}
 use Rattle.words.specs.Names.{nameBytes, tellingOf}
-use Rattle.formulas.proofs.Looking.{found-below, looked-word, looked-bytes}
+use Rattle.variables.proofs.Looking.{found-below, looked-word, looked-bytes}
 use Rattle.formulas.proofs.Making.{number-made}
 use borrow.Author.Needs.{needs}
 use Rattle.formulas.proofs.operands.named.Statement.{statement}

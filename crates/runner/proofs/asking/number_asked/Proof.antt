@@ -2,7 +2,7 @@
 use mathlib.Core.Path.{sym, ap, _∙_}
 use native.Mathlib.Omega.{arith}
 use borrow.Author.Needs.{needs}
-use Rattle.formulas.proofs.Lookups.{slot-word, no-slot-word, slot-below}
+use Rattle.variables.proofs.Lookups.{slot-word, no-slot-word, slot-below}
 use Rattle.runner.specs.declared.asking.Asked.the-variants.{Whole}
 use Rattle.runner.proofs.asking.number_asked.Statement.{statement}
 use Rattle.runner.proofs.asking.number_asked.Tie as tie

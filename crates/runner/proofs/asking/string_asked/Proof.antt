@@ -2,7 +2,7 @@
 use mathlib.Core.Path.{sym, _∙_}
 use native.Mathlib.Omega.{arith}
 use borrow.Author.Needs.{needs}
-use Rattle.formulas.proofs.Lookups.{slot-below}
+use Rattle.variables.proofs.Lookups.{slot-below}
 use Rattle.runner.proofs.Answering.{string-unset, string-outside, string-inside}
 use Rattle.runner.proofs.asking.string_asked.Statement.{statement}
 use Rattle.runner.proofs.asking.string_asked.Tie as tie

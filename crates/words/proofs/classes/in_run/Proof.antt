@@ -24,23 +24,25 @@ no-word Other h = refl
 late : (t : ℕ) → (t ≡ 2) ⊎ ((t ≡ 3) ⊎ ((t ≡ 4) ⊎ (t ≡ 5))) → 2 ≤ t
 late t = ⊎-elim (λ e. omega arith) (⊎-elim (λ e. omega arith) (⊎-elim (λ e. omega arith) (λ e. omega arith)))
 
-returns-3 : tie.Need-returns-3
-returns-3 c =
-    rw (c .before .before .enum-told .given .1, ← (c .before .class-of .ensures)) (no-word (c .before .class-of .result) (late _ (c .match2 .keys3)))
+returns-4 : tie.Need-returns-4
+returns-4 c =
+    rw (c .before .before .enum-told2 .given .1, ← (c .before .class-of .ensures)) (no-word (c .before .class-of .result) (late _ (c .match2 .keys3)))
 
 pub in-run-spec : {M : Type 1} → statement M
 in-run-spec =
     tie.close
     (tie.spec
     (λ c. search needs)
-    (λ c κs. search needs)
-    (λ c. search needs)
-    (λ c. search needs)
     (λ c. search needs)
     (λ c κs. search needs)
     (λ c. search needs)
-    (λ c. let k = c .before .before in rw (k .before .enum-told .given .1, ← (k .class-of .ensures), c .enum-told2 .given .1))
-    (λ c. let k = c .before .before in rw (k .before .enum-told .given .1, ← (k .class-of .ensures), c .enum-told3 .given .1))
-    returns-3
-    (λ c. rw (c .before .enum-told4 .given .1) (c .is-hex .ensures))
-    (λ c. rw (c .enum-told5 .given .1)))
+    (λ c. search needs)
+    (λ c. search needs)
+    (λ c κs. search needs)
+    (λ c. search needs)
+    (λ c. rw (c .enum-told .given .1))
+    (λ c. let k = c .before .before in rw (k .before .enum-told2 .given .1, ← (k .class-of .ensures), c .enum-told3 .given .1))
+    (λ c. let k = c .before .before in rw (k .before .enum-told2 .given .1, ← (k .class-of .ensures), c .enum-told4 .given .1))
+    returns-4
+    (λ c. rw (c .before .enum-told5 .given .1) (c .is-hex .ensures))
+    (λ c. rw (c .enum-told6 .given .1)))

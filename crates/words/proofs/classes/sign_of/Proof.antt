@@ -9,7 +9,7 @@ use Rattle.words.specs.Spellings.{Spelt, sameBytes, meaning}
 use Rattle.words.specs.Classes.{signs}
 use Rattle.words.specs.declared.classes.SignFound.{SignFound}
 use Rattle.words.specs.declared.classes.SignFound.the-variants.{None}
-use Rattle.words.proofs.Tables.{none-found}
+use Rattle.words.proofs.Tables.{passed-over}
 use Rattle.words.proofs.classes.sign_of.Statement.{statement}
 use Rattle.words.proofs.classes.sign_of.Tie as tie
 
@@ -29,6 +29,7 @@ unfolding meaning sameBytes signs bytes first
 sign-of-spec =
     tie.close
     (tie.spec
+    (λ c. sym (passed-over (λ t. meaning t None (c .before .args .byte ∷ [])) first (c .before .args .byte) (λ e. passed _ (e .spelling) (e .thing)) signs [] (c .match .rest) .0))
     (λ c. simp (c .match .keys1))
     (λ c. simp (c .match .keys2))
     (λ c. simp (c .match .keys3))
@@ -41,5 +42,4 @@ sign-of-spec =
     (λ c. simp (c .match .keys10))
     (λ c. simp (c .match .keys11))
     (λ c. simp (c .match .keys12))
-    (λ c. simp (c .match .keys13))
-    (λ c. sym (none-found (λ t. meaning t None (c .before .args .byte ∷ [])) first (c .before .args .byte) (λ e. passed _ (e .spelling) (e .thing)) signs (c .match .rest) .0)))
+    (λ c. simp (c .match .keys13)))

@@ -1,7 +1,7 @@
 -- What `leading_digits` reads is the number's digits; a value above 65535 is above every limit.
 use mathlib.Core.Path.{_≡_, ap, _∙_}
 use mathlib.Core.List.{List}
-use Prim.Native.Nat.{ℕ}
+use Prim.Native.Nat.{ℕ, _+_}
 use native.Mathlib.Omega.{arith}
 use borrow.Author.Needs.{needs}
 use borrow.Author.Tests.{le-leb, lt-leb}
@@ -35,7 +35,7 @@ module _ (c : tie.After-leading-digits) where
   worth = ap (λ d. d .magnitude) read
 
 add-next : tie.Need-add-next
-add-next c = let d = c .before in omega (arith, run-within isDigit (line d) (at d) (omega arith) (count d))
+add-next c = let d = c .before in omega (arith, run-within isDigit (line d) (at d) (ap (λ n. at d + n) (count d)) (omega arith))
 
 returns : tie.Need-returns
 unfolding numberToken

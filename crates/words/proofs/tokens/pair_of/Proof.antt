@@ -11,9 +11,9 @@ unfolding bytes sameBytes meaning pairs
 pair-of-spec =
     tie.close
     (tie.spec
-    (λ c. simp (c .before .if1 .taken, c .if2 .taken))
-    (λ c. simp (c .before .before .if1 .taken, c .if3 .taken))
-    (λ c. simp (c .before .before .if1 .taken, ne-eqb _ _ (c .before .if2 .left), ne-eqb _ _ (c .if3 .left)))
-    (λ c. simp (c .before .if4 .taken, c .if5 .taken))
-    (λ c. simp (c .before .if4 .taken, ne-eqb _ _ (c .if5 .left)))
-    (λ c. simp (ne-eqb _ _ (c .before .if1 .left), ne-eqb _ _ (c .if4 .left))))
+    (λ c. simp (c .before .match .keys1, ne-eqb _ _ (c .match2 .rest .0 .1), ne-eqb _ _ (c .match2 .rest .1)))
+    (λ c. simp (c .before .match .keys2, ne-eqb _ _ (c .match3 .rest .1)))
+    (λ c. simp (ne-eqb _ _ (c .match .rest .0 .1), ne-eqb _ _ (c .match .rest .1)))
+    (λ c. simp (c .before .match .keys1, c .match2 .keys1))
+    (λ c. simp (c .before .match .keys1, c .match2 .keys2))
+    (λ c. simp (c .before .match .keys2, c .match3 .keys1)))

@@ -1,5 +1,6 @@
--- Each arm is a clause of `marked`.
+-- Both ways are clauses of `marked`.
 use borrow.Author.Needs.{needs}
+use Rattle.words.proofs.Marks.{not-plain}
 use Rattle.words.proofs.tokens.plain.Statement.{statement}
 use Rattle.words.proofs.tokens.plain.Tie as tie
 
@@ -9,10 +10,6 @@ plain-spec =
     (tie.spec
     (λ c. search needs)
     (λ c κs. search needs)
-    (λ c. search needs)
+    (λ c. λ n end e. rw (not-plain _ _ _ n end (c .before .match .keys2)) (c .unreadable .ensures))
     (λ c κs. search needs)
-    (λ c. search needs)
-    (λ c κs. search needs)
-    (λ c. λ n end e. rw (c .before .enum-told .given .1, ← e) (c .up-to .ensures))
-    (λ c. λ n end e. rw (c .before .enum-told2 .given .1) (c .unreadable .ensures))
-    (λ c. λ n end e. rw (c .before .enum-told3 .given .1) (c .unreadable2 .ensures)))
+    (λ c. λ n end e. rw (c .before .enum-told .given .1, ← e) (c .up-to .ensures)))

@@ -15,14 +15,14 @@ returns c =
 returns-2 : tie.Need-returns-2
 unfolding signToken
 returns-2 c =
-    let t = c .before .before .before .before .before in let p = t .before .before in
-    rw (front, getD-drop, ← (p .before .byte-at .ensures), ← (p .pair-of .ensures), t .enum-told .given .1, ← (c .before .before .before .before .sign-of .ensures), c .before .before .one .given .1) (c .up-to2 .ensures)
+    let t = c .before .before .before .before in let p = t .before .before in
+    rw (front, getD-drop, ← (p .before .byte-at .ensures), ← (p .pair-of .ensures), t .enum-told .given .1, ← (c .before .before .before .sign-of .ensures), c .before .enum-told2 .given .1) (c .unreadable .ensures)
 
 returns-3 : tie.Need-returns-3
 unfolding signToken
 returns-3 c =
-    let t = c .before .before .before .before in let p = t .before .before in
-    rw (front, getD-drop, ← (p .before .byte-at .ensures), ← (p .pair-of .ensures), t .enum-told .given .1, ← (c .before .before .before .sign-of .ensures), c .before .enum-told2 .given .1) (c .unreadable .ensures)
+    let t = c .before .before .before .before .before in let p = t .before .before in
+    rw (front, getD-drop, ← (p .before .byte-at .ensures), ← (p .pair-of .ensures), t .enum-told .given .1, ← (c .before .before .before .before .sign-of .ensures), c .before .before .one .given .1) (c .up-to2 .ensures)
 
 pub sign-at-spec : {M : Type 1} → statement M
 sign-at-spec =
@@ -41,7 +41,7 @@ sign-at-spec =
     (λ c. search needs)
     (λ c. search needs)
     (λ c κs. search needs)
+    returns-2
     (λ c. search needs)
     (λ c κs. search needs)
-    returns-2
     returns-3)

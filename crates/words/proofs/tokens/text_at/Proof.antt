@@ -1,7 +1,7 @@
--- The run between the quotes ends within the line; the text is closed where it ends before it.
+-- The text is closed where the run between the quotes ends before the line does.
 use mathlib.Core.Path.{_≡_}
 use mathlib.Core.List.{List}
-use Prim.Native.Nat.{ℕ, _+_}
+use Prim.Native.Nat.{ℕ, _+_, _-_}
 use native.Mathlib.Omega.{arith}
 use borrow.Author.Needs.{needs}
 use borrow.Author.Tests.{lt-ltb, le-ltb}
@@ -11,44 +11,46 @@ use Rattle.whole.specs.Bytes.{leading}
 use Rattle.words.specs.Classes.{passes}
 use Rattle.words.specs.Tokens.{textToken}
 use Rattle.words.specs.declared.classes.Run.the-variants.{Unquoted}
-use Rattle.words.proofs.Runs.{run-from, run-within}
 use Rattle.words.proofs.tokens.text_at.Statement.{statement}
 use Rattle.words.proofs.tokens.text_at.Tie as tie
 
-module _ (c : tie.After-run-length) where
+module _ (c : tie.After-run-end) where
   abbrev line : List ℕ
-  line = c .before .before .before .args .line .now
+  line = c .before .before .args .line .now
 
   abbrev at : ℕ
-  at = c .before .before .before .args .at
+  at = c .before .before .args .at
 
-  inner : c .run-length .result ≡ length (leading (passes Unquoted) (drop (at + 1) line))
-  inner = run-from (passes Unquoted) line (at + 1) (c .run-length .ensures)
+  abbrev len : ℕ
+  len = c .run-end .result - (at + 1)
+
+  inner : len ≡ length (leading (passes Unquoted) (drop (at + 1) line))
+  inner = omega (arith, c .run-end .ensures)
+
+  close : at + 1 + len ≡ c .run-end .result
+  close = omega (arith, c .run-end .ensures)
 
 returns : tie.Need-returns
 unfolding textToken
 returns c =
     let r = c .before .before in
-    rw (drop-drop, ← (inner r), le-ltb (1 + r .run-length .result) (length (drop (at r) (line r))) (omega (arith, length-drop (at r) (line r)))) (c .unreadable .ensures)
+    rw (drop-drop, ← (inner r), le-ltb (1 + len r) (length (drop (at r) (line r))) (omega (arith, close r, length-drop (at r) (line r)))) (c .unreadable .ensures)
 
 returns-2 : tie.Need-returns-2
 unfolding textToken
 returns-2 c =
     let r = c .before .before in
-    rw (drop-drop, ← (inner r), lt-ltb (1 + r .run-length .result) (length (drop (at r) (line r))) (omega (arith, length-drop (at r) (line r)))) (c .up-to .ensures)
+    rw (drop-drop, ← (inner r), lt-ltb (1 + len r) (length (drop (at r) (line r))) (omega (arith, close r, length-drop (at r) (line r))), close r) (c .up-to .ensures)
 
 pub text-at-spec : {M : Type 1} → statement M
 text-at-spec =
     tie.close
     (tie.spec
     (λ c. search needs)
-    (λ c. search needs)
-    (λ c. search needs)
-    (λ c. search needs)
     (λ c κs. search needs)
-    (λ c. omega (arith, run-within (passes Unquoted) (line c) (at c + 1) (omega arith) (inner c)))
     (λ c κs. search needs)
     returns
+    (λ c. omega (arith, close (c .before)))
     (λ c. search needs)
     (λ c κs. search needs)
     returns-2)

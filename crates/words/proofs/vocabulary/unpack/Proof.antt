@@ -1,10 +1,9 @@
--- Each arm is an entry of the table; in the last, the number is none of theirs.
-use borrow.Author.Tests.{ne-eqb}
-use mathlib.Core.Path.{sym}
+-- Each arm is a word of the table; in the last, the number is none of theirs.
+use borrow.Author.Needs.{needs}
 use Rattle.whole.specs.Bytes.{bytes}
-use Rattle.words.specs.Vocabulary.{reserved}
+use Rattle.words.specs.Vocabulary.{statementWords, formulaWords, reserved}
 use Rattle.words.specs.Packed.{packed, unpackedIn}
-use Rattle.words.proofs.Tables.{none-found}
+use Rattle.words.proofs.Packing.{none-packed}
 use Rattle.words.proofs.vocabulary.unpack.Statement.{statement}
 use Rattle.words.proofs.vocabulary.unpack.Tie as tie
 
@@ -13,6 +12,9 @@ unfolding packed unpackedIn reserved bytes
 unpack-spec =
     tie.close
     (tie.spec
+    (λ c. rw (c .match .keys17))
+    (λ c κs. search needs)
+    (λ c. rw (none-packed _ statementWords formulaWords (c .before .match .rest)) (c .formula-word .ensures))
     (λ c. rw (c .match .keys1))
     (λ c. rw (c .match .keys2))
     (λ c. rw (c .match .keys3))
@@ -29,34 +31,8 @@ unpack-spec =
     (λ c. rw (c .match .keys14))
     (λ c. rw (c .match .keys15))
     (λ c. rw (c .match .keys16))
-    (λ c. rw (c .match .keys17))
     (λ c. rw (c .match .keys18))
     (λ c. rw (c .match .keys19))
     (λ c. rw (c .match .keys20))
     (λ c. rw (c .match .keys21))
-    (λ c. rw (c .match .keys22))
-    (λ c. rw (c .match .keys23))
-    (λ c. rw (c .match .keys24))
-    (λ c. rw (c .match .keys25))
-    (λ c. rw (c .match .keys26))
-    (λ c. rw (c .match .keys27))
-    (λ c. rw (c .match .keys28))
-    (λ c. rw (c .match .keys29))
-    (λ c. rw (c .match .keys30))
-    (λ c. rw (c .match .keys31))
-    (λ c. rw (c .match .keys32))
-    (λ c. rw (c .match .keys33))
-    (λ c. rw (c .match .keys34))
-    (λ c. rw (c .match .keys35))
-    (λ c. rw (c .match .keys36))
-    (λ c. rw (c .match .keys37))
-    (λ c. rw (c .match .keys38))
-    (λ c. rw (c .match .keys39))
-    (λ c. rw (c .match .keys40))
-    (λ c. rw (c .match .keys41))
-    (λ c. rw (c .match .keys42))
-    (λ c. rw (c .match .keys43))
-    (λ c. rw (c .match .keys44))
-    (λ c.
-    let n = c .before .args .number in
-    sym (none-found (λ t. unpackedIn t n) (λ e. packed (e .spelling)) n (λ e es d. rw (ne-eqb n (packed (e .spelling)) d)) reserved (c .match .rest) .0)))
+    (λ c. rw (c .match .keys22)))

@@ -1,0 +1,239 @@
+-- FOR: its formulas are worked out, its variable is set, an older loop of it is dropped, and a record is made.
+use mathlib.Core.Path.{_≡_, refl, sym, ap, _∙_}
+use mathlib.Core.Bool.{Bool, true, false}
+use mathlib.Core.List.{List}
+use Prim.Native.Nat.{ℕ, _≤_}
+use native.Mathlib.Omega.{arith}
+use Rattle.whole.specs.declared.errors.Error.the-variants.{OutOfMemory, TypeMismatch}
+use Rattle.words.specs.Names.{alike}
+use Rattle.words.specs.declared.names.Kind.the-variants as kind
+use Rattle.words.specs.declared.names.Name.{Name}
+use Rattle.words.specs.declared.names.Telling.{Telling}
+use Rattle.words.specs.declared.places.Place.{Place}
+use Rattle.words.specs.declared.symbols.Scanned.{Scanned}
+use Rattle.words.specs.declared.symbols.Sign.the-variants.{Equal}
+use Rattle.words.specs.declared.symbols.Word.the-variants.{To, Step}
+use Rattle.words.proofs.Choices.{by-test}
+use Rattle.grammar.specs.Tests.{choose, isSymbol, isKeyword}
+use Rattle.grammar.specs.Trees as tree
+use Rattle.grammar.specs.Trees.{Formula, number, Variable, Statement}
+use Rattle.grammar.specs.Formulas as formulas
+use Rattle.grammar.specs.Formulas.{Reading, good, after, formulaOf}
+use Rattle.statements.specs.Statements.{Begun, bad, done, onFormula, variableOf, limitAt, stepAt, forAt}
+use Rattle.variables.specs.declared.values.Worked.the-variants.{Whole}
+use Rattle.machine.specs.Machine as spec
+use Rattle.machine.specs.Machine.{below, missing, noting, roomOf}
+use Rattle.machine.specs.Holding.{positionOf, Positioned, foundIn, Sound, Same}
+use Rattle.machine.specs.declared.machine.Machine.{Machine}
+use Rattle.machine.specs.declared.positions.Position.{Position}
+use Rattle.machine.specs.declared.positions.Turned.{Turned}
+use Rattle.machine.specs.declared.positions.Next.the-variants as next
+use Rattle.machine.specs.declared.records.Record.{Record}
+use Rattle.machine.specs.declared.records.Found.{Found}
+use Rattle.machine.specs.declared.records.Found.the-variants as found
+use Rattle.machine.specs.declared.records.Sought.the-variants.{LoopOf}
+use Rattle.machine.proofs.Searching.{loop-found, loop-missing}
+use Rattle.turns.specs.Steps as step
+use Rattle.turns.specs.Steps.{goesOn, workedWhole, pushed, doStatement}
+use Rattle.turns.specs.Turns.{turnedTo, afterOf, Turns, Formed, Valued, Told, FoundBelow, numberSet}
+use Rattle.control.specs.Answers.{Counts, pushedTurn, droppedTo, loopRecord, loopTurn, loopsFrom, stepsFrom, limitsFrom, stepOf, Stepped, Limited}
+use Rattle.turns.specs.declared.setting.Stored.{Stored}
+use Rattle.turns.proofs.Keeping.{sound-kept, same-noting, leaves-unprinted}
+use Rattle.turns.proofs.Leading.{turns-fails, turns-then}
+use Rattle.turns.proofs.Storing.{number-settled, leads-number, sound-tables}
+use Rattle.control.proofs.Jumps.{sound-depth, same-fewer, turns-pushed}
+use Rattle.turns.proofs.Wholes.{turns-as, turns-whole}
+use Rattle.control.proofs.One.{one}
+
+-- ---- a FOR, taken apart
+
+record Worth (x : Reading) (go : Formula → Scanned → Begun) (y : Statement) (u : Scanned) : Type 0 where
+  of : Formula
+  at : Scanned
+  is : x ≡ good of at
+  goes : go of at ≡ done y u
+
+worth : (x : Reading) (go : Formula → Scanned → Begun) {y : Statement} {u : Scanned} → onFormula x go ≡ done y u → Worth x go y u
+worth formulas.bad go e = let z : _≡_ {A = ℕ} 0 1 = cc in absurd (omega arith)
+worth (formulas.good f t) go e = record { of = f; at = t; is = refl; goes = e }
+
+so : (test : Bool) (go : Unit {0} → Begun) {y : Statement} {u : Scanned} → choose test go (λ _. bad) ≡ done y u → go tt ≡ done y u
+so true go e = e
+so false go e = let z : _≡_ {A = ℕ} 0 1 = cc in absurd (omega arith)
+
+-- where its formulas begin and end
+pub record ForRead (s : List ℕ) (t : Scanned) (a b c : Formula) (u : Scanned) : Type 0 where
+  pub upto : Scanned
+  pub from : formulaOf s (after s t) ≡ good a upto
+  pub steps : Scanned
+  pub limit : formulaOf s (after s upto) ≡ good b steps
+  pub by : stepOf s steps ≡ good c u
+
+module _ (s : List ℕ) (v : Variable) (t : Scanned) {a b c : Formula} {u : Scanned} where
+  -- the formulas that were read are the statement's
+  for-last : {x y z : Formula} {upto steps w : Scanned} → formulaOf s (after s t) ≡ good x upto → formulaOf s (after s upto) ≡ good y steps
+      → stepOf s steps ≡ good z w → done (tree.for v x y z) w ≡ done (tree.for v a b c) u → ForRead s t a b c u
+  for-last {x} {y} {z} {upto} {steps} {w} i j k g =
+      let d : x ≡ a = cc in
+      let e : y ≡ b = cc in
+      let f : z ≡ c = cc in
+      let h : w ≡ u = cc in
+      record { upto = upto; from = rw (← d) i; steps = steps; limit = rw (← e) j; by = rw (← f, ← h) k }
+
+  for-step : {x y : Formula} {upto steps : Scanned} → formulaOf s (after s t) ≡ good x upto → formulaOf s (after s upto) ≡ good y steps
+      → stepAt s v x y steps ≡ done (tree.for v a b c) u → ForRead s t a b c u
+  for-step {x} {y} {upto} {steps} i j e =
+      by-test (isKeyword Step (steps .token))
+      (λ h. let z = worth (formulaOf s (after s steps)) (λ by w. done (tree.for v x y by) w) (rw h at e) in
+      for-last i j (rw h (z .is)) (z .goes))
+      (λ h. for-last i j (rw h) (rw h at e))
+
+  for-limit : {x : Formula} {upto : Scanned} → formulaOf s (after s t) ≡ good x upto → limitAt s v x upto ≡ done (tree.for v a b c) u
+      → ForRead s t a b c u
+  for-limit {x} {upto} i e =
+      let y = worth (formulaOf s (after s upto)) (λ to w. stepAt s v x to w) (so (isKeyword To (upto .token)) _ e) in
+      for-step i (y .is) (y .goes)
+
+  pub for-read : forAt s v t ≡ done (tree.for v a b c) u → ForRead s t a b c u
+  unfolding forAt
+  for-read e =
+      let x = worth (formulaOf s (after s t)) (λ from w. limitAt s v from w) (so (isSymbol Equal (t .token)) _ e) in
+      for-limit (x .is) (x .goes)
+
+-- its step, if it stands
+module _ (s : List ℕ) (t : Scanned) {by : Formula} {u : Scanned} (e : stepOf s t ≡ good by u) where
+  pub step-stands : isKeyword Step (t .token) ≡ true → formulaOf s (after s t) ≡ good by u
+  step-stands h = rw h at e
+
+  pub step-left-out : isKeyword Step (t .token) ≡ false → (by ≡ number 1) × (u ≡ t)
+  step-left-out h = let g : good (number 1) t ≡ good by u = rw h at e in (cc, cc)
+
+-- what working it out asks
+pub step-formed : {line : List ℕ} {t : Scanned} → Stepped line t → isKeyword Step (t .token) ≡ true → Formed line (after line t)
+step-formed {line} {t} s h =
+    record {
+      short = s .short;
+      scans = record { from = t .next; is = refl };
+      reads = record { of = s .step; next = s .end; is = step-stands line t (s .reads) h };
+    }
+
+module _ {line : List ℕ} {name : Name} {equals : Scanned} (k : Counts line name equals) where
+  pub for-parts : ForRead line equals (k .start) (k .limit) (k .step) (k .end)
+  for-parts = for-read line (variableOf line name) equals (k .is)
+
+  pub start-formed : Formed line (after line equals)
+  start-formed =
+      record {
+        short = k .short;
+        scans = record { from = equals .next; is = refl };
+        reads = record { of = k .start; next = for-parts .upto; is = for-parts .from };
+      }
+
+  pub limit-read : Limited line (after line (for-parts .upto))
+  limit-read =
+      record {
+        scans = record { from = for-parts .upto .next; is = refl };
+        limit = k .limit;
+        at = for-parts .steps;
+        reads = for-parts .limit;
+        steps = record { short = k .short; step = k .step; end = k .end; reads = for-parts .by };
+      }
+
+-- ---- the record of a FOR
+
+-- an older loop of the variable is dropped
+module _ {text : List ℕ} {rs : List Record} {m : Machine} {input space room : List ℕ} (name : Telling) {q : spec.Machine}
+    (same : Same text rs m input space room q) where
+  same-dropped : (f : Found) → f ≡ foundIn (LoopOf name) rs (m .depth)
+      → Same text rs (droppedTo m f) input space room
+      (spec.withRecords q (below (q .records) (spec.sought (λ u. alike u name) (q .records))))
+  same-dropped found.None e =
+      let g : spec.sought (λ u. alike u name) (q .records) ≡ missing =
+      ap (spec.sought (λ u. alike u name)) (same .records) ∙ loop-missing text rs (LoopOf name) (m .depth) refl (sym e) in
+      rw g same
+  same-dropped (found.At i) e =
+      let k = loop-found text rs (LoopOf name) (m .depth) i refl (sym e) in
+      let g = ap (spec.sought (λ u. alike u name)) (same .records) ∙ k .is in
+      let h : i ≤ m .depth = omega (arith, k .below) in
+      rw g (same-fewer i h same)
+
+module _ {m : Machine} {input space room : List ℕ} where
+  sound-dropped : (f : Found) → FoundBelow (m .depth) f → Sound m input space room → Sound (droppedTo m f) input space room
+  sound-dropped found.None b h = h
+  sound-dropped (found.At i) b h = sound-depth i (omega (arith, h .deep)) h
+
+dropped-steps : (m : Machine) (f : Found) → droppedTo m f .steps ≡ m .steps
+dropped-steps m found.None = refl
+dropped-steps m (found.At i) = refl
+
+dropped-printer : (m : Machine) (f : Found) → droppedTo m f .printer ≡ m .printer
+dropped-printer m found.None = refl
+dropped-printer m (found.At i) = refl
+
+-- a variable is set
+pub sound-set : {m : Machine} {input space room : List ℕ} (name : Telling) (w : ℕ) → Sound m input space room
+    → Sound (numberSet m name w .machine) input space room
+sound-set name w s = sound-tables s (number-settled name w (s .settled))
+
+module _ {text : List ℕ} {m : Machine} {input space room : List ℕ} {entry : Record} (name : Telling) (from limit by : ℕ) (back : Position) (f : Found)
+    (sound : Sound m input space room) (low : FoundBelow (m .depth) f) (p : Positioned text back) where
+  pub turns-loop : Turns text m input space room (Told (LoopOf name) (m .depth) f entry) (loopsFrom name (positionOf text back) from limit by)
+      (loopTurn m name from limit by back f) space room
+  turns-loop =
+      let set = numberSet m name from in
+      let h : Sound (set .machine) input space room = sound-set name from sound in
+      let go : spec.Machine → step.Next =
+      (λ q. pushed (spec.withRecords q (below (q .records) (spec.sought (λ u. alike u name) (q .records)))) (spec.loop name limit by (positionOf text back))
+      (λ r. goesOn r (positionOf text back))) in
+      by-test (set .ok)
+      (λ e. rw e
+      (turns-pushed (loopRecord name limit by back) (next.On back) (λ r. goesOn r (positionOf text back)) (sound-dropped f low h) refl
+      (dropped-steps (set .machine) f) (dropped-printer (set .machine) f) p (λ o S s. (p, (refl, s)))
+      (λ rs l t n s. let k = rw e at (leads-number name from (sound .settled) s go) in
+      record { machine = _; is = k .is; same = same-dropped name (k .same) f (t .at) })))
+      (λ e. rw e (turns-fails (leaves-unprinted h refl refl refl) (λ rs l t n s. rw e at (leads-number name from (sound .settled) s go))))
+
+  -- the step that is left out is 1
+  pub turns-by-one : by ≡ 1 → Turns text m input space room (Told (LoopOf name) (m .depth) f entry)
+      (stepsFrom name (positionOf text back) from (number 1) limit) (loopTurn m name from limit by back f) space room
+  turns-by-one e =
+      turns-then (leaves-unprinted {r = turnedTo m next.Ends} sound refl refl refl)
+      (λ rs l t n s.
+      record { machine = noting n (roomOf n); is = rw (one (n .variables) (roomOf n), e); same = same-noting s (roomOf n) })
+      turns-loop
+
+-- what the code makes, by whether there was room for the variable
+module _ (m : Machine) (name : Telling) (from limit by : ℕ) (back : Position) (f : Found) {s : Stored} (e : s ≡ numberSet m name from) where
+  pub loop-full : s .ok ≡ false → turnedTo (s .machine) (next.Fails OutOfMemory) ≡ loopTurn m name from limit by back f
+  loop-full h = let k : numberSet m name from .ok ≡ false = rw e at h in rw (k, e)
+
+  pub loop-made : s .ok ≡ true
+      → pushedTurn (droppedTo (s .machine) f) (loopRecord name limit by back) (next.On back) ≡ loopTurn m name from limit by back f
+  loop-made h = let k : numberSet m name from .ok ≡ true = rw e at h in rw (k, e)
+
+-- with the step that was worked out
+module _ {text : List ℕ} {m : Machine} {input space room : List ℕ} {entry : Record} (name : Telling) (from limit : ℕ) (here : Place) (f : Found)
+    (sound : Sound m input space room) (low : FoundBelow (m .depth) f) where
+  pub turns-stepped : {by : Formula} {w : ℕ} {u x : Scanned} {space′ : List ℕ} → Positioned text (afterOf here u)
+      → Valued m by u space (Whole w x) space′
+      → Turns text m input space room (Told (LoopOf name) (m .depth) f entry) (stepsFrom name (positionOf text (afterOf here u)) from by limit)
+      (loopTurn m name from limit w (afterOf here x) f) space′ room
+  turns-stepped {w = w} {u = u} p v =
+      rw (v .goes)
+      (turns-whole (loopsFrom name (positionOf text (afterOf here u)) from limit) sound v
+      (turns-loop name from limit w (afterOf here u) f (sound-kept (v .framed .long) sound) low p))
+
+-- ---- the whole statement
+
+module _ {text : List ℕ} {m : Machine} {input space room : List ℕ} {told : List Record → Type 0} (v : Variable) (a b c : Formula)
+    (after : spec.Position) where
+  -- the name's type is tested first
+  pub for-text : v .kind ≡ kind.Text → Sound m input space room
+      → Turns text m input space room told (λ n. doStatement text (tree.for v a b c) n after) (turnedTo m (next.Fails TypeMismatch)) space room
+  for-text e h =
+      turns-fails (leaves-unprinted h refl refl refl) (λ rs l t n s. record { machine = n; is = rw e; same = s })
+
+  pub for-whole : {space′ : List ℕ} {r : Turned} → v .kind ≡ kind.Whole
+      → Turns text m input space room told (λ n. workedWhole a n (limitsFrom (v .telling) after b c)) r space′ room
+      → Turns text m input space room told (λ n. doStatement text (tree.for v a b c) n after) r space′ room
+  for-whole e t = turns-as (λ n. rw e) t

@@ -1,0 +1,187 @@
+-- GOTO, GOSUB and RETURN: the lines that a number leads to, a record more, and the records dropped.
+use mathlib.Core.Path.{_≡_, refl, sym, ap, subst, _∙_}
+use mathlib.Core.Bool.{false}
+use mathlib.Core.List.{List, _∷_}
+use Prim.Native.Nat.{ℕ, zero, suc, _+_, _≤_, _<_}
+use native.Mathlib.Omega.{arith}
+use native.Mathlib.Numerals.{add-one}
+use borrow.Author.Tests.{le-leb, lt-leb}
+use lib.ListN.{length, set, getD}
+use Rattle.whole.specs.declared.errors.Error.the-variants.{UndefinedLine, ReturnWithoutGosub}
+use Rattle.words.specs.declared.places.LineNumber.{LineNumber}
+use Rattle.words.proofs.Choices.{by-test}
+use Rattle.space.proofs.Bounds.{by-bound}
+use Rattle.loader.specs.Lines.{Line, linesOf, fromNumber, findLine}
+use Rattle.loader.specs.declared.lines.LineSpan.{LineSpan}
+use Rattle.loader.specs.declared.lines.LineFound.the-variants.{Is, None}
+use Rattle.grammar.specs.Trees as tree
+use Rattle.machine.specs.Machine as spec
+use Rattle.machine.specs.Holding.{linesAt, positionOf, Positioned, blankRecord, recordOf, recordsIn, isSought, seeksCall, foundFrom, foundIn, Sound, Same}
+use Rattle.machine.specs.declared.machine.Machine.{Machine}
+use Rattle.machine.specs.declared.positions.Position.{Position}
+use Rattle.machine.specs.declared.positions.Next.{Next}
+use Rattle.machine.specs.declared.positions.Next.the-variants as next
+use Rattle.machine.specs.declared.records.Record.{Record}
+use Rattle.machine.specs.declared.records.Found.{Found}
+use Rattle.machine.specs.declared.records.Found.the-variants as found
+use Rattle.machine.specs.declared.records.Sought.{Sought}
+use Rattle.machine.specs.declared.records.Sought.the-variants as sought
+use Rattle.machine.proofs.Stacking.{records-length, records-past, records-push, each-push}
+use Rattle.machine.proofs.Searching.{call-at, call-found, call-missing}
+use Rattle.machine.proofs.Standing.{found-begins, found-none}
+use Rattle.turns.specs.Steps as step
+use Rattle.turns.specs.Steps.{enters, fails, toLine, pushed, returned, doStatement}
+use Rattle.turns.specs.Turns.{turnedTo, Comes, Turns, anyRecords, Told, FoundBelow, withDepth}
+use Rattle.control.specs.Answers.{pushedTurn}
+use Rattle.turns.proofs.Keeping.{leaves-unprinted}
+use Rattle.turns.proofs.Leading.{Led, turns-fails, turns-enters, turns-unwritten}
+
+-- ---- other records count
+
+module _ {m : Machine} {input space room : List ℕ} where
+  pub sound-depth : (d : ℕ) → d ≤ 32 → Sound m input space room → Sound (withDepth m d) input space room
+  sound-depth d h s =
+      record {
+        settled = record { numbers = s .settled .numbers; strings = s .settled .strings; all = s .settled .all; within = s .settled .within; small = s .settled .small };
+        fitting = s .fitting;
+        taken = s .taken;
+        deep = h;
+      }
+
+  pub same-depth : {text : List ℕ} {rs rs′ : List Record} {n : spec.Machine} (d : ℕ) (all : List spec.Record) → all ≡ recordsIn text rs′ d
+      → ((i : ℕ) → i < d → Positioned text (getD rs′ i blankRecord .back))
+      → Same text rs m input space room n → Same text rs′ (withDepth m d) input space room (spec.withRecords n all)
+  same-depth d all e p s =
+      record {
+        variables = s .variables;
+        records = e;
+        column = s .column;
+        output = s .output;
+        outputRoom = s .outputRoom;
+        left = s .left;
+        taken = s .taken;
+        steps = s .steps;
+        limit = s .limit;
+        placed = p;
+      }
+
+  -- fewer of them
+  pub same-fewer : {text : List ℕ} {rs : List Record} {n : spec.Machine} (d : ℕ) → d ≤ m .depth → Same text rs m input space room n
+      → Same text rs (withDepth m d) input space room (spec.withRecords n (recordsIn text rs d))
+  same-fewer {text} {rs} d h s = same-depth d (recordsIn text rs d) refl (λ i l. s .placed i (omega arith)) s
+
+-- ---- a record more
+
+module _ {text : List ℕ} {m : Machine} {input space room : List ℕ} (held : Record) (nx : Next) where
+  push-comes : {rs : List Record} {n : spec.Machine} (go : spec.Machine → step.Next) → length rs ≡ 32 → Positioned text (held .back)
+      → ((o : spec.Machine) (same : spec.Machine → Type 0) → same o → Comes text nx (go o) same) → Same text rs m input space room n
+      → let r = pushedTurn m held nx in
+      Comes text (r .next) (pushed n (recordOf text held) go) (Same text (set rs (r .slot) (r .held)) (r .machine) input space room)
+  push-comes {rs} {n} go l p goes s =
+      let e : length (n .records) ≡ m .depth = ap length (s .records) ∙ records-length text rs (m .depth) in
+      by-bound 32 (m .depth)
+      (λ h. rw (e, le-leb 32 (m .depth) h, records-past rs 32 blankRecord (omega arith)) (refl, s))
+      (λ h. rw (e, lt-leb 32 (m .depth) h)
+      (goes (spec.withRecords n (recordOf text held ∷ n .records)) _
+      (rw add-one
+      (same-depth (suc (m .depth)) (recordOf text held ∷ n .records)
+      (ap (λ x. recordOf text held ∷ x) (s .records) ∙ sym (records-push text rs (m .depth) held (omega arith)))
+      (each-push (λ x. Positioned text (x .back)) rs (m .depth) (s .placed) held p (omega arith))
+      s))))
+
+-- where the definition comes to it with a machine that the code's holds
+module _ {text : List ℕ} {m m′ : Machine} {input space room space′ : List ℕ} {told : List Record → Type 0} {does : spec.Machine → step.Next}
+    (held : Record) (nx : Next) where
+  pub turns-pushed : (go : spec.Machine → step.Next) → Sound m′ input space′ room → length space′ ≡ length space
+      → m′ .steps ≡ m .steps → m′ .printer ≡ m .printer → Positioned text (held .back)
+      → ((o : spec.Machine) (same : spec.Machine → Type 0) → same o → Comes text nx (go o) same)
+      → Led text m input space room told does m′ space′ room (λ o. pushed o (recordOf text held) go)
+      → Turns text m input space room told does (pushedTurn m′ held nx) space′ room
+  turns-pushed go h long steps printer p goes led =
+      record {
+        leaves =
+            by-bound 32 (m′ .depth)
+            (λ b. rw (le-leb 32 (m′ .depth) b) (leaves-unprinted h long steps printer))
+            (λ b. rw (lt-leb 32 (m′ .depth) b) (leaves-unprinted (sound-depth (m′ .depth + 1) (omega arith) h) long steps printer));
+        comes = λ rs l t n s. let k = led rs l t n s in rw (k .is) (push-comes held nx go l p goes (k .same));
+      }
+
+-- ---- the lines that a number leads to
+
+module _ {text : List ℕ} {m : Machine} {input space room : List ℕ} (number : LineNumber) (sound : Sound m input space room) where
+  -- whatever would be done there
+  pub line-missing : (go : spec.Machine → List Line → step.Next) → findLine text number ≡ None
+      → Turns text m input space room anyRecords (λ n. toLine n (fromNumber (number .0) (linesOf text)) (go n))
+      (turnedTo m (next.Fails UndefinedLine)) space room
+  line-missing go e =
+      turns-fails (leaves-unprinted sound refl refl refl)
+      (λ rs l t n s. record { machine = n; is = rw (found-none text number e); same = s })
+
+  pub goto-found : (after : spec.Position) {span : LineSpan} → findLine text number ≡ Is span
+      → Turns text m input space room anyRecords (λ n. doStatement text (tree.goto number) n after) (turnedTo m (next.Enter (span .place))) space room
+  goto-found after {span} e =
+      let f = found-begins text number e in
+      turns-enters (leaves-unprinted sound refl refl refl) (f .begins)
+      (λ rs l t n s. record { machine = n; is = rw (← f .lines, f .begins .here); same = s })
+
+  pub gosub-found : (back : Position) {span : LineSpan} → Positioned text back → findLine text number ≡ Is span
+      → Turns text m input space room anyRecords (λ n. doStatement text (tree.gosub number) n (positionOf text back))
+      (pushedTurn m (record { loops = false; name = blankRecord .name; limit = 0; step = 0; back = back }) (next.Enter (span .place))) space room
+  gosub-found back {span} p e =
+      let f = found-begins text number e in
+      turns-pushed _ (next.Enter (span .place)) (λ o. enters o (linesAt text (span .place .0))) sound refl refl refl p
+      (λ o S s. (f .begins, (refl, s)))
+      (λ rs l t n s. record { machine = n; is = rw (← f .lines, f .begins .here); same = s })
+
+-- ---- the nearest GOSUB's record
+
+module _ {text : List ℕ} {m : Machine} {input space room : List ℕ} {entry : Record} (after : spec.Position) (sound : Sound m input space room) where
+  pub back-missing : Turns text m input space room (Told sought.Call (m .depth) found.None entry) (λ n. doStatement text tree.return n after)
+      (turnedTo m (next.Fails ReturnWithoutGosub)) space room
+  unfolding returned
+  back-missing =
+      turns-fails (leaves-unprinted sound refl refl refl)
+      (λ rs l t n s.
+      record {
+        machine = n;
+        is = ap (λ all. returned all n) (s .records)
+            ∙ call-missing text rs (λ all. returned all n ≡ fails ReturnWithoutGosub n) (λ name limit step p rest h. h) (m .depth) (sym (t .at)) refl;
+        same = s;
+      })
+
+  pub back-found : (slot : ℕ) → slot < m .depth
+      → Turns text m input space room (Told sought.Call (m .depth) (found.At slot) entry) (λ n. doStatement text tree.return n after)
+      (turnedTo (withDepth m slot) (next.On (entry .back))) space room
+  unfolding returned
+  back-found slot b =
+      turns-unwritten (leaves-unprinted (sound-depth slot (omega (arith, sound .deep)) sound) refl refl refl)
+      (λ rs l t n s.
+      let c = call-at text rs (m .depth) slot (sym (t .at)) in
+      let e : entry .back ≡ getD rs slot blankRecord .back = ap (λ x. x .back) (t .is) in
+      let h : slot ≤ m .depth = omega arith in
+      let P : List spec.Record → Type 0 =
+      (λ all. Comes text (next.On (entry .back)) (returned all n) (Same text rs (withDepth m slot) input space room)) in
+      subst P (sym (s .records))
+      (call-found text rs P (λ name limit step p rest h. h) (m .depth) slot (sym (t .at))
+      (rw (c .is, e) (s .placed slot (c .below), (refl, same-fewer slot h s)))))
+
+-- ---- what is found is one of the records
+
+below-more : (d : ℕ) (f : Found) → FoundBelow d f → FoundBelow (suc d) f
+below-more d (found.At i) h = omega arith
+below-more d found.None h = tt
+
+found-low-from : (k : Sought) (rs : List Record) (d : ℕ) → FoundBelow d (foundFrom k rs d)
+unfolding foundFrom
+found-low-from k rs zero = tt
+found-low-from k rs (suc d) =
+    let x = getD rs d blankRecord in
+    by-test (x .loops)
+    (λ l. by-test (isSought k (x .name)) (λ t. rw (l, t) (omega arith)) (λ t. rw (l, t) (below-more d (foundFrom k rs d) (found-low-from k rs d))))
+    (λ l. by-test (seeksCall k) (λ t. rw (l, t) (omega arith)) (λ t. rw (l, t) tt))
+
+pub found-low : (k : Sought) (rs : List Record) (d : ℕ) → FoundBelow d (foundIn k rs d)
+found-low sought.Nothing rs d = tt
+found-low sought.Call rs d = found-low-from sought.Call rs d
+found-low sought.Loop rs d = found-low-from sought.Loop rs d
+found-low (sought.LoopOf name) rs d = found-low-from (sought.LoopOf name) rs d

@@ -1,0 +1,6 @@
+pub mod Branches
+pub mod Elses
+pub mod Fors
+pub mod Jumps
+pub mod Nexts
+pub mod One

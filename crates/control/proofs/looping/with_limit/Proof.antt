@@ -1,0 +1,54 @@
+-- By the formula's answer.
+use borrow.Author.Needs.{needs}
+use Rattle.machine.specs.Holding.{positionOf}
+use Rattle.turns.specs.Turns.{afterOf}
+use Rattle.control.specs.Answers.{stepsFrom}
+use Rattle.turns.proofs.Keeping.{settled-kept, sound-kept}
+use Rattle.turns.proofs.Wholes.{turns-fault, turns-whole, turns-text}
+use Rattle.control.proofs.looping.with_limit.Statement.{statement}
+use Rattle.control.proofs.looping.with_limit.Tie as tie
+
+with-step-requires : tie.Need-with-step-requires
+with-step-requires c κs =
+    let k = c .before .before .before .before .before .before .before .before .before .before .pre in
+    let v = rw (c .before .before .limit .given .1) at (c .before .before .before .before .before .before .value .ensures (k .0 .limit) (k .0 .at) (k .0 .reads)) in
+    (rw (v .goes) (k .0 .steps), (settled-kept (v .framed .long) (k .1 .0), k .1 .1))
+
+returns : tie.Need-returns
+returns c text input room to by t u sound p e s entry =
+    let a = c .before .before .before .before .before .before .before .before .before .before .args in
+    rw (c .fails .ensures)
+    (turns-fault (λ w n. stepsFrom (a .name) (positionOf text (afterOf (a .here) u)) (a .from) by w n) sound
+    (rw (c .before .before .error .given .1) at (c .before .before .before .before .before .before .value .ensures to t e)))
+
+returns-2 : tie.Need-returns-2
+returns-2 c text input room to by t u sound p e s entry =
+    let a = c .before .before .before .before .before .before .before .before .before .args in
+    rw (c .fails2 .ensures)
+    (turns-text (λ w n. stepsFrom (a .name) (positionOf text (afterOf (a .here) u)) (a .from) by w n) sound
+    (rw (c .before .enum-told .given .1) at (c .before .before .before .before .before .value .ensures to t e)))
+
+returns-3 : tie.Need-returns-3
+returns-3 c text input room to by t u sound p e s entry =
+    let a = c .before .before .before .before .before .before .before .before .before .before .before .before .before .args in
+    let v = rw (c .before .before .before .before .before .limit .given .1) at (c .before .before .before .before .before .before .before .before .before .value .ensures to t e) in
+    turns-whole (λ w n. stepsFrom (a .name) (positionOf text (afterOf (a .here) u)) (a .from) by w n) sound v
+    (c .before .before .with-step .ensures text input room by u (sound-kept (v .framed .long) sound) p (rw (v .goes) s) entry)
+
+pub with-limit-spec : {M : Type 1} → statement M
+with-limit-spec =
+    tie.close
+    (tie.spec
+    (λ c κs. search needs)
+    (λ c. search needs)
+    (λ c κs. search needs)
+    (λ c. search needs)
+    (λ c κs. search needs)
+    (λ c. search needs)
+    with-step-requires
+    (λ c. search needs)
+    returns
+    (λ c. search needs)
+    returns-2
+    (λ c. search needs)
+    returns-3)

@@ -1,0 +1,122 @@
+// IF.
+ghost use mathlib.Core.Path.{_≡_};
+ghost use mathlib.Core.List.{List};
+ghost use Prim.Native.Nat.{ℕ};
+ghost use mathlib.Core.Bool.{true, false};
+ghost use Rattle.words.specs.declared.symbols.Word.the-variants.{Else};
+ghost use Rattle.grammar.specs.Tests.{isKeyword};
+ghost use Rattle.grammar.specs.Trees.{Formula, Part, ifThen, ifElse};
+ghost use Rattle.grammar.specs.Formulas.{good, formulaOf};
+ghost use Rattle.statements.specs.Statements.{goodPart};
+ghost use Rattle.statements.specs.Answers.{partOf};
+ghost use Rattle.machine.specs.Machine as spec;
+ghost use Rattle.machine.specs.Holding.{linesAt, Settled, Sound};
+ghost use Rattle.turns.specs.Steps.{doStatement};
+ghost use Rattle.turns.specs.Turns.{Turns, anyRecords, Formed, Standing};
+ghost use Rattle.control.specs.Answers.{takenTurn, elseAt};
+use machine::Machine;
+use machine::Next;
+use machine::Position;
+use machine::Turned;
+use reader::Follow;
+use reader::follows;
+use statements::statement_at;
+use turns::fails;
+use turns::turned_to;
+use turns::value;
+use variables::Worked;
+use whole::Error;
+use words::Place;
+use words::Scanned;
+
+// Where a part of an IF begins, if there is one.
+pub enum Branch {
+    At(Place),
+    None,
+}
+
+// The ELSE of the IF whose part begins at a place: nested IFs take theirs first.
+fn else_of(line: &[u8], part: Place) -> Branch
+    ensures { λ r. ⌜
+        ((p : Part) (u : Scanned) → partOf (now (line .entry)) true (part .0) ≡ goodPart p u → r ≡ elseAt u)
+        ⌝ }
+{
+    let mut at = part;
+    let mut waiting: usize = 0;
+    loop {
+        match follows(statement_at(line, at, true)) {
+            Follow::Nothing => return Branch::None,
+            Follow::End => return Branch::None,
+            Follow::Statement(next) => {
+                at = next;
+            }
+            Follow::Part(next) => {
+                waiting += 1;
+                at = next;
+            }
+            Follow::Else(next) => {
+                if waiting == 0 {
+                    return Branch::At(next);
+                }
+                waiting -= 1;
+                at = next;
+            }
+        }
+    }
+}
+
+// A part of the line is entered, or the line is over.
+fn taken(machine: Machine, here: Place, branch: Branch) -> Turned
+    ensures { λ r. ⌜ r ≡ takenTurn machine here branch ⌝ }
+{
+    match branch {
+        Branch::At(at) => {
+            let inside = Position {
+                line: here,
+                at,
+                over: false,
+            };
+            turned_to(machine, Next::On(inside))
+        }
+        Branch::None => {
+            let beyond = Position {
+                line: here,
+                at: Place(0),
+                over: true,
+            };
+            turned_to(machine, Next::On(beyond))
+        }
+    }
+}
+
+// An IF is true when not 0.
+pub fn choose(
+    line: &[u8],
+    here: Place,
+    first: Scanned,
+    machine: Machine,
+    space: &mut [u8],
+) -> Turned
+    requires { ⌜ Formed (now line) first × Settled machine (now space) ⌝ }
+    ensures { λ r. ⌜
+        ((text input room : List ℕ) (c : Formula) (way : Scanned) (p : Part) (u : Scanned) (after : spec.Position)
+        → Sound machine input (now (space .entry)) room → Standing text (now (line .entry)) here → after .lines ≡ linesAt text (here .0)
+        → formulaOf (now (line .entry)) first ≡ good c way → partOf (now (line .entry)) true (way .next .0) ≡ goodPart p u
+        → (isKeyword Else (u .token) ≡ false
+        → Turns text machine input (now (space .entry)) room anyRecords (λ n. doStatement text (ifThen c p) n after) r (now (space .exit)) room)
+        × (isKeyword Else (u .token) ≡ true → (q : Part) (v : Scanned) → partOf (now (line .entry)) true (u .next .0) ≡ goodPart q v
+        → Turns text machine input (now (space .entry)) room anyRecords (λ n. doStatement text (ifElse c p q) n after) r (now (space .exit)) room))
+        ⌝ }
+{
+    match value(line, first, machine, space) {
+        Worked::Fault(error) => fails(machine, error),
+        Worked::Text(_, _) => fails(machine, Error::TypeMismatch),
+        Worked::Whole(word, then) => {
+            let part = then.next;
+            if word == 0 {
+                return taken(machine, here, else_of(line, part));
+            }
+            taken(machine, here, Branch::At(part))
+        }
+    }
+}

@@ -1,0 +1,104 @@
+// GOTO, GOSUB and RETURN.
+ghost use mathlib.Core.Path.{_≡_};
+ghost use mathlib.Core.List.{List};
+ghost use Prim.Native.Nat.{ℕ};
+ghost use Rattle.grammar.specs.Trees as tree;
+ghost use Rattle.machine.specs.Machine as spec;
+ghost use Rattle.machine.specs.Holding.{positionOf, Positioned, Sound};
+ghost use Rattle.machine.specs.declared.records.Sought.the-variants as sought;
+ghost use Rattle.turns.specs.Steps.{doStatement};
+ghost use Rattle.turns.specs.Turns.{afterOf, Turns, anyRecords, Told, FoundBelow};
+ghost use Rattle.control.specs.Answers.{pushedTurn};
+use loader::LineFound;
+use loader::find_line;
+use machine::Found;
+use machine::Machine;
+use machine::Next;
+use machine::Record;
+use machine::Turned;
+use turns::after;
+use turns::fails;
+use turns::turned_to;
+use whole::Error;
+use words::LineNumber;
+use words::Place;
+use words::Scanned;
+
+// A missing line is 8.
+pub fn goto(text: &[u8], number: LineNumber, machine: Machine) -> Turned
+    ensures { λ r. ⌜
+        ((input space room : List ℕ) (after : spec.Position) → Sound machine input space room
+        → Turns (now (text .entry)) machine input space room anyRecords (λ n. doStatement (now (text .entry)) (tree.goto number) n after) r space room)
+        ⌝ }
+{
+    match find_line(text, number) {
+        LineFound::None => fails(machine, Error::UndefinedLine),
+        LineFound::Is(span) => {
+            let place = span.place;
+            turned_to(machine, Next::Enter(place))
+        }
+    }
+}
+
+// A record more; at most 32.
+pub(crate) fn push(machine: Machine, held: Record, next: Next) -> Turned
+    ensures { λ r. ⌜ r ≡ pushedTurn machine held next ⌝ }
+{
+    let slot = machine.depth;
+    if Machine::RECORDS <= slot {
+        return fails(machine, Error::OutOfMemory);
+    }
+    let mut deeper = machine;
+    deeper.depth = slot + 1;
+    Turned {
+        machine: deeper,
+        next,
+        slot,
+        held,
+    }
+}
+
+// The line is tested before room for a record.
+pub fn gosub(
+    text: &[u8],
+    number: LineNumber,
+    here: Place,
+    ahead: Scanned,
+    machine: Machine,
+) -> Turned
+    ensures { λ r. ⌜
+        ((input space room : List ℕ) → Sound machine input space room → Positioned (now (text .entry)) (afterOf here ahead)
+        → Turns (now (text .entry)) machine input space room anyRecords
+        (λ n. doStatement (now (text .entry)) (tree.gosub number) n (positionOf (now (text .entry)) (afterOf here ahead))) r space room)
+        ⌝ }
+{
+    match find_line(text, number) {
+        LineFound::None => fails(machine, Error::UndefinedLine),
+        LineFound::Is(span) => {
+            let mut held = Record::blank();
+            let back = after(here, ahead);
+            held.back = back;
+            let place = span.place;
+            push(machine, held, Next::Enter(place))
+        }
+    }
+}
+
+// Records are dropped through the nearest GOSUB's.
+pub fn come_back(machine: Machine, found: Found, entry: Record) -> Turned
+    requires { ⌜ FoundBelow (machine .depth) found ⌝ }
+    ensures { λ r. ⌜
+        ((text input space room : List ℕ) (after : spec.Position) → Sound machine input space room
+        → Turns text machine input space room (Told sought.Call (machine .depth) found entry) (λ n. doStatement text tree.return n after) r space room)
+        ⌝ }
+{
+    match found {
+        Found::None => fails(machine, Error::ReturnWithoutGosub),
+        Found::At(slot) => {
+            let mut m = machine;
+            m.depth = slot;
+            let back = entry.back;
+            turned_to(m, Next::On(back))
+        }
+    }
+}

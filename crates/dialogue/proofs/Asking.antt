@@ -1,0 +1,343 @@
+-- LINE INPUT: its text is printed, a line of input is taken, and the variable is set to it.
+use mathlib.Core.Path.{_≡_, refl, sym, ap, _∙_}
+use mathlib.Core.Bool.{true, false}
+use mathlib.Core.List.{List, [], _∷_}
+use Prim.Native.Nat.{ℕ, zero, suc, _+_, _-_, _≤_, _<_}
+use native.Mathlib.Omega.{arith}
+use borrow.Author.Tests.{le-ltb, lt-ltb}
+use native.Mathlib.Nat.{le-refl}
+use types.Run.{OneOf, miss}
+use lib.ListN.{length, take, drop, length-drop, drop-of-length-le}
+use lib.Seq.{drop-drop, length-take-le}
+use Rattle.whole.specs.declared.errors.Error.the-variants.{OutOfStringSpace, TypeMismatch, LineBufferOverflow, InputPastEnd, OutputFull}
+use Rattle.words.specs.declared.names.Kind.the-variants as kind
+use Rattle.words.specs.declared.names.Name.{Name}
+use Rattle.words.specs.declared.names.Telling.{Telling}
+use Rattle.words.specs.declared.places.Place.{Place}
+use Rattle.words.specs.declared.symbols.Quotation.{Quotation}
+use Rattle.words.specs.declared.symbols.Scanned.{Scanned}
+use Rattle.words.specs.declared.symbols.Sign.the-variants.{Semicolon}
+use Rattle.words.specs.declared.symbols.Token.{Token}
+use Rattle.words.specs.declared.symbols.Token.the-variants.{Named, Quoted}
+use Rattle.words.proofs.Choices.{by-test}
+use Rattle.words.proofs.Ends.{scanned-ends}
+use Rattle.space.specs.Moves.{copied}
+use Rattle.space.proofs.Frames.{copied-length, copied-below, copied-bytes, copied-past}
+use Rattle.loader.specs.Lines.{extentOr, endingOf, extentAt}
+use Rattle.loader.specs.declared.lines.Extent.{Extent}
+use Rattle.loader.proofs.Extents.{walked}
+use Rattle.grammar.specs.Tests.{choose, isSymbol, onText}
+use Rattle.grammar.specs.Trees.{Variable, lineInput}
+use Rattle.grammar.specs.Formulas.{after, quotedBytes}
+use Rattle.statements.specs.Statements.{Begun, bad, done, variableOf, targetAt, inputAt}
+use Rattle.statements.proofs.Findings.{by-name, by-text}
+use Rattle.variables.specs.Strings.{Room, make, fault, value, text, withString}
+use Rattle.variables.specs.Memory.{Held, spaceStored}
+use Rattle.formulas.specs.Memory.{Scans}
+use Rattle.machine.specs.Machine as spec
+use Rattle.machine.specs.Machine.{roomOf, withInput, noting}
+use Rattle.machine.specs.Holding.{positionOf, Positioned, printedAs, Settled, Sound, Same}
+use Rattle.machine.specs.declared.machine.Machine.{Machine}
+use Rattle.machine.specs.declared.machine.Printer.{Printer}
+use Rattle.machine.specs.declared.positions.Next.{Next}
+use Rattle.machine.specs.declared.positions.Next.the-variants as next
+use Rattle.machine.specs.declared.positions.Turned.{Turned}
+use Rattle.machine.specs.declared.records.Record.{Record}
+use Rattle.machine.proofs.Writing.{not-printed, room-length, written-grows, room-above, fitting-after, write-full}
+use Rattle.turns.specs.Steps as step
+use Rattle.turns.specs.Steps.{goesOn, fails, firstLine, takeLine, lineTaken, inputLine, filled, doStatement}
+use Rattle.turns.specs.Turns.{turnedTo, afterOf, Leaves, Leads, Turns, anyRecords, withPrinter, withTaken, stringSet, storedTurn}
+use Rattle.dialogue.specs.Asking.{takesLine, fillsIn}
+use Rattle.turns.proofs.Keeping.{settled-kept, sound-kept, same-kept, same-noting, room-held, leaves-unprinted}
+use Rattle.turns.proofs.Leading.{leads-on, turns-fails, turns-then}
+use Rattle.turns.proofs.Storing.{string-settled, string-long, leads-string, sound-tables, turns-stored}
+use Rattle.turns.proofs.Tokens.{tokenTag, noNames, no-name}
+use Rattle.dialogue.proofs.Printing.{leads-written, printed-none, printed-more, printed-leaves}
+
+-- ---- a line of input
+
+-- an extent further on
+abbrev further : ℕ → Extent → Extent
+further p e = record { end = p + e .end; next = p + e .next }
+
+or-further : (n p q : ℕ) (a b : Extent) → a ≡ further p b → extentOr n (p + q) a ≡ further p (extentOr n q b)
+or-further zero p q a b e = e
+or-further (suc n) p q a b e = let h : p + q + suc n ≡ p + (q + suc n) = omega arith in rw h
+
+extent-further : (p q : ℕ) (s : List ℕ) → extentAt (p + q) s ≡ further p (extentAt q s)
+unfolding extentAt
+extent-further p q [] = refl
+extent-further p q (b ∷ t) =
+    let h : p + q + 1 ≡ p + (q + 1) = omega arith in
+    or-further (endingOf (b ∷ t)) p q (extentAt (p + q + 1) t) (extentAt (q + 1) t) (rw h (extent-further p (q + 1) t))
+
+-- what is taken of the input from a place on goes as far as the line's extent
+pub record Took (input : List ℕ) (p : ℕ) (e : Extent) : Type 0 where
+  pub low : p ≤ e .end
+  pub mid : e .end ≤ e .next
+  pub inside : e .next ≤ length input
+  pub size : length (take (e .end - p) (drop p input)) ≡ e .end - p
+  pub is : takeLine (drop p input) ≡ record { bytes = take (e .end - p) (drop p input); left = drop (e .next) input }
+
+-- the definition counts its places from there
+pub took : (input : List ℕ) (p : ℕ) {e : Extent} → p < length input → e ≡ extentAt p (drop p input) → Took input p e
+took input p {e} h q =
+    let s = drop p input in
+    let l = length-drop p input in
+    let z = extentAt 0 s in
+    let w = walked s 0 (omega arith) refl in
+    let f : e ≡ further p z = q ∙ ap (λ i. extentAt i s) (omega arith) ∙ extent-further p 0 s in
+    let end : e .end ≡ p + z .end = ap (λ x. x .end) f in
+    let next : e .next ≡ p + z .next = ap (λ x. x .next) f in
+    let a : e .end - p ≡ z .end - 0 = omega arith in
+    let b : drop (z .next) s ≡ drop (e .next) input = drop-drop (z .next) p input ∙ ap (λ i. drop i input) (sym next) in
+    record {
+      low = omega arith;
+      mid = omega (arith, w .mid);
+      inside = omega (arith, w .inside);
+      size = length-take-le (e .end - p) s (omega (arith, w .mid, w .inside));
+      is = ap (firstLine s) (w .lines) ∙ rw (a, b);
+    }
+
+some-taken : (s : List ℕ) (n : spec.Machine) (v : Variable) (go : spec.Machine → step.Next) → 0 < length s
+    → inputLine s n v go ≡ lineTaken n v (takeLine s) go
+some-taken [] n v go h = absurd (omega arith)
+some-taken (b ∷ s) n v go h = refl
+
+module _ (input : List ℕ) (p : ℕ) {e : Extent} (h : p < length input) (k : Took input p e) (v : Variable) (after : spec.Position) where
+  takes : (n : spec.Machine) → n .input ≡ drop p input
+      → takesLine v after n ≡ lineTaken n v (record { bytes = take (e .end - p) (drop p input); left = drop (e .next) input }) (λ o. goesOn o after)
+  takes n i =
+      let go : spec.Machine → step.Next = λ o. goesOn o after in
+      ap (λ x. inputLine x n v go) i ∙ some-taken (drop p input) n v go (rw (length-drop p input) (omega arith)) ∙ ap (λ t. lineTaken n v t go) (k .is)
+
+  -- too long,
+  taken-long : 254 < e .end - p → (n : spec.Machine) → n .input ≡ drop p input → takesLine v after n ≡ fails LineBufferOverflow n
+  taken-long b n i = takes n i ∙ rw (lt-ltb 254 (length (take (e .end - p) (drop p input))) (rw (k .size) b))
+
+  -- or not
+  taken-short : e .end - p ≤ 254 → (n : spec.Machine) → n .input ≡ drop p input → n .taken ≡ p
+      → takesLine v after n ≡ fillsIn v (take (e .end - p) (drop p input)) after (withInput n (drop (e .next) input) (e .next))
+  taken-short b n i t =
+      let l = ap length i ∙ length-drop p input in
+      let c : n .taken + (length (n .input) - length (drop (e .next) input)) ≡ e .next =
+      rw (length-drop (e .next) input) (omega (arith, k .low, k .mid, k .inside)) in
+      takes n i
+      ∙ rw (le-ltb 254 (length (take (e .end - p) (drop p input))) (rw (k .size) b))
+      (ap (λ c. fillsIn v (take (e .end - p) (drop p input)) after (withInput n (drop (e .next) input) c)) c)
+
+-- the machine with another count of what was taken
+module _ {m : Machine} {input space room : List ℕ} (k : ℕ) where
+  taken-sound : Sound m input space room → k ≤ length input → Sound (withTaken m k) input space room
+  taken-sound sound h =
+      let t = sound .settled in
+      record {
+        settled = record { numbers = t .numbers; strings = t .strings; all = t .all; within = t .within; small = t .small };
+        fitting = sound .fitting;
+        taken = h;
+        deep = sound .deep;
+      }
+
+  taken-same : {text : List ℕ} {rs : List Record} {n : spec.Machine} → Same text rs m input space room n
+      → Same text rs (withTaken m k) input space room (withInput n (drop k input) k)
+  taken-same s =
+      record {
+        variables = s .variables;
+        records = s .records;
+        column = s .column;
+        output = s .output;
+        outputRoom = s .outputRoom;
+        left = refl;
+        taken = refl;
+        steps = s .steps;
+        limit = s .limit;
+        placed = s .placed;
+      }
+
+module _ (text : List ℕ) {m : Machine} {input space room : List ℕ} (sound : Sound m input space room) (v : Variable) (after : spec.Position) where
+  -- no bytes are left
+  pub takes-none : length input ≤ m .taken
+      → Turns text m input space room anyRecords (takesLine v after) (turnedTo m (next.Fails InputPastEnd)) space room
+  takes-none h =
+      turns-fails (leaves-unprinted sound refl refl refl)
+      (λ rs l t n s. record { machine = n; is = ap (λ i. inputLine i n v (λ o. goesOn o after)) (s .left ∙ drop-of-length-le input h); same = s })
+
+  module _ {e : Extent} (h : m .taken < length input) (k : Took input (m .taken) e) where
+    -- the line is too long
+    pub takes-long : 254 < e .end - m .taken
+        → Turns text m input space room anyRecords (takesLine v after) (turnedTo m (next.Fails LineBufferOverflow)) space room
+    takes-long b =
+        turns-fails (leaves-unprinted sound refl refl refl)
+        (λ rs l t n s. record { machine = n; is = taken-long input (m .taken) h k v after b n (s .left); same = s })
+
+    -- it is taken
+    pub takes-line : e .end - m .taken ≤ 254 → {r : Turned} {space′ : List ℕ}
+        → (Sound (withTaken m (e .next)) input space room
+        → Turns text (withTaken m (e .next)) input space room anyRecords (fillsIn v (take (e .end - m .taken) (drop (m .taken) input)) after) r space′ room)
+        → Turns text m input space room anyRecords (takesLine v after) r space′ room
+    takes-line b t =
+        let w = taken-sound (e .next) sound (k .inside) in
+        turns-then (leaves-unprinted {r = turnedTo (withTaken m (e .next)) next.Ends} w refl refl refl)
+        (λ rs l u n s.
+        record {
+          machine = withInput n (drop (e .next) input) (e .next);
+          is = taken-short input (m .taken) h k v after b n (s .left) (s .taken);
+          same = taken-same (e .next) s;
+        })
+        (t w)
+
+-- ---- the variable is set to the line
+
+module _ {room : Room} {space : List ℕ} {used : ℕ} (b : List ℕ) (held : Held room space used) where
+  make-full : length space < used + length b → make b room ≡ fault OutOfStringSpace room
+  unfolding make
+  make-full h = rw (held .limit, held .lives, lt-ltb (length space) (used + length b) h)
+
+  make-fits : used + length b ≤ length space → make b room ≡ value (text b) (withString (length b) room)
+  unfolding make
+  make-fits h = rw (held .limit, held .lives, le-ltb (length space) (used + length b) h)
+
+module _ (program : List ℕ) {m : Machine} {input space room : List ℕ} (sound : Sound m input space room) (b : List ℕ) where
+  -- there is no room for it
+  pub fills-none : (v : Variable) (after : spec.Position) → length space < m .used + length b
+      → Turns program m input space room anyRecords (fillsIn v b after) (turnedTo m (next.Fails OutOfStringSpace)) space room
+  fills-none v after h =
+      turns-fails (leaves-unprinted sound refl refl refl)
+      (λ rs l t n s.
+      record { machine = noting n (roomOf n); is = rw (make-full b (room-held (sound .settled) s) h); same = same-noting s (roomOf n) })
+
+  module _ (fits : m .used + length b ≤ length space) where
+    -- the bytes stand right after the variables'
+    leads-made : (v : Variable) (after : spec.Position) {rs : List Record} {n : spec.Machine} → Same program rs m input space room n
+        → Leads program rs m input (copied space (m .used) b) room (fillsIn v b after n)
+        (λ o. filled (v .kind) (v .telling) b o (λ p. goesOn p after))
+    leads-made v after {n = n} s =
+        let r = withString (length b) (roomOf n) in
+        record {
+          machine = noting n r;
+          is = rw (make-fits b (room-held (sound .settled) s) fits);
+          same = same-noting (same-kept (copied-length space (m .used) b) (sound .settled) (copied-below space (m .used) b (m .used) (le-refl _)) s) r;
+        }
+
+    -- a number's variable takes none
+    pub fills-number : (name : Telling) (after : spec.Position)
+        → Turns program m input space room anyRecords (fillsIn (record { kind = kind.Whole; telling = name }) b after)
+        (turnedTo m (next.Fails TypeMismatch)) (copied space (m .used) b) room
+    fills-number name after =
+        let long = copied-length space (m .used) b in
+        turns-fails (leaves-unprinted (sound-kept long sound) long refl refl)
+        (λ rs l t n s. leads-made (record { kind = kind.Whole; telling = name }) after s)
+
+    -- a string's is set
+    pub fills-string : (name : Telling) (here : Place) (u : Scanned) → Positioned program (afterOf here u)
+        → Turns program m input space room anyRecords
+        (fillsIn (record { kind = kind.Text; telling = name }) b (positionOf program (afterOf here u)))
+        (storedTurn (stringSet m name (length b)) here u)
+        (spaceStored (m .tables .strings) (m .used) name (copied space (m .used) b) (length b)) room
+    fills-string name here u p =
+        let long = copied-length space (m .used) b in
+        let k = settled-kept long (sound .settled) in
+        let f : m .used + length b ≤ length (copied space (m .used) b) = rw long fits in
+        let after = positionOf program (afterOf here u) in
+        turns-stored here u (stringSet m name (length b)) (sound-tables sound (string-settled name (length b) k f))
+        (string-long name (length b) k f ∙ long) refl refl p
+        (λ rs l t n s.
+        leads-on (leads-made (record { kind = kind.Text; telling = name }) after s)
+        (λ o e.
+        rw (copied-bytes space (m .used) b fits) at (leads-string name (length b) k f e (λ o. goesOn o after))))
+
+-- ---- the text is printed first
+
+module _ (program : List ℕ) {m : Machine} {input space room : List ℕ} (sound : Sound m input space room) (b : List ℕ) (v : Variable)
+    (after : spec.Position) where
+  -- there is no room for it
+  pub asks-full : printedAs (m .printer) (length room) b .ok ≡ false
+      → Turns program m input space room anyRecords (λ n. doStatement program (lineInput b v) n after) (turnedTo m (next.Fails OutputFull))
+      space (copied room (m .printer .written) b)
+  asks-full e =
+      rw (copied-past room (m .printer .written) b (not-printed (m .printer) room b e))
+      (turns-fails (leaves-unprinted sound refl refl refl)
+      (λ rs l t n s. record { machine = n; is = rw (write-full (sound .fitting) b n (s .column) (s .output) (s .outputRoom) e); same = s }))
+
+  printed-leaves-it : {x : Next} → Leaves m input space room (turnedTo (withPrinter m (printedAs (m .printer) (length room) b .printer)) x)
+      space (copied room (m .printer .written) b)
+  printed-leaves-it =
+      let fit = sound .fitting in
+      printed-leaves
+      (printed-more (printed-none (sound .settled) fit) (printedAs (m .printer) (length room) b .printer) refl
+      (room-length fit b) (fitting-after fit b) (written-grows fit b) (room-above fit b))
+      sound
+
+  -- it was printed
+  pub asks-on : printedAs (m .printer) (length room) b .ok ≡ true → {m′ : Machine} {room′ : List ℕ}
+      → m′ ≡ withPrinter m (printedAs (m .printer) (length room) b .printer) → room′ ≡ copied room (m .printer .written) b
+      → {r : Turned} {space′ : List ℕ}
+      → (Sound m′ input space room′ → Turns program m′ input space room′ anyRecords (takesLine v after) r space′ room′)
+      → Turns program m input space room anyRecords (λ n. doStatement program (lineInput b v) n after) r space′ room′
+  asks-on e f g t =
+      let l = printed-leaves-it {x = next.Ends} in
+      rw g
+      (turns-then l
+      (λ rs l u n s. rw e at (leads-written s (sound .fitting) b (takesLine v after)))
+      ((rw (f, g) at t) (l .sound)))
+
+-- printing leaves the variables
+pub printed-settled : {m m′ : Machine} {space : List ℕ} {p : Printer} → m′ ≡ withPrinter m p → Settled m space → Settled m′ space
+printed-settled e t = rw e (record { numbers = t .numbers; strings = t .strings; all = t .all; within = t .within; small = t .small })
+
+-- ---- its text and its variable
+
+-- all tokens but texts
+abbrev noTexts : List ℕ
+noTexts = 0 ∷ 1 ∷ 2 ∷ 3 ∷ 4 ∷ 5 ∷ 6 ∷ 7 ∷ 8 ∷ 10 ∷ 11 ∷ []
+
+no-text : (t : Token) (go : Quotation → Begun) (other : Begun) → OneOf noTexts (tokenTag t) → onText t go other ≡ other
+no-text t go other o =
+    by-text (λ b. OneOf noTexts (tokenTag t) → b ≡ other) t go other (λ q f w h. absurd (miss noTexts 9 tt (rw w at h))) (λ f h. refl) o
+
+text-of : (s b : List ℕ) (t : Scanned) {prompt : List ℕ} {v : Variable} {u : Scanned} → targetAt s b t ≡ done (lineInput prompt v) u → prompt ≡ b
+text-of s b t {prompt} {v} {u} =
+    by-name (λ x. x ≡ done (lineInput prompt v) u → prompt ≡ b) (t .token) _ _ (λ w f n e. cc)
+    (λ f e. let z : _≡_ {A = ℕ} 0 1 = cc in absurd (omega arith))
+
+-- the variable is the one that the token names, and what follows it follows the statement
+pub target-is : (s b : List ℕ) (t : Scanned) {name : Name} {v : Variable} {u : Scanned} → t .token ≡ Named name
+    → targetAt s b t ≡ done (lineInput b v) u → (v ≡ variableOf s name) × (u ≡ after s t)
+target-is s b t w e = let h = rw w at e in (cc, cc)
+
+pub not-target : (s b : List ℕ) (t : Scanned) {v : Variable} {u : Scanned} → OneOf noNames (tokenTag (t .token))
+    → targetAt s b t ≡ done (lineInput b v) u → ⊥
+not-target s b t o e =
+    let h = rw (no-name (t .token) (λ v. done (lineInput b (variableOf s v)) (after s t)) bad o) at e in
+    let z : _≡_ {A = ℕ} 0 1 = cc in omega arith
+
+module _ (s : List ℕ) (t : Scanned) {prompt : List ℕ} {v : Variable} {u : Scanned} (e : inputAt s t ≡ done (lineInput prompt v) u) where
+  -- a quoted text comes first,
+  pub input-quoted : (q : Quotation) → t .token ≡ Quoted q
+      → (targetAt s (quotedBytes s q) (after s (after s t)) ≡ done (lineInput (quotedBytes s q) v) u) × (prompt ≡ quotedBytes s q)
+  unfolding inputAt
+  input-quoted q w =
+      let h = rw w at e in
+      by-test (isSymbol Semicolon (after s t .token))
+      (λ c. let k = rw c at h in let p = text-of s (quotedBytes s q) (after s (after s t)) k in (rw p at k, p))
+      (λ c. let k = rw c at h in let z : _≡_ {A = ℕ} 0 1 = cc in absurd (omega arith))
+
+  -- or none
+  pub input-bare : OneOf noTexts (tokenTag (t .token)) → (targetAt s [] t ≡ done (lineInput [] v) u) × (prompt ≡ [])
+  unfolding inputAt
+  input-bare o =
+      let k = rw (no-text (t .token) (λ q. choose (isSymbol Semicolon (after s t .token)) (λ _. targetAt s (quotedBytes s q) (after s (after s t))) (λ _. bad)) (targetAt s [] t) o) at e in
+      let p = text-of s [] t k in (rw p at k, p)
+
+-- a text lies within its line
+pub quoted-inside : {s : List ℕ} {t : Scanned} {q : Quotation} → Scans s t → t .token ≡ Quoted q → q .at .0 + q .len < length s
+quoted-inside {s} {q = q} h w = scanned-ends s (h .from) (h .is) .text q w
+
+pub quoted-part : (s : List ℕ) (a n : ℕ) → take (a + n - a) (drop a s) ≡ take n (drop a s)
+quoted-part s a n = let e : a + n - a ≡ n = omega arith in rw e
+
+-- what storing the line begins with
+pub fills-storable : {m : Machine} {space space′ : List ℕ} (b : List ℕ) → Settled m space → space′ ≡ copied space (m .used) b
+    → m .used + length b ≤ length space → length b ≤ 254 → Settled m space′ × ((m .used + length b ≤ length space′) × (length b ≤ 255))
+fills-storable {m} {space} b s e f h =
+    let l = copied-length space (m .used) b in rw e (settled-kept l s, (rw l f, omega arith))

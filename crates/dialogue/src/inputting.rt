@@ -1,0 +1,178 @@
+// LINE INPUT.
+ghost use mathlib.Core.Path.{_≡_};
+ghost use mathlib.Core.List.{List};
+ghost use Prim.Native.Nat.{ℕ, _≤_};
+ghost use lib.ListN.{length};
+ghost use Rattle.grammar.specs.Trees as tree;
+ghost use Rattle.grammar.specs.Trees.{Variable};
+ghost use Rattle.statements.specs.Statements.{done, variableOf, targetAt, inputAt};
+ghost use Rattle.machine.specs.Holding.{positionOf, Positioned, Settled, Sound};
+ghost use Rattle.turns.specs.Steps.{doStatement};
+ghost use Rattle.turns.specs.Turns.{afterOf, Turns, anyRecords};
+ghost use Rattle.dialogue.specs.Asking.{Asks, takesLine, fillsIn};
+use crate::outputting::with_printer;
+use loader::extent_at;
+use machine::Machine;
+use machine::Turned;
+use machine::write;
+use space::Offset;
+use space::copy_in;
+use turns::fails;
+use turns::stored_or_full;
+use turns::with_string;
+use whole::Error;
+use words::Kind;
+use words::Name;
+use words::Place;
+use words::Scanned;
+use words::Token;
+use words::telling_of;
+use words::token_at;
+
+// The longest line of input.
+const LONGEST: usize = 254;
+
+// A line that was taken makes a string; its room is asked for before the variable's type is looked at.
+fn fill(
+    line: &[u8],
+    here: Place,
+    name: Name,
+    ahead: Scanned,
+    machine: Machine,
+    bytes: &[u8],
+    space: &mut [u8],
+) -> Turned
+    requires { ⌜ Settled machine (now space) × (length (now bytes) ≤ 254) ⌝ }
+    ensures { λ r. ⌜
+        ((text input room : List ℕ) → Sound machine input (now (space .entry)) room → Positioned text (afterOf here ahead)
+        → Turns text machine input (now (space .entry)) room anyRecords
+        (fillsIn (variableOf (now (line .entry)) name) (now (bytes .entry)) (positionOf text (afterOf here ahead))) r (now (space .exit)) room)
+        ⌝ }
+{
+    let used = machine.used;
+    let kind = name.kind;
+    let len = bytes.len();
+    if space.len() - used < len {
+        return fails(machine, Error::OutOfStringSpace);
+    }
+    copy_in(space, Offset(used), bytes);
+    match kind {
+        Kind::Whole => fails(machine, Error::TypeMismatch),
+        Kind::Text => stored_or_full(
+            with_string(machine, telling_of(line, name), space, len),
+            here,
+            ahead,
+        ),
+    }
+}
+
+// 62 if no bytes are left, 23 if over 254 bytes; on these no input is taken.
+fn take_line(
+    line: &[u8],
+    here: Place,
+    name: Name,
+    ahead: Scanned,
+    machine: Machine,
+    input: &[u8],
+    space: &mut [u8],
+) -> Turned
+    requires { ⌜ Settled machine (now space) ⌝ }
+    ensures { λ r. ⌜
+        ((text room : List ℕ) → Sound machine (now (input .entry)) (now (space .entry)) room → Positioned text (afterOf here ahead)
+        → Turns text machine (now (input .entry)) (now (space .entry)) room anyRecords
+        (takesLine (variableOf (now (line .entry)) name) (positionOf text (afterOf here ahead))) r (now (space .exit)) room)
+        ⌝ }
+{
+    let from = machine.taken;
+    if input.len() <= from {
+        return fails(machine, Error::InputPastEnd);
+    }
+    let extent = extent_at(input, from);
+    let end = extent.end;
+    if LONGEST < end - from {
+        return fails(machine, Error::LineBufferOverflow);
+    }
+    let mut m = machine;
+    m.taken = extent.next;
+    fill(line, here, name, ahead, m, &input[from..end], space)
+}
+
+// The text is printed, making no string; then a line of input is taken.
+fn prompt(
+    line: &[u8],
+    here: Place,
+    text: &[u8],
+    target: Scanned,
+    machine: Machine,
+    input: &[u8],
+    space: &mut [u8],
+    room: &mut [u8],
+) -> Turned
+    requires { ⌜ Sound machine (now input) (now space) (now room) ⌝ }
+    ensures { λ r. ⌜
+        ((program : List ℕ) (v : Variable) (u : Scanned) → Positioned program (afterOf here u)
+        → targetAt (now (line .entry)) (now (text .entry)) target ≡ done (tree.lineInput (now (text .entry)) v) u
+        → Turns program machine (now (input .entry)) (now (space .entry)) (now (room .entry)) anyRecords
+        (λ n. doStatement program (tree.lineInput (now (text .entry)) v) n (positionOf program (afterOf here u))) r (now (space .exit)) (now (room .exit)))
+        ⌝ }
+{
+    let printed = write(machine.printer, room, text);
+    if !printed.ok {
+        return fails(machine, Error::OutputFull);
+    }
+    let printer = printed.printer;
+    let m = with_printer(machine, printer);
+    let token = target.token;
+    match token {
+        Token::Named(name) => take_line(
+            line,
+            here,
+            name,
+            token_at(line, target.next),
+            m,
+            input,
+            space,
+        ),
+        _ => fails(m, Error::Syntax),
+    }
+}
+
+// After INPUT comes a quoted text and a semicolon, or the variable at once.
+pub fn line_input(
+    line: &[u8],
+    here: Place,
+    first: Scanned,
+    machine: Machine,
+    input: &[u8],
+    space: &mut [u8],
+    room: &mut [u8],
+) -> Turned
+    requires { ⌜ Asks (now line) first × Sound machine (now input) (now space) (now room) ⌝ }
+    ensures { λ r. ⌜
+        ((text prompt : List ℕ) (v : Variable) (u : Scanned) → Positioned text (afterOf here u) → inputAt (now (line .entry)) first ≡ done (tree.lineInput prompt v) u
+        → Turns text machine (now (input .entry)) (now (space .entry)) (now (room .entry)) anyRecords
+        (λ n. doStatement text (tree.lineInput prompt v) n (positionOf text (afterOf here u))) r (now (space .exit)) (now (room .exit)))
+        ⌝ }
+{
+    let token = first.token;
+    match token {
+        Token::Quoted(quotation) => {
+            let place = quotation.at;
+            let from = place.0;
+            let end = from + quotation.len;
+            let semicolon = token_at(line, first.next);
+            let target = token_at(line, semicolon.next);
+            prompt(
+                line,
+                here,
+                &line[from..end],
+                target,
+                machine,
+                input,
+                space,
+                room,
+            )
+        }
+        _ => prompt(line, here, &line[..0], first, machine, input, space, room),
+    }
+}

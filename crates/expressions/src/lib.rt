@@ -1,0 +1,13 @@
+// The readers of formulas: what follows one, its type, and how deep its parentheses nest.
+mod calls;
+mod readers;
+mod sorts;
+
+pub use readers::FormulaRead;
+pub use readers::formula_at;
+pub use readers::larger;
+pub use sorts::Sort;
+pub use sorts::is_of;
+pub use sorts::is_some;
+pub use sorts::is_whole;
+pub use sorts::of_kind;

@@ -1,0 +1,5 @@
+pub mod Givens
+pub mod Produced
+pub mod Parts
+pub mod Finding
+pub mod Calls

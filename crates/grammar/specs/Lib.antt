@@ -1,0 +1,5 @@
+pub mod Answers
+pub mod Formulas
+pub mod Functions
+pub mod Tests
+pub mod Trees

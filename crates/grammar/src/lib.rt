@@ -1,0 +1,19 @@
+// What the readers ask of tokens, the operators' levels, and what functions take and give.
+mod functions;
+mod tests;
+
+pub use functions::Want;
+pub use functions::Wanted;
+pub use functions::gives;
+pub use functions::wants_one;
+pub use functions::wants_three;
+pub use functions::wants_two;
+pub use tests::NamedLine;
+pub use tests::OperatorFound;
+pub use tests::ends_line;
+pub use tests::ends_statement;
+pub use tests::is_keyword;
+pub use tests::is_symbol;
+pub use tests::level_of;
+pub use tests::line_of;
+pub use tests::tight_operator;

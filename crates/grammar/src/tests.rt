@@ -1,0 +1,227 @@
+// Tests of a token.
+ghost use mathlib.Core.Path.{_≡_};
+ghost use Rattle.grammar.specs.Tests.{signRank, wordRank, isSymbol, isKeyword, endsStatement, endsLine};
+ghost use Rattle.grammar.specs.Formulas.{levelOf, signOperator, operatorOf, tightOperator};
+ghost use Rattle.grammar.specs.Answers.{lineOf};
+use whole::Operator;
+use words::LineNumber;
+use words::Sign;
+use words::Token;
+use words::Word;
+
+pub enum OperatorFound {
+    Is(Operator),
+    None,
+}
+
+// The line that a token numbers.
+pub enum NamedLine {
+    Names(LineNumber),
+    NoLine,
+}
+
+fn sign_rank(sign: Sign) -> u8
+    ensures { λ r. ⌜ r ≡ signRank sign ⌝ }
+{
+    match sign {
+        Sign::Open => 0,
+        Sign::Close => 1,
+        Sign::Comma => 2,
+        Sign::Semicolon => 3,
+        Sign::Colon => 4,
+        Sign::Question => 5,
+        Sign::Equal => 6,
+        Sign::Minus => 7,
+    }
+}
+
+fn word_rank(word: Word) -> u8
+    ensures { λ r. ⌜ r ≡ wordRank word ⌝ }
+{
+    match word {
+        Word::Let => 0,
+        Word::Print => 1,
+        Word::If => 2,
+        Word::Then => 3,
+        Word::Else => 4,
+        Word::Goto => 5,
+        Word::Gosub => 6,
+        Word::Return => 7,
+        Word::For => 8,
+        Word::To => 9,
+        Word::Step => 10,
+        Word::Next => 11,
+        Word::Line => 12,
+        Word::Input => 13,
+        Word::End => 14,
+        Word::Stop => 15,
+        Word::Rem => 16,
+        Word::While => 17,
+        Word::Wend => 18,
+        Word::Data => 19,
+        Word::Read => 20,
+        Word::Restore => 21,
+    }
+}
+
+pub fn is_symbol(sign: Sign, token: Token) -> bool
+    ensures { λ r. ⌜ r ≡ isSymbol sign token ⌝ }
+{
+    match token {
+        Token::EndOfLine => false,
+        Token::Keyword(_) => false,
+        Token::Not => false,
+        Token::Infix(_) => false,
+        Token::Call(_) => false,
+        Token::Named(_) => false,
+        Token::Number(_) => false,
+        Token::Hexadecimal(_) => false,
+        Token::LineOnly(_) => false,
+        Token::Quoted(_) => false,
+        Token::Symbol(found) => sign_rank(found) == sign_rank(sign),
+        Token::Unreadable => false,
+    }
+}
+
+pub fn is_keyword(word: Word, token: Token) -> bool
+    ensures { λ r. ⌜ r ≡ isKeyword word token ⌝ }
+{
+    match token {
+        Token::EndOfLine => false,
+        Token::Keyword(found) => word_rank(found) == word_rank(word),
+        Token::Not => false,
+        Token::Infix(_) => false,
+        Token::Call(_) => false,
+        Token::Named(_) => false,
+        Token::Number(_) => false,
+        Token::Hexadecimal(_) => false,
+        Token::LineOnly(_) => false,
+        Token::Quoted(_) => false,
+        Token::Symbol(_) => false,
+        Token::Unreadable => false,
+    }
+}
+
+pub fn ends_line(token: Token) -> bool
+    ensures { λ r. ⌜ r ≡ endsLine token ⌝ }
+{
+    match token {
+        Token::EndOfLine => true,
+        Token::Keyword(_) => false,
+        Token::Not => false,
+        Token::Infix(_) => false,
+        Token::Call(_) => false,
+        Token::Named(_) => false,
+        Token::Number(_) => false,
+        Token::Hexadecimal(_) => false,
+        Token::LineOnly(_) => false,
+        Token::Quoted(_) => false,
+        Token::Symbol(_) => false,
+        Token::Unreadable => false,
+    }
+}
+
+// A colon, ELSE or the line's end.
+pub fn ends_statement(token: Token) -> bool
+    ensures { λ r. ⌜ r ≡ endsStatement token ⌝ }
+{
+    if ends_line(token) {
+        return true;
+    }
+    if is_keyword(Word::Else, token) {
+        return true;
+    }
+    is_symbol(Sign::Colon, token)
+}
+
+// A line number in a statement is digits, up to 65529.
+pub fn line_of(token: Token) -> NamedLine
+    ensures { λ r. ⌜ r ≡ lineOf token ⌝ }
+{
+    match token {
+        Token::EndOfLine => NamedLine::NoLine,
+        Token::Keyword(_) => NamedLine::NoLine,
+        Token::Not => NamedLine::NoLine,
+        Token::Infix(_) => NamedLine::NoLine,
+        Token::Call(_) => NamedLine::NoLine,
+        Token::Named(_) => NamedLine::NoLine,
+        Token::Number(number) => NamedLine::Names(LineNumber(number)),
+        Token::Hexadecimal(_) => NamedLine::NoLine,
+        Token::LineOnly(number) => NamedLine::Names(number),
+        Token::Quoted(_) => NamedLine::NoLine,
+        Token::Symbol(_) => NamedLine::NoLine,
+        Token::Unreadable => NamedLine::NoLine,
+    }
+}
+
+// How tight an operator binds, loosest first.
+pub fn level_of(operator: Operator) -> u8
+    ensures { λ r. ⌜ r ≡ levelOf operator ⌝ }
+{
+    match operator {
+        Operator::Imp => 0,
+        Operator::Eqv => 1,
+        Operator::Xor => 2,
+        Operator::Or => 3,
+        Operator::And => 4,
+        Operator::Equal => 6,
+        Operator::Unequal => 6,
+        Operator::Less => 6,
+        Operator::Greater => 6,
+        Operator::AtMost => 6,
+        Operator::AtLeast => 6,
+        Operator::Add => 7,
+        Operator::Subtract => 7,
+        Operator::Modulo => 8,
+        Operator::Divide => 9,
+        Operator::Multiply => 10,
+    }
+}
+
+fn sign_operator(sign: Sign) -> OperatorFound
+    ensures { λ r. ⌜ r ≡ signOperator sign ⌝ }
+{
+    match sign {
+        Sign::Open => OperatorFound::None,
+        Sign::Close => OperatorFound::None,
+        Sign::Comma => OperatorFound::None,
+        Sign::Semicolon => OperatorFound::None,
+        Sign::Colon => OperatorFound::None,
+        Sign::Question => OperatorFound::None,
+        Sign::Equal => OperatorFound::Is(Operator::Equal),
+        Sign::Minus => OperatorFound::Is(Operator::Subtract),
+    }
+}
+
+fn operator_of(token: Token) -> OperatorFound
+    ensures { λ r. ⌜ r ≡ operatorOf token ⌝ }
+{
+    match token {
+        Token::EndOfLine => OperatorFound::None,
+        Token::Keyword(_) => OperatorFound::None,
+        Token::Not => OperatorFound::None,
+        Token::Infix(operator) => OperatorFound::Is(operator),
+        Token::Call(_) => OperatorFound::None,
+        Token::Named(_) => OperatorFound::None,
+        Token::Number(_) => OperatorFound::None,
+        Token::Hexadecimal(_) => OperatorFound::None,
+        Token::LineOnly(_) => OperatorFound::None,
+        Token::Quoted(_) => OperatorFound::None,
+        Token::Symbol(sign) => sign_operator(sign),
+        Token::Unreadable => OperatorFound::None,
+    }
+}
+
+// The two-sided operator that a token is, where it is of the level or a tighter one.
+pub fn tight_operator(level: u8, token: Token) -> OperatorFound
+    ensures { λ r. ⌜ r ≡ tightOperator level token ⌝ }
+{
+    let found = operator_of(token);
+    let OperatorFound::Is(operator) = found else {
+        return OperatorFound::None;
+    };
+    if level_of(operator) < level {
+        return OperatorFound::None;
+    }
+    found
+}

@@ -1,0 +1,235 @@
+// The two-sided operators over values: the texts of both sides stand side by side in the space, the left one from `used` on.
+ghost use mathlib.Core.Path.{_≡_};
+ghost use Prim.Native.Nat.{_+_, _≤_};
+ghost use lib.ListN.{length, take, drop};
+ghost use Rattle.whole.specs.Whole.{say};
+ghost use Rattle.variables.specs.Strings.{Room};
+ghost use Rattle.operators.specs.Values.{wantsWhole, onTexts};
+ghost use Rattle.operators.specs.Memory.{orderOf, isLessOrder, isSameOrder, isGreaterOrder, takesLeft, joinedLength, turnAs, turnBefore, SidesMet};
+ghost use Rattle.variables.specs.Memory.{textLength, Agrees, Held, GoesOn};
+use grammar::OperatorFound;
+use grammar::tight_operator;
+use variables::Worked;
+use variables::answered;
+use variables::has_room;
+use whole::Answer;
+use whole::Error;
+use whole::Operator;
+use whole::apply;
+use words::Place;
+use words::Scanned;
+
+pub enum Order {
+    Less,
+    Same,
+    Greater,
+}
+
+// What a left side meets: the end of its formula, an operator that does not take it, or one that does, and the place after that.
+pub enum Turn {
+    Ends,
+    Refused,
+    Goes(Operator, Place),
+}
+
+const LONGEST: usize = 255;
+
+// Strings compare by bytes, and a proper prefix is less. The right one stands right after the left one.
+fn compare(space: &[u8], left: usize, first: usize, second: usize) -> Order
+    requires { ⌜ left + first + second ≤ length (now space) ⌝ }
+    ensures { λ r. ⌜ r ≡ orderOf (take first (drop left (now (space .entry)))) (take second (drop (left + first) (now (space .entry)))) ⌝ }
+{
+    let right = left + first;
+    let mut i = 0;
+    while i < first && i < second {
+        let a = space[left + i];
+        let b = space[right + i];
+        if a < b {
+            return Order::Less;
+        }
+        if b < a {
+            return Order::Greater;
+        }
+        i += 1;
+    }
+    if first < second {
+        return Order::Less;
+    }
+    if second < first {
+        Order::Greater
+    } else {
+        Order::Same
+    }
+}
+
+fn truth(holds: bool) -> Answer
+    ensures { λ r. ⌜ r ≡ say holds ⌝ }
+{
+    if holds {
+        Answer::Whole(65535)
+    } else {
+        Answer::Whole(0)
+    }
+}
+
+fn is_less(order: Order) -> bool
+    ensures { λ r. ⌜ r ≡ isLessOrder order ⌝ }
+{
+    match order {
+        Order::Less => true,
+        Order::Same => false,
+        Order::Greater => false,
+    }
+}
+
+fn is_same(order: Order) -> bool
+    ensures { λ r. ⌜ r ≡ isSameOrder order ⌝ }
+{
+    match order {
+        Order::Less => false,
+        Order::Same => true,
+        Order::Greater => false,
+    }
+}
+
+fn is_greater(order: Order) -> bool
+    ensures { λ r. ⌜ r ≡ isGreaterOrder order ⌝ }
+{
+    match order {
+        Order::Less => false,
+        Order::Same => false,
+        Order::Greater => true,
+    }
+}
+
+// Two texts side by side are already joined; only room is asked for, while both are live.
+fn join(space: &[u8], used: usize, first: usize, second: usize, ahead: Scanned) -> Worked
+    requires { ⌜ used + first + second ≤ length (now space) ⌝ }
+    ensures { λ r. ⌜ r ≡ joinedLength (length (now (space .entry))) used first second ahead ⌝ }
+{
+    let len = first + second;
+    if LONGEST < len {
+        return Worked::Fault(Error::StringTooLong);
+    }
+    if !has_room(space, used + len, len) {
+        return Worked::Fault(Error::OutOfStringSpace);
+    }
+    Worked::Text(len, ahead)
+}
+
+fn on_texts(
+    operator: Operator,
+    space: &[u8],
+    used: usize,
+    first: usize,
+    second: usize,
+    ahead: Scanned,
+) -> Worked
+    requires { ⌜ used + first + second ≤ length (now space) ⌝ }
+    ensures { λ r. ⌜
+        ((room : Room) → Held room (now (space .entry)) (used + first + second)
+        → Agrees r (now (space .entry)) used (onTexts operator (take first (drop used (now (space .entry)))) (take second (drop (used + first) (now (space .entry)))) room))
+        × GoesOn r ahead
+        ⌝ }
+{
+    let order = compare(space, used, first, second);
+    match operator {
+        Operator::Add => join(space, used, first, second, ahead),
+        Operator::Equal => answered(truth(is_same(order)), ahead),
+        Operator::Unequal => answered(truth(!is_same(order)), ahead),
+        Operator::Less => answered(truth(is_less(order)), ahead),
+        Operator::Greater => answered(truth(is_greater(order)), ahead),
+        Operator::AtMost => answered(truth(!is_greater(order)), ahead),
+        Operator::AtLeast => answered(truth(!is_less(order)), ahead),
+        Operator::Multiply => Worked::Fault(Error::TypeMismatch),
+        Operator::Divide => Worked::Fault(Error::TypeMismatch),
+        Operator::Modulo => Worked::Fault(Error::TypeMismatch),
+        Operator::Subtract => Worked::Fault(Error::TypeMismatch),
+        Operator::And => Worked::Fault(Error::TypeMismatch),
+        Operator::Or => Worked::Fault(Error::TypeMismatch),
+        Operator::Xor => Worked::Fault(Error::TypeMismatch),
+        Operator::Eqv => Worked::Fault(Error::TypeMismatch),
+        Operator::Imp => Worked::Fault(Error::TypeMismatch),
+    }
+}
+
+// Whether an operator wants whole numbers: all but `+` and the comparisons.
+fn wants_whole(operator: Operator) -> bool
+    ensures { λ r. ⌜ r ≡ wantsWhole operator ⌝ }
+{
+    match operator {
+        Operator::Add => false,
+        Operator::Equal => false,
+        Operator::Unequal => false,
+        Operator::Less => false,
+        Operator::Greater => false,
+        Operator::AtMost => false,
+        Operator::AtLeast => false,
+        Operator::Multiply => true,
+        Operator::Divide => true,
+        Operator::Modulo => true,
+        Operator::Subtract => true,
+        Operator::And => true,
+        Operator::Or => true,
+        Operator::Xor => true,
+        Operator::Eqv => true,
+        Operator::Imp => true,
+    }
+}
+
+// Whether a left side is of a type that the operator takes.
+pub(crate) fn takes_left(operator: Operator, left: Worked) -> bool
+    ensures { λ r. ⌜ r ≡ takesLeft operator left ⌝ }
+{
+    match left {
+        Worked::Whole(_, _) => true,
+        Worked::Text(_, _) => !wants_whole(operator),
+        Worked::Fault(_) => true,
+    }
+}
+
+// An error ends a formula, and so does whatever is no operator of its level or a tighter one.
+pub fn turn_of(level: u8, left: Worked) -> Turn
+    ensures { λ r. ⌜ r ≡ turnAs level left ⌝ }
+{
+    match left {
+        Worked::Fault(_) => Turn::Ends,
+        Worked::Whole(_, ahead) => turn_before(level, left, ahead),
+        Worked::Text(_, ahead) => turn_before(level, left, ahead),
+    }
+}
+
+fn turn_before(level: u8, left: Worked, ahead: Scanned) -> Turn
+    ensures { λ r. ⌜ r ≡ turnBefore level left ahead ⌝ }
+{
+    let token = ahead.token;
+    let next = ahead.next;
+    match tight_operator(level, token) {
+        OperatorFound::None => Turn::Ends,
+        OperatorFound::Is(operator) => if takes_left(operator, left) {
+            Turn::Goes(operator, next)
+        } else {
+            Turn::Refused
+        },
+    }
+}
+
+// Both sides' answers: the first error stands, and the right value must be of the left one's type.
+pub fn joined(operator: Operator, left: Worked, right: Worked, space: &[u8], used: usize) -> Worked
+    requires { ⌜ used + textLength left + textLength right ≤ length (now space) ⌝ }
+    ensures { λ r. ⌜ SidesMet operator left right (now (space .entry)) used r ⌝ }
+{
+    match left {
+        Worked::Fault(error) => Worked::Fault(error),
+        Worked::Whole(a, _) => match right {
+            Worked::Fault(error) => Worked::Fault(error),
+            Worked::Whole(b, ahead) => answered(apply(operator, a, b), ahead),
+            Worked::Text(_, _) => Worked::Fault(Error::TypeMismatch),
+        },
+        Worked::Text(first, _) => match right {
+            Worked::Fault(error) => Worked::Fault(error),
+            Worked::Whole(_, _) => Worked::Fault(Error::TypeMismatch),
+            Worked::Text(second, ahead) => on_texts(operator, space, used, first, second, ahead),
+        },
+    }
+}

@@ -1,0 +1,115 @@
+-- What is asked of a line that reads: how deep its formulas nest, whether its types are right, which lines it names. Every branch
+-- counts: the statements of a part are taken in text order, those of an IF's parts after the IF.
+use mathlib.Core.Bool.{Bool, true, _&&_}
+use mathlib.Core.List.{List, [], _∷_, _++_}
+use Prim.Native.Nat.{ℕ, max}
+use Rattle.grammar.specs.Trees.{Formula, Variable, Item, comma, semicolon, shown, Statement, empty, assign, print, ifThen, ifElse, goto, gosub, return, for, next, nextOf, lineInput, end, stop, remark, Part, last, more}
+use Rattle.expressions.specs.Types.{isWhole, isText, isSome, isOf, sortOf, depthOf}
+use Rattle.expressions.specs.declared.sorts.Sort.the-variants.{Whole, Text}
+use Rattle.grammar.specs.declared.tests.NamedLine.{NamedLine}
+use Rattle.grammar.specs.declared.tests.NamedLine.the-variants.{Names, NoLine}
+
+-- ---- a statement by itself, without the parts of an IF
+
+abbrev pub itemFormulas : List Item → List Formula
+itemFormulas [] = []
+itemFormulas (comma ∷ is) = itemFormulas is
+itemFormulas (semicolon ∷ is) = itemFormulas is
+itemFormulas (shown f ∷ is) = f ∷ itemFormulas is
+
+abbrev pub formulasOf : Statement → List Formula
+formulasOf empty = []
+formulasOf (assign v f) = f ∷ []
+formulasOf (print is) = itemFormulas is
+formulasOf (ifThen c p) = c ∷ []
+formulasOf (ifElse c p q) = c ∷ []
+formulasOf (goto l) = []
+formulasOf (gosub l) = []
+formulasOf return = []
+formulasOf (for v from to by) = from ∷ to ∷ by ∷ []
+formulasOf next = []
+formulasOf (nextOf v) = []
+formulasOf (lineInput t v) = []
+formulasOf end = []
+formulasOf stop = []
+formulasOf remark = []
+
+unfoldable pub deepest : List Formula → ℕ
+deepest [] = 0
+deepest (f ∷ fs) = max (depthOf f) (deepest fs)
+
+unfoldable pub allSome : List Formula → Bool
+allSome [] = true
+allSome (f ∷ fs) = isSome (sortOf f) && allSome fs
+
+abbrev pub isNumber : Variable → Bool
+isNumber v = isOf (v .kind) Whole
+
+-- a formula, condition, argument, target or NEXT's name of the right type
+abbrev pub rightlyTyped : Statement → Bool
+rightlyTyped empty = true
+rightlyTyped (assign v f) = isOf (v .kind) (sortOf f)
+rightlyTyped (print is) = allSome (itemFormulas is)
+rightlyTyped (ifThen c p) = isWhole (sortOf c)
+rightlyTyped (ifElse c p q) = isWhole (sortOf c)
+rightlyTyped (goto l) = true
+rightlyTyped (gosub l) = true
+rightlyTyped return = true
+rightlyTyped (for v from to by) = isNumber v && (isWhole (sortOf from) && (isWhole (sortOf to) && isWhole (sortOf by)))
+rightlyTyped next = true
+rightlyTyped (nextOf v) = isNumber v
+rightlyTyped (lineInput t v) = isOf (v .kind) Text
+rightlyTyped end = true
+rightlyTyped stop = true
+rightlyTyped remark = true
+
+-- the line that a statement names
+abbrev pub namedLine : Statement → NamedLine
+namedLine empty = NoLine
+namedLine (assign v f) = NoLine
+namedLine (print is) = NoLine
+namedLine (ifThen c p) = NoLine
+namedLine (ifElse c p q) = NoLine
+namedLine (goto l) = Names l
+namedLine (gosub l) = Names l
+namedLine return = NoLine
+namedLine (for v from to by) = NoLine
+namedLine next = NoLine
+namedLine (nextOf v) = NoLine
+namedLine (lineInput t v) = NoLine
+namedLine end = NoLine
+namedLine stop = NoLine
+namedLine remark = NoLine
+
+-- ---- all statements of a part, in text order
+
+unfoldable mutual
+  pub statementsOf : Part → List Statement
+  statementsOf (last p statement) = statement ∷ withinIf statement
+  statementsOf (more p statement part) = statement ∷ (withinIf statement ++ statementsOf part)
+
+  -- those of the parts of an IF
+  pub withinIf : Statement → List Statement
+  withinIf empty = []
+  withinIf (assign v f) = []
+  withinIf (print is) = []
+  withinIf (ifThen c p) = statementsOf p
+  withinIf (ifElse c p q) = statementsOf p ++ statementsOf q
+  withinIf (goto l) = []
+  withinIf (gosub l) = []
+  withinIf return = []
+  withinIf (for v from to by) = []
+  withinIf next = []
+  withinIf (nextOf v) = []
+  withinIf (lineInput t v) = []
+  withinIf end = []
+  withinIf stop = []
+  withinIf remark = []
+
+unfoldable pub deepestIn : List Statement → ℕ
+deepestIn [] = 0
+deepestIn (x ∷ xs) = max (deepest (formulasOf x)) (deepestIn xs)
+
+unfoldable pub allTyped : List Statement → Bool
+allTyped [] = true
+allTyped (x ∷ xs) = rightlyTyped x && allTyped xs

@@ -1,0 +1,52 @@
+use Rattle.steps.proofs.Beginning.{no-line}
+use Rattle.steps.proofs.Dispatching.{call-does}
+use mathlib.Core.Path.{sym, _∙_}
+use borrow.Author.Needs.{needs}
+use Rattle.steps.proofs.doing.call.Statement.{statement}
+use Rattle.steps.proofs.doing.call.Tie as tie
+use Rattle.steps.proofs.doing.call.Reads as reads
+use Rattle.steps.proofs.doing.call.Lts as lts
+use Rattle.grammar.proofs.line_of.Reads as line-of-reads
+use Rattle.control.proofs.gosub.Reads as gosub-reads
+use Rattle.turns.proofs.fails.Reads as fails-reads
+use Rattle.words.proofs.token_at.Reads as token-at-reads
+
+line-of-requires : tie.Need-line-of-requires
+line-of-requires c κs = search needs
+
+enum-told : tie.Need-enum-told
+enum-told c = search needs
+
+fails-requires : tie.Need-fails-requires
+fails-requires c κs = search needs
+
+enum-known-number : tie.Need-enum-known-number
+enum-known-number c = search needs
+
+token-at-requires : tie.Need-token-at-requires
+token-at-requires c κs = search needs
+
+gosub-requires : tie.Need-gosub-requires
+gosub-requires c κs = search needs
+
+returns : tie.Need-returns
+returns c = λ input space room found entry sound. rw (no-line (c .before .before .before .before .before .before .args .target .token) _ _ (sym (c .before .before .before .line-of .ensures) ∙ c .before .enum-told .given .1)) tt
+
+returns-2 : tie.Need-returns-2
+returns-2 c =
+    λ input space room found entry sound.
+    call-does _ _ _ _ _ _ _ _ _ _ _ _ (c .before .before .before .before .before .before .before .before .args .target) (c .before .before .before .number .given .0 .0) (sym (c .before .before .before .before .before .line-of .ensures) ∙ c .before .before .before .number .given .1)
+    (rw (← (c .before .token-at .ensures)) (c .gosub .ensures input space room sound))
+
+pub call-spec : {M : Type 1} → statement M
+call-spec =
+    tie.close
+    (tie.spec
+    line-of-requires
+    enum-told
+    fails-requires
+    enum-known-number
+    token-at-requires
+    gosub-requires
+    returns
+    returns-2)

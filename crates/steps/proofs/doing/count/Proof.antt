@@ -1,0 +1,49 @@
+use Rattle.turns.proofs.Tokens.{no-name}
+use Rattle.steps.proofs.Beginning.{for-counts}
+use Rattle.steps.proofs.Dispatching.{loop-does}
+use borrow.Author.Needs.{needs}
+use Rattle.steps.proofs.doing.count.Statement.{statement}
+use Rattle.steps.proofs.doing.count.Tie as tie
+use Rattle.steps.proofs.doing.count.Reads as reads
+use Rattle.steps.proofs.doing.count.Lts as lts
+use Rattle.control.proofs.for_loop.Reads as for-loop-reads
+use Rattle.turns.proofs.fails.Reads as fails-reads
+use Rattle.words.proofs.token_at.Reads as token-at-reads
+
+token-at-requires : tie.Need-token-at-requires
+token-at-requires c κs = search needs
+
+enum-known-token : tie.Need-enum-known-token
+enum-known-token c = search needs
+
+for-loop-requires : tie.Need-for-loop-requires
+for-loop-requires c κs =
+    let s = c .before .before .before .before .before .before .before .args .line .now in
+    (rw (c .before .before .before .before .token-at .ensures) (for-counts s (c .before .before .before .before .before .before .before .pre .1 .0) (c .before .before .before .before .before .before .before .args .target) (c .before .before .token .given .0 .0) (rw (c .before .before .token .given .1) at (c .before .before .before .before .before .before .before .pre .0))), c .before .before .before .before .before .before .before .pre .1 .1)
+
+fails-requires : tie.Need-fails-requires
+fails-requires c κs = search needs
+
+same-length : tie.Need-same-length
+same-length c = search needs
+
+returns : tie.Need-returns
+returns c =
+    λ text input room entry sound.
+    loop-does _ _ _ _ _ _ _ _ _ _ _ _ (c .before .before .before .before .before .before .before .before .before .before .args .target) (c .before .before .before .before .before .token .given .0 .0) (c .before .before .before .before .before .token .given .1)
+    (λ from to by u p e. c .before .before .for-loop .ensures text input room from to by u sound p (rw (← (c .before .before .before .before .before .before .before .token-at .ensures)) at e) entry)
+
+returns-2 : tie.Need-returns-2
+returns-2 c = λ text input room entry sound. rw (no-name (c .before .before .before .before .before .args .target .token) _ _ (c .before .match .keys2)) tt
+
+pub count-spec : {M : Type 1} → statement M
+count-spec =
+    tie.close
+    (tie.spec
+    token-at-requires
+    enum-known-token
+    for-loop-requires
+    fails-requires
+    same-length
+    returns
+    returns-2)

@@ -1,0 +1,47 @@
+use Rattle.steps.proofs.Beginning.{no-line}
+use Rattle.steps.proofs.Dispatching.{jump-does}
+use mathlib.Core.Path.{sym, _∙_}
+use borrow.Author.Needs.{needs}
+use Rattle.steps.proofs.doing.jump.Statement.{statement}
+use Rattle.steps.proofs.doing.jump.Tie as tie
+use Rattle.steps.proofs.doing.jump.Reads as reads
+use Rattle.steps.proofs.doing.jump.Lts as lts
+use Rattle.grammar.proofs.line_of.Reads as line-of-reads
+use Rattle.control.proofs.goto.Reads as goto-reads
+use Rattle.turns.proofs.fails.Reads as fails-reads
+
+line-of-requires : tie.Need-line-of-requires
+line-of-requires c κs = search needs
+
+enum-told : tie.Need-enum-told
+enum-told c = search needs
+
+fails-requires : tie.Need-fails-requires
+fails-requires c κs = search needs
+
+enum-known-number : tie.Need-enum-known-number
+enum-known-number c = search needs
+
+goto-requires : tie.Need-goto-requires
+goto-requires c κs = search needs
+
+returns : tie.Need-returns
+returns c = λ line input space room here found entry sound. rw (no-line (c .before .before .before .before .before .args .target .token) _ _ (sym (c .before .before .before .line-of .ensures) ∙ c .before .enum-told .given .1)) tt
+
+returns-2 : tie.Need-returns-2
+returns-2 c =
+    λ line input space room here found entry sound.
+    jump-does _ _ _ _ _ _ _ _ _ _ _ _ (c .before .before .before .before .before .before .args .target) (c .before .before .number .given .0 .0) (sym (c .before .before .before .before .line-of .ensures) ∙ c .before .before .number .given .1)
+    (λ after. c .goto .ensures input space room after sound)
+
+pub jump-spec : {M : Type 1} → statement M
+jump-spec =
+    tie.close
+    (tie.spec
+    line-of-requires
+    enum-told
+    fails-requires
+    enum-known-number
+    goto-requires
+    returns
+    returns-2)

@@ -1,0 +1,22 @@
+use Rattle.turns.proofs.Tokens.{no-name}
+use borrow.Author.Needs.{needs}
+use Rattle.steps.proofs.doing.named_loop.Statement.{statement}
+use Rattle.steps.proofs.doing.named_loop.Tie as tie
+use Rattle.steps.proofs.doing.named_loop.Reads as reads
+use Rattle.steps.proofs.doing.named_loop.Lts as lts
+use Rattle.words.proofs.telling_of.Reads as telling-of-reads
+
+enum-known-token : tie.Need-enum-known-token
+enum-known-token c = search needs
+
+telling-of-requires : tie.Need-telling-of-requires
+telling-of-requires c κs = search needs
+
+returns : tie.Need-returns
+returns c = rw (c .before .before .token .given .1, c .telling-of .ensures)
+
+returns-2 : tie.Need-returns-2
+returns-2 c = rw (no-name (c .before .before .args .target .token) _ _ (c .match .keys2))
+
+pub named-loop-spec : {M : Type 1} → statement M
+named-loop-spec = tie.close (tie.spec enum-known-token telling-of-requires returns returns-2)

@@ -1,0 +1,64 @@
+use Rattle.statements.specs.Statements.{variableOf}
+use Rattle.steps.proofs.Dispatching.{next-text, next-whole}
+use Rattle.turns.proofs.Tokens.{no-name}
+use Rattle.machine.specs.declared.records.Sought.the-variants.{Loop, LoopOf}
+use mathlib.Core.Path.{refl}
+use borrow.Author.Needs.{needs}
+use Rattle.steps.proofs.doing.next_loop.Statement.{statement}
+use Rattle.steps.proofs.doing.next_loop.Tie as tie
+use Rattle.steps.proofs.doing.next_loop.Reads as reads
+use Rattle.steps.proofs.doing.next_loop.Lts as lts
+use Rattle.control.proofs.next_turn.Reads as next-turn-reads
+use Rattle.turns.proofs.fails.Reads as fails-reads
+use Rattle.words.proofs.token_at.Reads as token-at-reads
+
+enum-known-token : tie.Need-enum-known-token
+enum-known-token c = search needs
+
+enum-told : tie.Need-enum-told
+enum-told c = search needs
+
+fails-requires : tie.Need-fails-requires
+fails-requires c κs = search needs
+
+enum-told-2 : tie.Need-enum-told-2
+enum-told-2 c = search needs
+
+token-at-requires : tie.Need-token-at-requires
+token-at-requires c κs = search needs
+
+next-turn-requires : tie.Need-next-turn-requires
+next-turn-requires c κs = search needs
+
+next-turn-requires-2 : tie.Need-next-turn-requires-2
+next-turn-requires-2 c κs = search needs
+
+returns : tie.Need-returns
+returns c =
+    λ text input space room sound. rw (c .before .before .before .before .token .given .1, c .fails .ensures)
+    (λ p. next-text sound _ (variableOf (c .before .before .before .before .before .before .before .args .line .now) (c .before .before .before .before .token .given .0 .0)) _ (c .before .enum-told .given .1))
+
+returns-2 : tie.Need-returns-2
+returns-2 c =
+    λ text input space room sound. rw (c .before .before .before .before .before .token .given .1, ← (c .before .token-at .ensures))
+    (λ p.
+    let v = variableOf (c .before .before .before .before .before .before .before .before .args .line .now) (c .before .before .before .before .before .token .given .0 .0) in
+    next-whole v _ (c .before .before .enum-told2 .given .1) (c .next-turn .ensures text input space room (LoopOf (v .telling)) refl sound p))
+
+returns-3 : tie.Need-returns-3
+returns-3 c = λ text input space room sound. rw (no-name (c .before .before .before .args .target .token) _ _ (c .before .match .keys2)) (c .next-turn2 .ensures text input space room Loop refl sound)
+
+pub next-loop-spec : {M : Type 1} → statement M
+next-loop-spec =
+    tie.close
+    (tie.spec
+    enum-known-token
+    enum-told
+    fails-requires
+    enum-told-2
+    token-at-requires
+    next-turn-requires
+    next-turn-requires-2
+    returns
+    returns-2
+    returns-3)

@@ -1,0 +1,62 @@
+-- A name, the equals sign, and the formula from its first token on.
+use Rattle.grammar.specs.Formulas.{after}
+use Rattle.statements.specs.Statements.{variableOf}
+use Rattle.turns.proofs.Tokens.{no-name}
+use Rattle.steps.proofs.Beginning.{assign-formed}
+use Rattle.steps.proofs.Dispatching.{set-does}
+use borrow.Author.Needs.{needs}
+use Rattle.steps.proofs.doing.set.Statement.{statement}
+use Rattle.steps.proofs.doing.set.Tie as tie
+use Rattle.steps.proofs.doing.set.Reads as reads
+use Rattle.steps.proofs.doing.set.Lts as lts
+use Rattle.turns.proofs.assign.Reads as assign-reads
+use Rattle.turns.proofs.fails.Reads as fails-reads
+use Rattle.words.proofs.token_at.Reads as token-at-reads
+
+token-at-requires : tie.Need-token-at-requires
+token-at-requires c κs = search needs
+
+enum-known-token : tie.Need-enum-known-token
+enum-known-token c = search needs
+
+token-at-requires-2 : tie.Need-token-at-requires-2
+token-at-requires-2 c κs = search needs
+
+assign-requires : tie.Need-assign-requires
+assign-requires c κs =
+    let start = c .before .before .before .before .before .before .before .before in
+    let s = start .args .line .now in
+    let named = c .before .before .before .token .given in (
+      rw (c .before .token-at2 .ensures, c .before .before .before .before .before .token-at .ensures)
+          (assign-formed s (start .pre .1 .0) (variableOf s (named .0 .0)) (after s (start .args .target)) (rw (named .1) at (start .pre .0))),
+      start .pre .1 .1,
+    )
+
+fails-requires : tie.Need-fails-requires
+fails-requires c κs = search needs
+
+same-length : tie.Need-same-length
+same-length c = search needs
+
+returns : tie.Need-returns
+returns c =
+    let named = c .before .before .before .before .before .before .token .given in
+    λ text input room found entry sound.
+    set-does _ _ _ _ _ _ _ _ _ _ _ _ (c .before .before .before .before .before .before .before .before .before .before .before .args .target) (named .0 .0) (named .1)
+    (λ f u p e. c .before .before .assign .ensures text input room f u sound p (rw (c .before .before .before .before .token-at2 .ensures, c .before .before .before .before .before .before .before .before .token-at .ensures) e))
+
+returns-2 : tie.Need-returns-2
+returns-2 c = λ text input room found entry sound. rw (no-name (c .before .before .before .before .before .args .target .token) _ _ (c .before .match .keys2)) tt
+
+pub set-spec : {M : Type 1} → statement M
+set-spec =
+    tie.close
+    (tie.spec
+    token-at-requires
+    enum-known-token
+    token-at-requires-2
+    assign-requires
+    fails-requires
+    same-length
+    returns
+    returns-2)

@@ -1,0 +1,241 @@
+-- What each statement does, in the order of the paper's tests. `after` is where the run goes on after the statement.
+use mathlib.Core.Bool.{Bool, true, false, cond, not, _&&_, _||_}
+use mathlib.Core.List.{List, [], _∷_, _++_}
+use Prim.Native.Nat.{ℕ, zero, suc, _+_, _-_}
+use Prim.Native.Char.{code}
+use lib.Dec.{ltb, leb, eqb}
+use lib.IntN.{ℤ, pos}
+use lib.Signed.{ltZ}
+use lib.ListN.{length, drop}
+use Rattle.whole.specs.Texts as texts
+use Rattle.whole.specs.Whole.{num, applied}
+use Rattle.whole.specs.declared.arithmetic.Answer.{Answer}
+use Rattle.whole.specs.declared.arithmetic.Answer.the-variants.{Whole, Fault}
+use Rattle.whole.specs.declared.arithmetic.Operator.the-variants.{Add}
+use Rattle.whole.specs.declared.errors.Error.{Error}
+use Rattle.whole.specs.declared.errors.Error.the-variants.{
+  NextWithoutFor,
+  ReturnWithoutGosub,
+  OutOfMemory,
+  UndefinedLine,
+  TypeMismatch,
+  LineBufferOverflow,
+  InputPastEnd,
+  OutputFull,
+}
+use Rattle.words.specs.Names.{alike}
+use Rattle.words.specs.declared.names.Kind.{Kind}
+use Rattle.words.specs.declared.names.Kind.the-variants as kind
+use Rattle.words.specs.declared.names.Telling.{Telling}
+use Rattle.words.specs.declared.places.LineNumber.{LineNumber}
+use Rattle.loader.specs.Lines.{Line, linesOf, linesFrom, fromNumber}
+use Rattle.grammar.specs.Trees as tree
+use Rattle.grammar.specs.Trees.{Formula, Variable, Item, Statement, Part, last, more}
+use Rattle.variables.specs.Strings.{Value, whole, text, Room, Outcome, value, fault, make, letGo}
+use Rattle.variables.specs.Variables.{Variables, wordOf, setNumber, setString, numbersFull, stringsFull}
+use Rattle.operators.specs.Values.{valueOf}
+use Rattle.machine.specs.Machine.{
+  Rest,
+  nothing,
+  part,
+  Position,
+  Record,
+  loop,
+  call,
+  Machine,
+  mostRecords,
+  roomOf,
+  withVariables,
+  withRecords,
+  withInput,
+  noting,
+  Printed,
+  full,
+  printed,
+  write,
+  commaBlanks,
+  Search,
+  missing,
+  found,
+  sought,
+  below,
+  passed,
+}
+
+-- what a statement comes to: the run goes on at a place, or at a line's start, or it ends
+pub data Next : Type 0 where
+  goesOn : Machine → Position → Next
+  enters : Machine → List Line → Next
+  ends : Machine → Next
+  stops : Machine → Next
+  fails : Error → Machine → Next
+
+-- ---- working out: the machine notes the most unfinished strings, whatever comes of it
+
+abbrev pub worked : Machine → Outcome → (Value → Machine → Next) → Next
+worked m (value v room) go = go v (noting m room)
+worked m (fault e room) go = fails e (noting m room)
+
+abbrev pub wholeOnly : Value → Machine → (ℕ → Next) → Next
+wholeOnly (whole w) m go = go w
+wholeOnly (text b) m go = fails TypeMismatch m
+
+abbrev pub workedWhole : Formula → Machine → (ℕ → Machine → Next) → Next
+workedWhole f m go = worked m (valueOf f (m .variables) (roomOf m)) (λ v n. wholeOnly v n (λ w. go w n))
+
+-- ---- assignment: the type is tested after the formula, then room for a new variable
+
+abbrev pub withNumber : Machine → Telling → ℕ → Machine
+withNumber m name w = withVariables m (record { numbers = setNumber (m .variables .numbers) name w; strings = m .variables .strings })
+
+abbrev pub withString : Machine → Telling → List ℕ → Machine
+withString m name b = withVariables m (record { numbers = m .variables .numbers; strings = setString (m .variables .strings) name b })
+
+-- a new variable has no room where there are 64 of its kind
+abbrev pub storeNumber : Machine → Telling → ℕ → (Machine → Next) → Next
+storeNumber m name w go = cond (numbersFull (m .variables .numbers) name) (fails OutOfMemory m) (go (withNumber m name w))
+
+abbrev pub storeString : Machine → Telling → List ℕ → (Machine → Next) → Next
+storeString m name b go = cond (stringsFull (m .variables .strings) name) (fails OutOfMemory m) (go (withString m name b))
+
+abbrev pub assigned : Kind → Telling → Value → Machine → (Machine → Next) → Next
+assigned kind.Whole name (whole w) m go = storeNumber m name w go
+assigned kind.Whole name (text b) m go = fails TypeMismatch m
+assigned kind.Text name (whole w) m go = fails TypeMismatch m
+assigned kind.Text name (text b) m go = storeString m name b go
+
+-- ---- PRINT: items are worked out, printed and let go one by one
+
+abbrev pub written : Machine → List ℕ → (Machine → Next) → Next
+written m bytes go = byPrinted (write m bytes)
+  where
+    byPrinted : Printed → Next
+    byPrinted full = fails OutputFull m
+    byPrinted (printed n) = go n
+
+abbrev pub shownValue : Value → List ℕ
+shownValue (whole w) = texts.printed w
+shownValue (text b) = b
+
+-- without a final `,` or `;` it ends with bytes 13, 10
+unfoldable pub printItems : Bool → List Item → Machine → (Machine → Next) → Next
+printItems quiet [] m go = cond quiet (go m) (written m (13 ∷ 10 ∷ []) go)
+printItems quiet (tree.comma ∷ is) m go = written m (commaBlanks m) (λ n. printItems true is n go)
+printItems quiet (tree.semicolon ∷ is) m go = printItems true is m go
+printItems quiet (tree.shown f ∷ is) m go =
+    worked m (valueOf f (m .variables) (roomOf m)) (λ v n. written n (shownValue v) (λ o. printItems false is o go))
+
+-- ---- jumps
+
+-- the lines from the one with the number on; a missing line is 8
+abbrev pub toLine : Machine → List Line → (List Line → Next) → Next
+toLine m [] go = fails UndefinedLine m
+toLine m (l ∷ ls) go = go (l ∷ ls)
+
+-- a record more; at most 32
+abbrev pub pushed : Machine → Record → (Machine → Next) → Next
+pushed m r go = cond (leb mostRecords (length (m .records))) (fails OutOfMemory m) (go (withRecords m (r ∷ m .records)))
+
+-- RETURN drops records through the nearest GOSUB and goes on after it
+unfoldable pub returned : List Record → Machine → Next
+returned [] m = fails ReturnWithoutGosub m
+returned (loop v l s p ∷ rs) m = returned rs m
+returned (call p ∷ rs) m = goesOn (withRecords m rs) p
+
+-- ---- FOR and NEXT
+
+-- one turn more, or the loop ends; the variable, which its FOR has made, is stored as an assignment stores it
+abbrev pub turned : Machine → Telling → ℕ → ℕ → Position → List Record → Position → Answer → Next
+turned m v limit step back under after (Whole w) =
+    storeNumber m v w (λ n.
+    cond (passed w limit step)
+    (goesOn (withRecords n under) after)
+    (goesOn (withRecords n (loop v limit step back ∷ under)) back))
+turned m v limit step back under after (Fault e) = fails e m
+
+abbrev pub nextOn : Machine → Search → Position → Next
+nextOn m missing after = fails NextWithoutFor m
+nextOn m (found limit step back v under) after =
+    turned m v limit step back under after (applied Add (wordOf (m .variables .numbers) v) step)
+
+-- ---- LINE INPUT: its text is printed, then a line of input is taken
+
+-- the line at the front of some input, and what is left; ends as in loading
+pub record Taken : Type 0 where
+  pub bytes : List ℕ
+  pub left : List ℕ
+
+abbrev pub firstLine : List ℕ → List Line → Taken
+firstLine input [] = record { bytes = []; left = [] }
+firstLine input (l ∷ ls) = record { bytes = l .bytes; left = drop (l .next) input }
+
+abbrev pub takeLine : List ℕ → Taken
+takeLine input = firstLine input (linesFrom 0 input)
+
+abbrev pub filled : Kind → Telling → List ℕ → Machine → (Machine → Next) → Next
+filled kind.Whole name b m go = fails TypeMismatch m
+filled kind.Text name b m go = storeString m name b go
+
+-- a line of input has at most 254 bytes; it is taken, and then its string asks for room
+abbrev pub lineTaken : Machine → Variable → Taken → (Machine → Next) → Next
+lineTaken m v t go =
+    cond (ltb 254 (length (t .bytes))) (fails LineBufferOverflow m)
+    (let n = withInput m (t .left) (m .taken + (length (m .input) - length (t .left))) in
+    worked n (make (t .bytes) (roomOf n)) (λ b o. filled (v .kind) (v .telling) (t .bytes) o go))
+
+-- 62 if no bytes are left, 23 if over 254 bytes; on these no input is taken
+abbrev pub inputLine : List ℕ → Machine → Variable → (Machine → Next) → Next
+inputLine [] m v go = fails InputPastEnd m
+inputLine (b ∷ s) m v go = lineTaken m v (takeLine (b ∷ s)) go
+
+-- ---- all statements
+
+-- the first statement of a part, and what is left then
+abbrev pub headOf : Part → Statement
+headOf (last p s) = s
+headOf (more p s rest) = s
+
+abbrev pub tailOf : Part → Rest
+tailOf (last p s) = nothing
+tailOf (more p s rest) = part rest
+
+abbrev pub isWholeKind : Kind → Bool
+isWholeKind kind.Whole = true
+isWholeKind kind.Text = false
+
+-- a part of an IF is entered on the same line
+abbrev pub branch : Machine → List Line → Part → Next
+branch m lines p = goesOn m (record { lines = lines; rest = part p })
+
+-- a false IF without ELSE goes to the next line, as a branch does that has run out
+abbrev pub lineOver : Machine → List Line → Next
+lineOver m lines = goesOn m (record { lines = lines; rest = nothing })
+
+abbrev pub doStatement : List ℕ → Statement → Machine → Position → Next
+doStatement program tree.empty m after = goesOn m after
+doStatement program (tree.assign v f) m after =
+    worked m (valueOf f (m .variables) (roomOf m)) (λ x n. assigned (v .kind) (v .telling) x n (λ o. goesOn o after))
+doStatement program (tree.print is) m after = printItems false is m (λ n. goesOn n after)
+doStatement program (tree.ifThen c p) m after =
+    workedWhole c m (λ w n. cond (eqb w 0) (lineOver n (after .lines)) (branch n (after .lines) p))
+doStatement program (tree.ifElse c p q) m after =
+    workedWhole c m (λ w n. branch n (after .lines) (cond (eqb w 0) q p))
+doStatement program (tree.goto l) m after = toLine m (fromNumber (l .0) (linesOf program)) (λ ls. enters m ls)
+doStatement program (tree.gosub l) m after =
+    toLine m (fromNumber (l .0) (linesOf program)) (λ ls. pushed m (call after) (λ n. enters n ls))
+doStatement program tree.return m after = returned (m .records) m
+doStatement program (tree.for v from to by) m after =
+    cond (isWholeKind (v .kind))
+    (workedWhole from m (λ a n. workedWhole to n (λ b o. workedWhole by o (λ s p.
+    storeNumber p (v .telling) a (λ q.
+    let clear = withRecords q (below (q .records) (sought (λ u. alike u (v .telling)) (q .records))) in
+    pushed clear (loop (v .telling) b s after) (λ r. goesOn r after))))))
+    (fails TypeMismatch m)
+doStatement program tree.next m after = nextOn m (sought (λ u. true) (m .records)) after
+doStatement program (tree.nextOf v) m after =
+    cond (isWholeKind (v .kind)) (nextOn m (sought (λ u. alike u (v .telling)) (m .records)) after) (fails TypeMismatch m)
+doStatement program (tree.lineInput t v) m after =
+    written m t (λ n. inputLine (n .input) n v (λ o. goesOn o after))
+doStatement program tree.end m after = ends m
+doStatement program tree.stop m after = stops m
+doStatement program tree.remark m after = goesOn m after

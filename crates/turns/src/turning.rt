@@ -1,0 +1,84 @@
+// How a statement ends, and working out a formula with the machine's tables.
+ghost use mathlib.Core.Path.{_≡_};
+ghost use Rattle.grammar.specs.Trees.{Formula};
+ghost use Rattle.grammar.specs.Formulas.{good, formulaOf};
+ghost use Rattle.machine.specs.Holding.{Settled};
+ghost use Rattle.machine.specs.declared.positions.Next.the-variants as next;
+ghost use Rattle.turns.specs.Turns.{turnedTo, afterOf, Formed, Valued};
+use formulas::work_out;
+use grammar::is_symbol;
+use machine::Machine;
+use machine::Next;
+use machine::Position;
+use machine::Record;
+use machine::Turned;
+use variables::Worked;
+use whole::Error;
+use words::Place;
+use words::Scanned;
+use words::Sign;
+
+// No record is written.
+pub fn turned_to(machine: Machine, next: Next) -> Turned
+    ensures { λ r. ⌜ r ≡ turnedTo machine next ⌝ }
+{
+    Turned {
+        machine,
+        next,
+        slot: Machine::RECORDS,
+        held: Record::blank(),
+    }
+}
+
+pub fn fails(machine: Machine, error: Error) -> Turned
+    ensures { λ r. ⌜ r ≡ turnedTo machine (next.Fails error) ⌝ }
+{
+    turned_to(machine, Next::Fails(error))
+}
+
+// Where the run goes on after a statement of a line that this token follows.
+pub fn after(line: Place, ahead: Scanned) -> Position
+    ensures { λ r. ⌜ r ≡ afterOf line ahead ⌝ }
+{
+    let token = ahead.token;
+    let colon = is_symbol(Sign::Colon, token);
+    let at = ahead.next;
+    Position {
+        line,
+        at,
+        over: !colon,
+    }
+}
+
+pub fn goes_on(machine: Machine, line: Place, ahead: Scanned) -> Turned
+    ensures { λ r. ⌜ r ≡ turnedTo machine (next.On (afterOf line ahead)) ⌝ }
+{
+    turned_to(machine, Next::On(after(line, ahead)))
+}
+
+// The value of the formula that begins with a token.
+pub fn value(line: &[u8], ahead: Scanned, machine: Machine, space: &mut [u8]) -> Worked
+    requires { ⌜ Formed (now line) ahead × Settled machine (now space) ⌝ }
+    ensures { λ r. ⌜
+        ((f : Formula) (u : Scanned) → formulaOf (now (line .entry)) ahead ≡ good f u
+        → Valued machine f u (now (space .entry)) r (now (space .exit)))
+        ⌝ }
+{
+    let tables = machine.tables;
+    let numbers = tables.numbers;
+    let strings = tables.strings;
+    let names = numbers.names;
+    let words = numbers.words;
+    let labels = strings.names;
+    let lengths = strings.lengths;
+    work_out(
+        line,
+        ahead,
+        &names,
+        &words,
+        &labels,
+        &lengths,
+        space,
+        machine.used,
+    )
+}

@@ -1,0 +1,11 @@
+pub mod Bytewise
+pub mod Lookups
+pub mod Agreements
+pub mod Looking
+pub mod Ways
+pub mod Replacing
+pub mod Holding
+pub mod Naming
+pub mod StoredNumbers
+pub mod StoredStrings
+pub mod Told

@@ -1,0 +1,20 @@
+-- The test of the count is the definition's.
+use borrow.Author.Needs.{needs}
+use borrow.Author.Tests.{le-leb, lt-leb}
+use Rattle.variables.proofs.assigning.appended_string.Statement.{statement}
+use Rattle.variables.proofs.assigning.appended_string.Tie as tie
+
+pub appended-string-spec : {M : Type 1} → statement M
+appended-string-spec =
+    tie.close
+    (tie.spec
+    (λ c. rw (le-leb 64 _ (c .if1 .taken)))
+    (λ c. search needs)
+    (λ c. search needs)
+    (λ c. search needs)
+    (λ c. search needs)
+    (λ c. search needs)
+    (λ c. search needs)
+    (λ c κs. search needs)
+    (λ c. search needs)
+    (λ c. rw (lt-leb 64 _ (c .before .if1 .left), c .wide .ensures .0)))

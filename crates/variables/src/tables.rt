@@ -1,0 +1,90 @@
+// The variables: tables of names in the order of first assignment, unused entries zero.
+ghost use mathlib.Core.Path.{_≡_};
+ghost use Prim.Native.Nat.{_<_, min};
+ghost use lib.ListN.{take};
+ghost use Rattle.variables.specs.Memory.{slotIn, sumOf, emptyTables};
+use words::Telling;
+
+// The number variables: two bytes of name each, and a word.
+pub struct Numbers {
+    pub names: [u8; 128],
+    pub words: [u16; 64],
+    pub count: usize,
+}
+
+// The string variables: two bytes of name each, and how many bytes they have in the string space, where they stand joined.
+pub struct Strings {
+    pub names: [u8; 128],
+    pub lengths: [u8; 64],
+    pub count: usize,
+}
+
+pub struct Tables {
+    pub numbers: Numbers,
+    pub strings: Strings,
+}
+
+impl Tables {
+    // How many variables of a kind there can be.
+    pub const MOST: usize = 64;
+
+    pub fn empty() -> Tables
+        ensures { λ r. ⌜ r ≡ emptyTables ⌝ }
+    {
+        let numbers = Numbers {
+            names: [0; 128],
+            words: [0; 64],
+            count: 0,
+        };
+        let strings = Strings {
+            names: [0; 128],
+            lengths: [0; 64],
+            count: 0,
+        };
+        Tables { numbers, strings }
+    }
+}
+
+pub enum Slot {
+    At(usize),
+    None,
+}
+
+// The entry with a name, of two bytes each.
+pub fn slot_of(names: &[u8; 128], name: Telling) -> Slot
+    ensures { λ r. ⌜ r ≡ slotIn (now (names .entry)) name ⌝ }
+{
+    let first = name.first;
+    let second = name.second;
+    let mut i = 0;
+    while i < Tables::MOST {
+        let at = 2 * i;
+        let a = names[at];
+        let b = names[at + 1];
+        if a == first && b == second {
+            return Slot::At(i);
+        }
+        i += 1;
+    }
+    Slot::None
+}
+
+// A length as it is added up.
+pub fn wide(len: u8) -> usize
+    ensures { λ r. ⌜ (r ≡ len) × (r < 256) ⌝ }
+{
+    len as usize
+}
+
+// How many bytes the strings before an entry have together.
+pub fn offset_of(lengths: &[u8; 64], slot: usize) -> usize
+    ensures { λ r. ⌜ r ≡ sumOf (take (min slot 64) (now (lengths .entry))) ⌝ }
+{
+    let mut sum = 0;
+    let mut i = 0;
+    while i < slot && i < Tables::MOST {
+        sum += wide(lengths[i]);
+        i += 1;
+    }
+    sum
+}

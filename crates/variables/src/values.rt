@@ -1,0 +1,48 @@
+// What working out answers.
+ghost use mathlib.Core.Path.{_≡_};
+ghost use Prim.Native.Nat.{_+_};
+ghost use lib.Dec.{leb};
+ghost use lib.ListN.{length};
+ghost use Rattle.variables.specs.Memory.{answeredAs, textLength};
+use whole::Answer;
+use whole::Error;
+use words::Scanned;
+
+// A whole number, or a text of so many bytes that stands from the old `used` on, and the token that follows; or an error.
+pub enum Worked {
+    Whole(u16, Scanned),
+    Text(usize, Scanned),
+    Fault(Error),
+}
+
+// A whole number or its error, and the token that follows.
+pub fn answered(answer: Answer, ahead: Scanned) -> Worked
+    ensures { λ r. ⌜ r ≡ answeredAs answer ahead ⌝ }
+{
+    match answer {
+        Answer::Whole(word) => Worked::Whole(word, ahead),
+        Answer::Fault(error) => Worked::Fault(error),
+    }
+}
+
+// How many bytes of text an answer has.
+pub fn text_length(worked: Worked) -> usize
+    ensures { λ r. ⌜ r ≡ textLength worked ⌝ }
+{
+    match worked {
+        Worked::Whole(_, _) => 0,
+        Worked::Text(len, _) => len,
+        Worked::Fault(_) => 0,
+    }
+}
+
+// Whether so many bytes can be asked for while others are live: 14 exactly when they exceed the space.
+pub fn has_room(space: &[u8], live: usize, asked: usize) -> bool
+    ensures { λ r. ⌜ r ≡ leb (live + asked) (length (now (space .entry))) ⌝ }
+{
+    let all = space.len();
+    if all < asked {
+        return false;
+    }
+    live <= all - asked
+}
