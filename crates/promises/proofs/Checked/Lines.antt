@@ -1,0 +1,120 @@
+-- What the check has found of a recipe: of its lines, its statements, and so of each place where a run of it can stand.
+use mathlib.Core.Path.{_≡_, refl, sym}
+use mathlib.Core.Bool.{Bool, true, false, _||_, false≢true}
+use mathlib.Core.List.{List, [], _∷_, _++_}
+use Prim.Native.Nat.{ℕ}
+use native.Mathlib.Omega.{arith}
+use lib.Dec.{ltb}
+use Rattle.words.specs.declared.places.LineNumber.{LineNumber}
+use Rattle.words.proofs.Choices.{by-test, both}
+use Rattle.loader.specs.Lines.{Line}
+use Rattle.grammar.specs.Trees.{Statement, Part, last, more}
+use Rattle.statements.specs.Statements.{LineReading, doesNotRead, reads, readLine}
+use Rattle.statements.specs.Parts.{rightlyTyped, namedLine, statementsOf, withinIf, deepestIn, allTyped}
+use Rattle.checker.specs.Check.{missing, anyMissing, faultIn, bodyOf, orElse, firstFault}
+use Rattle.checker.specs.declared.checking.Soundness.{Soundness}
+use Rattle.checker.specs.declared.checking.Soundness.the-variants.{Sound, Fault}
+use Rattle.checker.specs.declared.checking.Verdict.{Verdict}
+use Rattle.checker.specs.declared.checking.Verdict.the-variants.{Passed}
+use Rattle.machine.specs.Machine.{Rest, nothing, part, Position, Record, loop, call}
+use Rattle.turns.specs.Steps.{headOf, tailOf}
+use Rattle.runner.specs.Run.{Entered, over, faulty, opened, judgedLine, enter}
+use Rattle.promises.proofs.Checked.Operators.{Allowed}
+
+-- neither of two
+neither : (x y : Bool) → x || y ≡ false → (x ≡ false) × (y ≡ false)
+neither true y e = absurd (false≢true (sym e))
+neither false y e = (refl, e)
+
+-- `all` are the lines of the recipe
+module _ (all : List Line) where
+  -- ---- statements
+
+  -- a statement by itself: its types are right, and the line that it names is there
+  pub record Checked (x : Statement) : Type 0 where
+    pub typed : rightlyTyped x ≡ true
+    pub named : missing all (namedLine x) ≡ false
+
+  abbrev pub AllChecked : List Statement → Type 0
+  AllChecked [] = Unit {0}
+  AllChecked (x ∷ xs) = Checked x × AllChecked xs
+
+  -- of a part, with all branches
+  abbrev pub PartChecked : Part → Type 0
+  PartChecked p = AllChecked (statementsOf p)
+
+  all-checked : (xs : List Statement) → allTyped xs ≡ true → anyMissing all xs ≡ false → AllChecked xs
+  unfolding allTyped anyMissing
+  all-checked [] t n = tt
+  all-checked (x ∷ xs) t n =
+      let typed = both (rightlyTyped x) (allTyped xs) t in
+      let named = neither (missing all (namedLine x)) (anyMissing all xs) n in
+      (record { typed = typed .0; named = named .0 }, all-checked xs (typed .1) (named .1))
+
+  pub checked-apart : (xs ys : List Statement) → AllChecked (xs ++ ys) → AllChecked xs × AllChecked ys
+  checked-apart [] ys h = (tt, h)
+  checked-apart (x ∷ xs) ys h = let t = checked-apart xs ys (h .1) in ((h .0, t .0), t .1)
+
+  -- ---- places
+
+  abbrev pub LinesChecked : List Line → Type 0
+  LinesChecked [] = Unit {0}
+  LinesChecked (l ∷ ls) = (faultIn all (readLine (bodyOf l)) ≡ Sound) × LinesChecked ls
+
+  abbrev pub RestChecked : Rest → Type 0
+  RestChecked nothing = Unit {0}
+  RestChecked (part p) = PartChecked p
+
+  abbrev pub PositionChecked : Position → Type 0
+  PositionChecked p = LinesChecked (p .lines) × RestChecked (p .rest)
+
+  abbrev pub RecordChecked : Record → Type 0
+  RecordChecked (loop v limit step p) = PositionChecked p
+  RecordChecked (call p) = PositionChecked p
+
+  abbrev pub RecordsChecked : List Record → Type 0
+  RecordsChecked [] = Unit {0}
+  RecordsChecked (r ∷ rs) = RecordChecked r × RecordsChecked rs
+
+  -- the first statement of a part, its branches, and what is left then
+  pub part-apart : (p : Part) → PartChecked p → Checked (headOf p) × AllChecked (withinIf (headOf p)) × RestChecked (tailOf p)
+  unfolding statementsOf
+  part-apart (last p x) h = (h .0, h .1, tt)
+  part-apart (more p x rest) h = let t = checked-apart (withinIf x) (statementsOf rest) (h .1) in (h .0, t .0, t .1)
+
+  -- ---- lines
+
+  -- a recipe that passes has no faulty line
+  sound-later : (s : Soundness) (n : LineNumber) (later : Unit {0} → Verdict) → orElse s n later ≡ Passed → (s ≡ Sound) × (later tt ≡ Passed)
+  sound-later Sound n later e = (refl, e)
+  sound-later (Fault error) n later e = let z : _≡_ {A = ℕ} 0 1 = cc in absurd (omega arith)
+
+  pub passed-lines : (ls : List Line) → firstFault all ls ≡ Passed → LinesChecked ls
+  unfolding firstFault
+  passed-lines [] e = tt
+  passed-lines (l ∷ ls) e =
+      let h = sound-later (faultIn all (readLine (bodyOf l))) _ (λ _. firstFault all ls) e in
+      (h .0, passed-lines ls (h .1))
+
+  -- a line that is sound opens, and its statements are as the check wants them
+  abbrev pub EnteredChecked : Entered → Type 0
+  EnteredChecked over = Unit {0}
+  EnteredChecked (faulty e) = Allowed e
+  EnteredChecked (opened p) = PartChecked p
+
+  sound-reads : (r : LineReading) → faultIn all r ≡ Sound → EnteredChecked (judgedLine r)
+  sound-reads doesNotRead e = let z : _≡_ {A = ℕ} 0 1 = cc in absurd (omega arith)
+  sound-reads (reads p) e =
+      let xs = statementsOf p in
+      by-test (ltb 8 (deepestIn xs))
+      (λ d. let f = rw d at e in let z : _≡_ {A = ℕ} 0 1 = cc in absurd (omega arith))
+      λ d. by-test (allTyped xs)
+      (λ t. by-test (anyMissing all xs)
+      (λ n. let f = rw (d, t, n) at e in let z : _≡_ {A = ℕ} 0 1 = cc in absurd (omega arith))
+      (λ n. rw d (all-checked xs t n)))
+      (λ t. let f = rw (d, t) at e in let z : _≡_ {A = ℕ} 0 1 = cc in absurd (omega arith))
+
+  pub enter-checked : (ls : List Line) → LinesChecked ls → EnteredChecked (enter ls)
+  unfolding enter
+  enter-checked [] h = tt
+  enter-checked (l ∷ ls) h = sound-reads (readLine (bodyOf l)) (h .0)

@@ -1,0 +1,340 @@
+-- A run ends in 14 exactly when a statement of it asks for more than the space holds besides what is live.
+use mathlib.Core.Path.{_≡_, refl, ap}
+use mathlib.Core.Bool.{Bool, true, false, cond}
+use mathlib.Core.List.{List, [], _∷_, _++_}
+use Prim.Native.Nat.{ℕ, _+_, _-_, _≤_, _<_}
+use native.Mathlib.Omega.{arith}
+use borrow.Author.Tests.{ltb-false, le-ltb}
+use lib.Dec.{ltb, leb, eqb}
+use lib.ListN.{length}
+use Rattle.whole.specs.Whole.{applied}
+use Rattle.whole.specs.declared.arithmetic.Answer.{Answer}
+use Rattle.whole.specs.declared.arithmetic.Answer.the-variants.{Whole, Fault}
+use Rattle.whole.specs.declared.arithmetic.Operator.the-variants.{Add}
+use Rattle.whole.specs.declared.errors.Error.the-variants.{OutOfStringSpace}
+use Rattle.words.specs.Names.{alike}
+use Rattle.words.specs.declared.names.Kind.{Kind}
+use Rattle.words.specs.declared.names.Kind.the-variants as kind
+use Rattle.words.specs.declared.names.Telling.{Telling}
+use Rattle.words.proofs.Choices.{by-test}
+use Rattle.loader.specs.Lines.{Line, linesOf, fromNumber}
+use Rattle.grammar.specs.Trees as tree
+use Rattle.grammar.specs.Trees.{Formula, Variable, Item, Statement}
+use Rattle.variables.specs.Strings.{Value, whole, text, Room, Outcome, value, fault, make}
+use Rattle.variables.specs.Variables.{Variables, wordOf, stringBytes, numbersFull, stringsFull}
+use Rattle.operators.specs.Values.{valueOf}
+use Rattle.machine.specs.Machine.{
+  Position,
+  Record,
+  loop,
+  call,
+  Machine,
+  mostRecords,
+  roomOf,
+  withRecords,
+  withOutput,
+  withInput,
+  noting,
+  columnAfter,
+  Printed,
+  full,
+  printed,
+  write,
+  commaBlanks,
+  Search,
+  missing,
+  found,
+  sought,
+  passed,
+}
+use Rattle.turns.specs.Steps.{
+  Next,
+  goesOn,
+  enters,
+  ends,
+  stops,
+  fails,
+  worked,
+  wholeOnly,
+  workedWhole,
+  withNumber,
+  withString,
+  storeNumber,
+  storeString,
+  assigned,
+  written,
+  shownValue,
+  printItems,
+  toLine,
+  pushed,
+  returned,
+  turned,
+  nextOn,
+  Taken,
+  takeLine,
+  filled,
+  lineTaken,
+  inputLine,
+  isWholeKind,
+  branch,
+  lineOver,
+  doStatement,
+}
+use Rattle.promises.specs.Unfinished.{LiveIsExact}
+use Rattle.promises.specs.StringSpace as asks
+use Rattle.promises.specs.StringSpace.{Ask, bytesIn, Exceeds, FormulaAsks, PrintAsks, StatementAsks}
+use Rattle.promises.proofs.Never.{never}
+use Rattle.promises.proofs.Limits.Keeping.{cleared, begun}
+use Rattle.promises.proofs.Fourteen.Rooms.{Spares, applied-spares}
+use Rattle.promises.proofs.Fourteen.Formulas.{make-over, make-refused, formula-over, formula-fails}
+
+-- ---- a statement that ends in 14 tells that it asked for too much
+
+-- what is known where a statement came to 14
+abbrev Tells : Type 0 → Next → Type 0
+Tells X (goesOn m p) = Unit {0}
+Tells X (enters m lines) = Unit {0}
+Tells X (ends m) = Unit {0}
+Tells X (stops m) = Unit {0}
+Tells X (fails e m) = e ≡ OutOfStringSpace → X
+
+pub told : {X : Type 0} (x : Next) (n : Machine) → Tells X x → x ≡ fails OutOfStringSpace n → X
+told (goesOn m p) n h e = never (cc)
+told (enters m lines) n h e = never (cc)
+told (ends m) n h e = never (cc)
+told (stops m) n h e = never (cc)
+told (fails x m) n h e = h (cc)
+
+-- what a machine asks for is more than there is
+abbrev Over : Machine → Ask → Type 0
+Over m k = Exceeds (m .space) (stringBytes (m .variables .strings)) k
+
+-- printing changes neither the variables nor the space
+record Same (m n : Machine) : Type 0 where
+  space : n .space ≡ m .space
+  variables : n .variables ≡ m .variables
+
+write-same : (m : Machine) (bytes : List ℕ) (n : Machine) → write m bytes ≡ printed n → Same m n
+unfolding write
+write-same m bytes n e =
+    by-test (ltb (m .outputRoom) (length (m .output) + length bytes))
+    (λ t. let f = rw t at e in never (cc))
+    (λ t. let f = rw t at e in let g : n ≡ withOutput m (m .output ++ bytes) (columnAfter (m .column) bytes) = cc in
+    record { space = ap (λ (x : Machine). x .space) g; variables = ap (λ (x : Machine). x .variables) g })
+
+over-before : {m n : Machine} (k : Ask) → Same m n → Over n k → Over m k
+over-before k s h = let e = ap (λ (v : Variables). stringBytes (v .strings)) (s .variables) in omega (arith, h, e, s .space)
+
+over-after : {m n : Machine} (k : Ask) → Same m n → Over m k → Over n k
+over-after k s h = let e = ap (λ (v : Variables). stringBytes (v .strings)) (s .variables) in omega (arith, h, e, s .space)
+
+module _ (X : Type 0) where
+  worked-tells : (m : Machine) (o : Outcome) (go : Value → Machine → Next) → ((room : Room) → o ≡ fault OutOfStringSpace room → X)
+      → ((v : Value) (room : Room) → o ≡ value v room → Tells X (go v (noting m room))) → Tells X (worked m o go)
+  worked-tells m (value v room) go over h = h v room refl
+  worked-tells m (fault e room) go over h = λ t. over room (ap (λ x. fault x room) t)
+
+  whole-tells : (f : Formula) (m : Machine) (go : ℕ → Machine → Next)
+      → ((room : Room) → valueOf f (m .variables) (roomOf m) ≡ fault OutOfStringSpace room → X)
+      → ((w : ℕ) (room : Room) → valueOf f (m .variables) (roomOf m) ≡ value (whole w) room → Tells X (go w (noting m room)))
+      → Tells X (workedWhole f m go)
+  whole-tells f m go over h = worked-tells m (valueOf f (m .variables) (roomOf m)) _ over only
+    where
+      only : (v : Value) (room : Room) → valueOf f (m .variables) (roomOf m) ≡ value v room
+          → Tells X (wholeOnly v (noting m room) (λ w. go w (noting m room)))
+      only (whole w) room e = h w room e
+      only (text b) room e = λ t. never (cc)
+
+  number-tells : (m : Machine) (name : Telling) (w : ℕ) (go : Machine → Next) → ((n : Machine) → Tells X (go n)) → Tells X (storeNumber m name w go)
+  number-tells m name w go h =
+      by-test (numbersFull (m .variables .numbers) name)
+      (λ e. rw e (λ t. never (cc))) (λ e. rw e (h (withNumber m name w)))
+
+  string-tells : (m : Machine) (name : Telling) (b : List ℕ) (go : Machine → Next) → ((n : Machine) → Tells X (go n)) → Tells X (storeString m name b go)
+  string-tells m name b go h =
+      by-test (stringsFull (m .variables .strings) name)
+      (λ e. rw e (λ t. never (cc))) (λ e. rw e (h (withString m name b)))
+
+  assigned-tells : (sort : Kind) (name : Telling) (v : Value) (m : Machine) (go : Machine → Next) → ((n : Machine) → Tells X (go n))
+      → Tells X (assigned sort name v m go)
+  assigned-tells kind.Whole name (whole w) m go h = number-tells m name w go h
+  assigned-tells kind.Whole name (text b) m go h = λ t. never (cc)
+  assigned-tells kind.Text name (whole w) m go h = λ t. never (cc)
+  assigned-tells kind.Text name (text b) m go h = string-tells m name b go h
+
+  written-tells : (m : Machine) (bytes : List ℕ) (go : Machine → Next) → ((n : Machine) → write m bytes ≡ printed n → Tells X (go n))
+      → Tells X (written m bytes go)
+  written-tells m bytes go h = by (write m bytes) refl
+    where
+      by : (x : Printed) → write m bytes ≡ x → Tells X (written m bytes go)
+      by full e = rw e (λ t. never (cc))
+      by (printed n) e = rw e (h n e)
+
+  line-tells : (m : Machine) (lines : List Line) (go : List Line → Next) → ((ls : List Line) → Tells X (go ls)) → Tells X (toLine m lines go)
+  line-tells m [] go h = λ t. never (cc)
+  line-tells m (l ∷ ls) go h = h (l ∷ ls)
+
+  pushed-tells : (m : Machine) (r : Record) (go : Machine → Next) → ((n : Machine) → Tells X (go n)) → Tells X (pushed m r go)
+  pushed-tells m r go h =
+      by-test (leb mostRecords (length (m .records)))
+      (λ e. rw e (λ t. never (cc))) (λ e. rw e (h (withRecords m (r ∷ m .records))))
+
+  returned-tells : (rs : List Record) (m : Machine) → Tells X (returned rs m)
+  unfolding returned
+  returned-tells [] m = λ t. never (cc)
+  returned-tells (loop v l s q ∷ rs) m = returned-tells rs m
+  returned-tells (call q ∷ rs) m = tt
+
+  turned-tells : (m : Machine) (v : Telling) (limit step : ℕ) (back : Position) (under : List Record) (after : Position) (a : Answer) → Spares a
+      → Tells X (turned m v limit step back under after a)
+  turned-tells m v limit step back under after (Whole w) h =
+      number-tells m v w
+      (λ n. cond (passed w limit step) (goesOn (withRecords n under) after) (goesOn (withRecords n (loop v limit step back ∷ under)) back))
+      (λ n. by-test (passed w limit step) (λ e. rw e tt) (λ e. rw e tt))
+  turned-tells m v limit step back under after (Fault x) h = λ t. absurd (h t)
+
+  next-tells : (m : Machine) (s : Search) (after : Position) → Tells X (nextOn m s after)
+  next-tells m missing after = λ t. never (cc)
+  next-tells m (found limit step back v under) after =
+      turned-tells m v limit step back under after (applied Add (wordOf (m .variables .numbers) v) step)
+      (applied-spares Add (wordOf (m .variables .numbers) v) step)
+
+  filled-tells : (sort : Kind) (name : Telling) (b : List ℕ) (m : Machine) (go : Machine → Next) → ((n : Machine) → Tells X (go n))
+      → Tells X (filled sort name b m go)
+  filled-tells kind.Whole name b m go h = λ t. never (cc)
+  filled-tells kind.Text name b m go h = string-tells m name b go h
+
+  -- the line of input that was taken asks for its bytes
+  taken-tells : (m : Machine) (v : Variable) (t : Taken) (go : Machine → Next)
+      → (length (t .bytes) ≤ 254 → m .space < stringBytes (m .variables .strings) + length (t .bytes) → X)
+      → ((n : Machine) → Tells X (go n)) → Tells X (lineTaken m v t go)
+  taken-tells m v t go over h =
+      by-test (ltb 254 (length (t .bytes))) (λ e. rw e (λ x. never (cc)))
+      (λ e. rw e
+      (worked-tells _ (make (t .bytes) (roomOf m)) _ (λ room f. over (ltb-false _ _ e) (make-over (t .bytes) (roomOf m) f))
+      (λ b room f. filled-tells (v .kind) (v .telling) (t .bytes) _ go h)))
+
+  input-tells : (given : List ℕ) (m : Machine) (v : Variable) (go : Machine → Next)
+      → ((b : ℕ) (s : List ℕ) → given ≡ b ∷ s → length (takeLine (b ∷ s) .bytes) ≤ 254
+      → m .space < stringBytes (m .variables .strings) + length (takeLine (b ∷ s) .bytes) → X)
+      → ((n : Machine) → Tells X (go n)) → Tells X (inputLine given m v go)
+  input-tells [] m v go over h = λ t. never (cc)
+  input-tells (b ∷ s) m v go over h = taken-tells m v (takeLine (b ∷ s)) go (over b s refl) h
+
+-- ---- statements
+
+module _ (exact : LiveIsExact) where
+  pub record StatementOver (s : Statement) (m : Machine) : Type 0 where
+    pub ask : Ask
+    pub asks : StatementAsks s m ask
+    pub exceeds : Over m ask
+
+  -- of a formula that it works out
+  formula-tells : {X : Type 0} (f : Formula) (m : Machine) → ((k : Ask) → FormulaAsks f m k → Over m k → X)
+      → (room : Room) → valueOf f (m .variables) (roomOf m) ≡ fault OutOfStringSpace room → X
+  formula-tells f m h room e = let y = formula-over exact (m .variables) f (roomOf m) room e in h (y .ask) (y .asks) (y .exceeds)
+
+  items-tell : (X : Type 0) (quiet : Bool) (is : List Item) (m : Machine) (go : Machine → Next)
+      → ((k : Ask) → PrintAsks is m k → Over m k → X) → ((n : Machine) → Tells X (go n)) → Tells X (printItems quiet is m go)
+  unfolding printItems
+  items-tell X true [] m go over h = h m
+  items-tell X false [] m go over h = written-tells X m (13 ∷ 10 ∷ []) go (λ n e. h n)
+  items-tell X quiet (tree.comma ∷ is) m go over h =
+      written-tells X m (commaBlanks m) _ (λ n e.
+      items-tell X true is n go (λ k d x. over k (asks.afterComma e d) (over-before k (write-same m (commaBlanks m) n e) x)) h)
+  items-tell X quiet (tree.semicolon ∷ is) m go over h = items-tell X true is m go (λ k d x. over k (asks.afterSemicolon d) x) h
+  items-tell X quiet (tree.shown f ∷ is) m go over h =
+      worked-tells X m (valueOf f (m .variables) (roomOf m)) _ (formula-tells f m (λ k d x. over k (asks.thisItem d) x))
+      (λ v room e. written-tells X (noting m room) (shownValue v) _ (λ n w.
+      items-tell X false is n go
+      (λ k d x. over k (asks.afterItem e w d) (over-before {m = noting m room} k (write-same (noting m room) (shownValue v) n w) x)) h))
+
+  pub statement-tells : (program : List ℕ) (s : Statement) (m : Machine) (after : Position)
+      → Tells (StatementOver s m) (doStatement program s m after)
+  unfolding bytesIn
+  statement-tells program tree.empty m after = tt
+  statement-tells program (tree.assign v f) m after =
+      worked-tells (StatementOver (tree.assign v f) m) m (valueOf f (m .variables) (roomOf m)) _
+      (formula-tells f m (λ k d x. record { ask = k; asks = asks.assigned d; exceeds = x }))
+      (λ x room e. assigned-tells _ (v .kind) (v .telling) x (noting m room) _ (λ n. tt))
+  statement-tells program (tree.print is) m after =
+      items-tell (StatementOver (tree.print is) m) false is m _ (λ k d x. record { ask = k; asks = asks.printing d; exceeds = x }) (λ n. tt)
+  statement-tells program (tree.ifThen c p) m after =
+      whole-tells (StatementOver (tree.ifThen c p) m) c m (λ w n. cond (eqb w 0) (lineOver n (after .lines)) (branch n (after .lines) p))
+      (formula-tells c m (λ k d x. record { ask = k; asks = asks.tested d; exceeds = x }))
+      (λ w room e. by-test (eqb w 0) (λ t. rw t tt) (λ t. rw t tt))
+  statement-tells program (tree.ifElse c p q) m after =
+      whole-tells (StatementOver (tree.ifElse c p q) m) c m _
+      (formula-tells c m (λ k d x. record { ask = k; asks = asks.chosen d; exceeds = x })) (λ w room e. tt)
+  statement-tells program (tree.goto l) m after = line-tells _ m (fromNumber (l .0) (linesOf program)) _ (λ ls. tt)
+  statement-tells program (tree.gosub l) m after =
+      line-tells _ m (fromNumber (l .0) (linesOf program)) _ (λ ls. pushed-tells _ m (call after) (λ n. enters n ls) (λ n. tt))
+  statement-tells program tree.return m after = returned-tells _ (m .records) m
+  statement-tells program (tree.for v from to by) m after =
+      by-test (isWholeKind (v .kind))
+      (λ t. rw t
+      (whole-tells (StatementOver (tree.for v from to by) m) from m _
+      (formula-tells from m (λ k d x. record { ask = k; asks = asks.started t d; exceeds = x })) (λ a room e.
+      whole-tells (StatementOver (tree.for v from to by) m) to (noting m room) _
+      (formula-tells to (noting m room) (λ k d x. record { ask = k; asks = asks.limited t e d; exceeds = x })) (λ b next d.
+      whole-tells (StatementOver (tree.for v from to by) m) by (noting m next) _
+      (formula-tells by (noting m next) (λ k c x. record { ask = k; asks = asks.stepped t e d c; exceeds = x })) (λ s last c.
+      number-tells _ (noting m last) (v .telling) a
+      (begun (v .telling) b s after)
+      (λ q. pushed-tells (StatementOver (tree.for v from to by) m) (cleared (v .telling) q) (loop (v .telling) b s after) (λ r. goesOn r after) (λ r. tt)))))))
+      (λ t. rw t (λ x. never (cc)))
+  statement-tells program tree.next m after = next-tells _ m (sought (λ u. true) (m .records)) after
+  statement-tells program (tree.nextOf v) m after =
+      by-test (isWholeKind (v .kind)) (λ t. rw t (next-tells _ m (sought (λ u. alike u (v .telling)) (m .records)) after))
+      (λ t. rw t (λ x. never (cc)))
+  statement-tells program (tree.lineInput t v) m after =
+      written-tells (StatementOver (tree.lineInput t v) m) m t _ (λ n w.
+      input-tells _ (n .input) n v _
+      (λ b s e short x.
+      let k : Ask = record { unfinished = []; bytes = takeLine (b ∷ s) .bytes } in
+      record { ask = k; asks = asks.input w e short; exceeds = over-before k (write-same m t n w) (omega (arith, x)) })
+      (λ o. tt))
+  statement-tells program tree.end m after = tt
+  statement-tells program tree.stop m after = tt
+  statement-tells program tree.remark m after = tt
+
+  -- ---- and one that asks for too much ends in 14
+
+  abbrev pub StatementFails : List ℕ → Statement → Machine → Position → Type 0
+  StatementFails program s m after = (n : Machine) × (doStatement program s m after ≡ fails OutOfStringSpace n)
+
+  formula-refused : (f : Formula) (m : Machine) (k : Ask) → FormulaAsks f m k → Over m k
+      → (room : Room) × (valueOf f (m .variables) (roomOf m) ≡ fault OutOfStringSpace room)
+  formula-refused f m k d h = formula-fails exact (m .variables) f (roomOf m) k d h
+
+  items-fail : (quiet : Bool) (is : List Item) (m : Machine) (go : Machine → Next) (k : Ask) → PrintAsks is m k → Over m k
+      → (n : Machine) × (printItems quiet is m go ≡ fails OutOfStringSpace n)
+  unfolding printItems
+  items-fail quiet (tree.comma ∷ is) m go k (asks.afterComma {n = n} w d) h =
+      let y = items-fail true is n go k d (over-after k (write-same m (commaBlanks m) n w) h) in (y .0, rw w (y .1))
+  items-fail quiet (tree.semicolon ∷ is) m go k (asks.afterSemicolon d) h = items-fail true is m go k d h
+  items-fail quiet (tree.shown f ∷ is) m go k (asks.thisItem d) h =
+      let y = formula-refused f m k d h in (noting m (y .0), rw (y .1))
+  items-fail quiet (tree.shown f ∷ is) m go k (asks.afterItem {n = n} {v = v} {room = room} e w d) h =
+      let y = items-fail false is n go k d (over-after {m = noting m room} k (write-same (noting m room) (shownValue v) n w) h) in
+      (y .0, rw (e, w) (y .1))
+
+  pub statement-fails : (program : List ℕ) (s : Statement) (m : Machine) (after : Position) (k : Ask) → StatementAsks s m k → Over m k
+      → StatementFails program s m after
+  unfolding bytesIn
+  statement-fails program (tree.assign v f) m after k (asks.assigned d) h = let y = formula-refused f m k d h in (noting m (y .0), rw (y .1))
+  statement-fails program (tree.print is) m after k (asks.printing d) h = items-fail false is m _ k d h
+  statement-fails program (tree.ifThen c p) m after k (asks.tested d) h = let y = formula-refused c m k d h in (noting m (y .0), rw (y .1))
+  statement-fails program (tree.ifElse c p q) m after k (asks.chosen d) h = let y = formula-refused c m k d h in (noting m (y .0), rw (y .1))
+  statement-fails program (tree.for v from to by) m after k (asks.started t d) h =
+      let y = formula-refused from m k d h in (noting m (y .0), rw (t, y .1))
+  statement-fails program (tree.for v from to by) m after k (asks.limited {room = room} t e d) h =
+      let y = formula-refused to (noting m room) k d h in (noting m (y .0), rw (t, e, y .1))
+  statement-fails program (tree.for v from to by) m after k (asks.stepped {next = next} t e c d) h =
+      let y = formula-refused by (noting m next) k d h in (noting m (y .0), rw (t, e, c, y .1))
+  statement-fails program (tree.lineInput t v) m after k (asks.input {n = n} {b = b} {s = s} w e short) h =
+      let line = takeLine (b ∷ s) in
+      let taken = withInput n (line .left) (n .taken + (length (n .input) - length (line .left))) in
+      let x = over-after {m = m} {n = n} (record { unfinished = []; bytes = line .bytes }) (write-same m t n w) h in
+      let refused = make-refused (line .bytes) (roomOf taken) (omega (arith, x)) in
+      (noting taken (roomOf taken), rw (w, e, le-ltb 254 (length (line .bytes)) short, refused))

@@ -1,0 +1,13 @@
+pub mod Never
+pub mod Limits
+pub mod Fourteen
+pub mod Verdicts
+pub mod Parts
+pub mod Passage
+pub mod Guards
+pub mod Demands
+pub mod Unique
+pub mod Checked
+pub mod Passing
+pub mod Looping
+pub mod Waiting

@@ -1,0 +1,268 @@
+-- What each statement keeps: a property of machines that every change of a machine keeps is kept by a whole run.
+use mathlib.Core.Path.{_≡_, refl}
+use mathlib.Core.Bool.{Bool, true, false, cond}
+use mathlib.Core.List.{List, [], _∷_, _++_}
+use Prim.Native.Nat.{ℕ, _+_, _-_, _≤_}
+use native.Mathlib.Omega.{arith}
+use borrow.Author.Tests.{ltb-false}
+use lib.Dec.{ltb, leb, eqb}
+use lib.ListN.{length, length-drop}
+use Rattle.whole.specs.Whole.{applied}
+use Rattle.whole.specs.declared.arithmetic.Answer.{Answer}
+use Rattle.whole.specs.declared.arithmetic.Answer.the-variants.{Whole, Fault}
+use Rattle.whole.specs.declared.arithmetic.Operator.the-variants.{Add}
+use Rattle.words.specs.Names.{alike}
+use Rattle.words.specs.declared.names.Kind.{Kind}
+use Rattle.words.specs.declared.names.Kind.the-variants as kind
+use Rattle.words.specs.declared.names.Telling.{Telling}
+use Rattle.words.proofs.Choices.{by-test}
+use Rattle.loader.specs.Lines.{Line, linesOf, linesFrom, fromNumber}
+use Rattle.grammar.specs.Trees as tree
+use Rattle.grammar.specs.Trees.{Formula, Variable, Item, Statement}
+use Rattle.variables.specs.Strings.{Value, whole, text, Room, Outcome, value, fault, make}
+use Rattle.variables.specs.Variables.{Variables, wordOf, numbersFull, stringsFull}
+use Rattle.operators.specs.Values.{valueOf}
+use Rattle.machine.specs.Machine.{
+  Position,
+  Record,
+  loop,
+  call,
+  Machine,
+  mostRecords,
+  roomOf,
+  withRecords,
+  withOutput,
+  withInput,
+  noting,
+  columnAfter,
+  write,
+  commaBlanks,
+  Search,
+  missing,
+  found,
+  sought,
+  below,
+  passed,
+}
+use Rattle.turns.specs.Steps.{
+  Next,
+  goesOn,
+  enters,
+  ends,
+  stops,
+  fails,
+  worked,
+  wholeOnly,
+  workedWhole,
+  withNumber,
+  withString,
+  storeNumber,
+  storeString,
+  assigned,
+  written,
+  shownValue,
+  printItems,
+  toLine,
+  pushed,
+  returned,
+  turned,
+  nextOn,
+  Taken,
+  firstLine,
+  takeLine,
+  filled,
+  lineTaken,
+  inputLine,
+  isWholeKind,
+  branch,
+  lineOver,
+  doStatement,
+}
+use Rattle.promises.proofs.Never.{never}
+
+-- what holds of the machine that a statement leaves, wherever it leads
+abbrev pub Leaves : (Machine → Type 0) → Next → Type 0
+Leaves P (goesOn m p) = P m
+Leaves P (enters m lines) = P m
+Leaves P (ends m) = P m
+Leaves P (stops m) = P m
+Leaves P (fails e m) = P m
+
+-- each change that a statement makes
+pub record Keeps (P : Machine → Type 0) : Type 0 where
+  pub notes : (m : Machine) (room : Room) → P m → P (noting m room)
+  pub numbers : (m : Machine) (name : Telling) (w : ℕ) → P m → P (withNumber m name w)
+  pub strings : (m : Machine) (name : Telling) (f : Formula) (b : List ℕ) (room : Room)
+      → valueOf f (m .variables) (roomOf m) ≡ value (text b) room → P m → P (withString (noting m room) name b)
+  pub records : (m : Machine) (rs : List Record) → P m → P (withRecords m rs)
+  pub prints : (m : Machine) (bytes : List ℕ) → length (m .output) + length bytes ≤ m .outputRoom
+      → P m → P (withOutput m (m .output ++ bytes) (columnAfter (m .column) bytes))
+  pub takes : (m : Machine) (left : List ℕ) → length left ≤ length (m .input)
+      → P m → P (withInput m left (m .taken + (length (m .input) - length left)))
+
+-- FOR: an older loop of the variable is dropped, and a record made
+abbrev pub cleared : Telling → Machine → Machine
+cleared v m = withRecords m (below (m .records) (sought (λ u. alike u v) (m .records)))
+
+abbrev pub begun : Telling → ℕ → ℕ → Position → Machine → Next
+begun v limit step after m = pushed (cleared v m) (loop v limit step after) (λ n. goesOn n after)
+
+-- a line of input is a text as a quoted one is
+made-text : (b : List ℕ) (vars : Variables) (before : Room) (v : Value) (room : Room) → make b before ≡ value v room
+    → valueOf (tree.text b) vars before ≡ value (text b) room
+unfolding valueOf make
+made-text b vars before v room e =
+    by-test (ltb (before .limit) (before .live + length b))
+    (λ t. let f = rw t at e in never (cc))
+    (λ t. let f = rw t at e in rw t (cc))
+
+module _ (P : Machine → Type 0) (k : Keeps P) where
+  -- ---- working out
+
+  worked-keeps : (m : Machine) (o : Outcome) (go : Value → Machine → Next) → P m
+      → ((v : Value) (room : Room) → o ≡ value v room → P (noting m room) → Leaves P (go v (noting m room)))
+      → Leaves P (worked m o go)
+  worked-keeps m (value v room) go p h = h v room refl (k .notes m room p)
+  worked-keeps m (fault e room) go p h = k .notes m room p
+
+  whole-keeps : (f : Formula) (m : Machine) (go : ℕ → Machine → Next) → P m → ((w : ℕ) (n : Machine) → P n → Leaves P (go w n))
+      → Leaves P (workedWhole f m go)
+  whole-keeps f m go p h = worked-keeps m (valueOf f (m .variables) (roomOf m)) _ p (λ v room e q. only v (noting m room) q)
+    where
+      only : (v : Value) (n : Machine) → P n → Leaves P (wholeOnly v n (λ w. go w n))
+      only (whole w) n q = h w n q
+      only (text b) n q = q
+
+  -- ---- assignment
+
+  number-keeps : (m : Machine) (name : Telling) (w : ℕ) (go : Machine → Next) → P m → ((n : Machine) → P n → Leaves P (go n))
+      → Leaves P (storeNumber m name w go)
+  number-keeps m name w go p h =
+      by-test (numbersFull (m .variables .numbers) name) (λ e. rw e p) (λ e. rw e (h (withNumber m name w) (k .numbers m name w p)))
+
+  string-keeps : (m : Machine) (name : Telling) (b : List ℕ) (go : Machine → Next) → P m → P (withString m name b)
+      → ((n : Machine) → P n → Leaves P (go n)) → Leaves P (storeString m name b go)
+  string-keeps m name b go p q h =
+      by-test (stringsFull (m .variables .strings) name) (λ e. rw e p) (λ e. rw e (h (withString m name b) q))
+
+  assigned-keeps : (m : Machine) (f : Formula) (sort : Kind) (name : Telling) (go : Machine → Next) → P m
+      → ((n : Machine) → P n → Leaves P (go n))
+      → Leaves P (worked m (valueOf f (m .variables) (roomOf m)) (λ v n. assigned sort name v n go))
+  assigned-keeps m f sort name go p h =
+      worked-keeps m (valueOf f (m .variables) (roomOf m)) _ p (λ v room e q. to sort v room e q)
+    where
+      to : (x : Kind) (v : Value) (room : Room) → valueOf f (m .variables) (roomOf m) ≡ value v room → P (noting m room)
+          → Leaves P (assigned x name v (noting m room) go)
+      to kind.Whole (whole w) room e q = number-keeps (noting m room) name w go q h
+      to kind.Whole (text b) room e q = q
+      to kind.Text (whole w) room e q = q
+      to kind.Text (text b) room e q = string-keeps (noting m room) name b go q (k .strings m name f b room e p) h
+
+  -- ---- printing
+
+  written-keeps : (m : Machine) (bytes : List ℕ) (go : Machine → Next) → P m → ((n : Machine) → P n → Leaves P (go n))
+      → Leaves P (written m bytes go)
+  unfolding write
+  written-keeps m bytes go p h =
+      by-test (ltb (m .outputRoom) (length (m .output) + length bytes)) (λ e. rw e p)
+      (λ e. rw e (h _ (k .prints m bytes (ltb-false _ _ e) p)))
+
+  items-keep : (quiet : Bool) (is : List Item) (m : Machine) (go : Machine → Next) → P m → ((n : Machine) → P n → Leaves P (go n))
+      → Leaves P (printItems quiet is m go)
+  unfolding printItems
+  items-keep true [] m go p h = h m p
+  items-keep false [] m go p h = written-keeps m (13 ∷ 10 ∷ []) go p h
+  items-keep quiet (tree.comma ∷ is) m go p h = written-keeps m (commaBlanks m) _ p (λ n q. items-keep true is n go q h)
+  items-keep quiet (tree.semicolon ∷ is) m go p h = items-keep true is m go p h
+  items-keep quiet (tree.shown f ∷ is) m go p h =
+      worked-keeps m (valueOf f (m .variables) (roomOf m)) _ p (λ v room e q.
+      written-keeps (noting m room) (shownValue v) _ q (λ n r. items-keep false is n go r h))
+
+  -- ---- jumps
+
+  line-keeps : (m : Machine) (lines : List Line) (go : List Line → Next) → P m → ((ls : List Line) → Leaves P (go ls)) → Leaves P (toLine m lines go)
+  line-keeps m [] go p h = p
+  line-keeps m (l ∷ ls) go p h = h (l ∷ ls)
+
+  pushed-keeps : (m : Machine) (r : Record) (go : Machine → Next) → P m → ((n : Machine) → P n → Leaves P (go n)) → Leaves P (pushed m r go)
+  pushed-keeps m r go p h =
+      by-test (leb mostRecords (length (m .records))) (λ e. rw e p)
+      (λ e. rw e (h (withRecords m (r ∷ m .records)) (k .records m (r ∷ m .records) p)))
+
+  returned-keeps : (rs : List Record) (m : Machine) → P m → Leaves P (returned rs m)
+  unfolding returned
+  returned-keeps [] m p = p
+  returned-keeps (loop v l s q ∷ rs) m p = returned-keeps rs m p
+  returned-keeps (call q ∷ rs) m p = k .records m rs p
+
+  -- ---- NEXT
+
+  turned-keeps : (m : Machine) (v : Telling) (limit step : ℕ) (back : Position) (under : List Record) (after : Position) (a : Answer) → P m
+      → Leaves P (turned m v limit step back under after a)
+  turned-keeps m v limit step back under after (Whole w) p =
+      number-keeps m v w
+      (λ n. cond (passed w limit step) (goesOn (withRecords n under) after) (goesOn (withRecords n (loop v limit step back ∷ under)) back)) p (λ n q.
+      by-test (passed w limit step) (λ e. rw e (k .records n under q)) (λ e. rw e (k .records n (loop v limit step back ∷ under) q)))
+  turned-keeps m v limit step back under after (Fault e) p = p
+
+  next-keeps : (m : Machine) (s : Search) (after : Position) → P m → Leaves P (nextOn m s after)
+  next-keeps m missing after p = p
+  next-keeps m (found limit step back v under) after p =
+      turned-keeps m v limit step back under after (applied Add (wordOf (m .variables .numbers) v) step) p
+
+  -- ---- LINE INPUT
+
+  left-less : (input : List ℕ) → length (takeLine input .left) ≤ length input
+  left-less input = go (linesFrom 0 input)
+    where
+      go : (ls : List Line) → length (firstLine input ls .left) ≤ length input
+      go [] = omega arith
+      go (l ∷ ls) = omega (arith, length-drop (l .next) input)
+
+  filled-keeps : (m : Machine) (b : List ℕ) (sort : Kind) (name : Telling) (go : Machine → Next) → P m → ((n : Machine) → P n → Leaves P (go n))
+      → Leaves P (worked m (make b (roomOf m)) (λ v n. filled sort name b n go))
+  filled-keeps m b sort name go p h = worked-keeps m (make b (roomOf m)) _ p (λ v room e q. to sort v room e q)
+    where
+      to : (x : Kind) (v : Value) (room : Room) → make b (roomOf m) ≡ value v room → P (noting m room) → Leaves P (filled x name b (noting m room) go)
+      to kind.Whole v room e q = q
+      to kind.Text v room e q = string-keeps (noting m room) name b go q (k .strings m name (tree.text b) b room (made-text b (m .variables) (roomOf m) v room e) p) h
+
+  taken-keeps : (m : Machine) (v : Variable) (t : Taken) (go : Machine → Next) → length (t .left) ≤ length (m .input) → P m
+      → ((n : Machine) → P n → Leaves P (go n)) → Leaves P (lineTaken m v t go)
+  taken-keeps m v t go less p h =
+      by-test (ltb 254 (length (t .bytes))) (λ e. rw e p)
+      (λ e. rw e (filled-keeps _ (t .bytes) (v .kind) (v .telling) go (k .takes m (t .left) less p) h))
+
+  input-keeps : (input : List ℕ) (m : Machine) (v : Variable) (go : Machine → Next) → m .input ≡ input → P m
+      → ((n : Machine) → P n → Leaves P (go n)) → Leaves P (inputLine input m v go)
+  input-keeps [] m v go e p h = p
+  input-keeps (b ∷ s) m v go e p h = taken-keeps m v (takeLine (b ∷ s)) go (rw e (left-less (b ∷ s))) p h
+
+  -- ---- all statements
+
+  pub statement-keeps : (program : List ℕ) (s : Statement) (m : Machine) (after : Position) → P m → Leaves P (doStatement program s m after)
+  statement-keeps program tree.empty m after p = p
+  statement-keeps program (tree.assign v f) m after p = assigned-keeps m f (v .kind) (v .telling) _ p (λ n q. q)
+  statement-keeps program (tree.print is) m after p = items-keep false is m _ p (λ n q. q)
+  statement-keeps program (tree.ifThen c q) m after p =
+      whole-keeps c m (λ w n. cond (eqb w 0) (lineOver n (after .lines)) (branch n (after .lines) q)) p
+      (λ w n r. by-test (eqb w 0) (λ e. rw e r) (λ e. rw e r))
+  statement-keeps program (tree.ifElse c x y) m after p = whole-keeps c m _ p (λ w n r. r)
+  statement-keeps program (tree.goto l) m after p = line-keeps m (fromNumber (l .0) (linesOf program)) _ p (λ ls. p)
+  statement-keeps program (tree.gosub l) m after p =
+      line-keeps m (fromNumber (l .0) (linesOf program)) _ p (λ ls. pushed-keeps m (call after) (λ n. enters n ls) p (λ n q. q))
+  statement-keeps program tree.return m after p = returned-keeps (m .records) m p
+  statement-keeps program (tree.for v from to by) m after p =
+      by-test (isWholeKind (v .kind))
+      (λ e. rw e
+      (whole-keeps from m _ p (λ a n q. whole-keeps to n _ q (λ b o r. whole-keeps by o _ r (λ s x y.
+      number-keeps x (v .telling) a (begun (v .telling) b s after) y (λ z u.
+      pushed-keeps (cleared (v .telling) z) (loop (v .telling) b s after) (λ o. goesOn o after) (k .records z _ u) (λ _ t. t)))))))
+      (λ e. rw e p)
+  statement-keeps program tree.next m after p = next-keeps m (sought (λ u. true) (m .records)) after p
+  statement-keeps program (tree.nextOf v) m after p =
+      by-test (isWholeKind (v .kind)) (λ e. rw e (next-keeps m (sought (λ u. alike u (v .telling)) (m .records)) after p)) (λ e. rw e p)
+  statement-keeps program (tree.lineInput t v) m after p = written-keeps m t _ p (λ n q. input-keeps (n .input) n v _ refl q (λ o r. r))
+  statement-keeps program tree.end m after p = p
+  statement-keeps program tree.stop m after p = p
+  statement-keeps program tree.remark m after p = p

@@ -1,0 +1,106 @@
+-- A run is refused exactly for its string space or its text: one that was begun never is.
+use mathlib.Core.Path.{_≡_, refl, ap}
+use mathlib.Core.Bool.{false}
+use mathlib.Core.List.{List}
+use mathlib.Core.Logic.{_↔_}
+use Prim.Native.Nat.{ℕ, zero, suc}
+use borrow.Author.Tests.{lt-ltb, le-ltb}
+use Rattle.words.specs.declared.places.LineNumber.{LineNumber}
+use Rattle.words.specs.declared.places.Place.{Place}
+use Rattle.loader.specs.Lines.{Line, linesOf}
+use Rattle.loader.specs.declared.refusals.Refusal.{Refusal}
+use Rattle.machine.specs.Machine.{Rest, nothing, part, Machine, fresh, withStep}
+use Rattle.turns.specs.Steps.{Next, goesOn, enters, ends, stops, fails, headOf, tailOf, doStatement}
+use Rattle.runner.specs.Run.{
+  endsWith,
+  lineNumberOf,
+  Entered,
+  over,
+  faulty,
+  opened,
+  enter,
+  nextLine,
+  Standing,
+  finished,
+  at,
+  byEntered,
+  entering,
+  onward,
+  following,
+  turn,
+  running,
+  isRefused,
+  runOf,
+}
+use Rattle.runner.specs.declared.running.Outcome.{Outcome}
+use Rattle.runner.specs.declared.running.Outcome.the-variants.{Refused}
+use Rattle.promises.specs.Demands.{RefusedFor, longSpace, notLoaded}
+use Rattle.promises.proofs.Never.{never}
+use Rattle.promises.proofs.Limits.Bounds.{RunView, long, unloaded, runs, run-view}
+
+-- ---- a run that was begun
+
+abbrev Begun : Standing → Type 0
+Begun (finished r) = isRefused (r .ending) ≡ false
+Begun (at m lines p) = Unit {0}
+
+entered-begun : (e : Entered) (m : Machine) (lines : List Line) → Begun (byEntered e m lines)
+entered-begun over m lines = refl
+entered-begun (faulty e) m lines = refl
+entered-begun (opened p) m lines = tt
+
+entering-begun : (m : Machine) (lines : List Line) → Begun (entering m lines)
+entering-begun m lines = entered-begun (enter lines) m lines
+
+onward-begun : (m : Machine) (lines : List Line) (rest : Rest) → Begun (onward m lines rest)
+onward-begun m lines nothing = entering-begun m (nextLine lines)
+onward-begun m lines (part p) = tt
+
+following-begun : (l : LineNumber) (n : Next) → Begun (following l n)
+following-begun l (goesOn m p) = onward-begun m (p .lines) (p .rest)
+following-begun l (enters m lines) = entering-begun m lines
+following-begun l (ends m) = refl
+following-begun l (stops m) = refl
+following-begun l (fails e m) = refl
+
+running-begun : (n : ℕ) (program : List ℕ) (s : Standing) → Begun s → isRefused (running n program s .ending) ≡ false
+unfolding running
+running-begun zero program (finished r) h = h
+running-begun zero program (at m lines p) h = refl
+running-begun (suc n) program (finished r) h = h
+running-begun (suc n) program (at m lines p) h =
+    running-begun n program (turn program m lines p)
+    (following-begun (lineNumberOf lines) (doStatement program (headOf p) (withStep m) (record { lines = lines; rest = tailOf p })))
+
+-- ---- a whole run
+
+module _ (text input : List ℕ) (space room budget : ℕ) where
+  not-begun : {o : Outcome} (r : Refusal) (p : Place) → isRefused o ≡ false → o ≡ Refused r p → ⊥
+  not-begun r p h e = let f = rw e at h in never (cc)
+
+  same-refusal : {r s : Refusal} {p q : Place} → Refused s q ≡ Refused r p → RefusedFor text space s q → RefusedFor text space r p
+  same-refusal {r} {s} {p} {q} e h = let f : r ≡ s = cc in let g : p ≡ q = cc in rw (f, g) h
+
+  refused-view : RunView text input space room budget → (r : Refusal) (p : Place) → runOf text input space room budget .ending ≡ Refused r p
+      → RefusedFor text space r p
+  refused-view (long h e) r p o = same-refusal (rw e at o) (longSpace h)
+  refused-view (unloaded s q h l e) r p o = same-refusal (rw e at o) (notLoaded h l)
+  refused-view (runs h l e) r p o =
+      absurd
+      (not-begun r p
+      (running-begun budget text (entering (fresh input space room) (linesOf text)) (entering-begun (fresh input space room) (linesOf text)))
+      (rw e at o))
+
+  for-view : (r : Refusal) (p : Place) → RefusedFor text space r p
+      → runOf text input space room budget ≡ endsWith (Refused r p) (fresh input space room)
+  unfolding runOf
+  for-view r p (longSpace h) = rw (lt-ltb 16384 space h)
+  for-view r p (notLoaded h l) = rw (le-ltb 16384 space h, l)
+
+  pub refused-exactly : (r : Refusal) (p : Place) → (runOf text input space room budget .ending ≡ Refused r p) ↔ RefusedFor text space r p
+  refused-exactly r p = (refused-view (run-view text input space room budget) r p, λ h. ap (λ x. x .ending) (for-view r p h))
+
+  -- a refused run is not begun
+  pub refused-fresh : (r : Refusal) (p : Place) → runOf text input space room budget .ending ≡ Refused r p
+      → runOf text input space room budget ≡ endsWith (Refused r p) (fresh input space room)
+  refused-fresh r p h = for-view r p (refused-exactly r p .0 h)

@@ -1,0 +1,8 @@
+-- The public functions of `checker`.
+use mathlib.Core.Path.{refl}
+use Rattle.checker.proofs as checker
+use Rattle.promises.specs.Calls.{Unique}
+use Rattle.promises.proofs.Unique.{same}
+
+pub check-recipe : Unique checker.check_recipe.Kinds.ps checker.check_recipe.Kinds.r checker.check_recipe.Reads.Pre checker.check_recipe.Reads.Post
+check-recipe κs a p z z′ ws ws′ e e′ = (same e e′, refl)

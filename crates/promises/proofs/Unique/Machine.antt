@@ -1,0 +1,32 @@
+-- The public functions of `machine`.
+use mathlib.Core.Path.{refl}
+use Rattle.machine.proofs as machine
+use Rattle.promises.specs.Calls.{Unique}
+use Rattle.promises.proofs.Unique.{same, pair}
+
+pub passed : Unique machine.passed.Kinds.ps machine.passed.Kinds.r machine.passed.Reads.Pre machine.passed.Reads.Post
+passed κs a p z z′ ws ws′ e e′ = (same e e′, refl)
+
+pub machine-fresh : Unique machine.machine.Machine.fresh.Kinds.ps machine.machine.Machine.fresh.Kinds.r machine.machine.Machine.fresh.Reads.Pre machine.machine.Machine.fresh.Reads.Post
+machine-fresh κs a p z z′ ws ws′ e e′ = (same e e′, refl)
+
+pub write : Unique machine.write.Kinds.ps machine.write.Kinds.r machine.write.Reads.Pre machine.write.Reads.Post
+write κs a p z z′ ws ws′ e e′ = (same (e .0) (e′ .0), pair refl (pair (same (e .1) (e′ .1)) refl))
+
+pub write-comma : Unique machine.write_comma.Kinds.ps machine.write_comma.Kinds.r machine.write_comma.Reads.Pre machine.write_comma.Reads.Post
+write-comma κs a p z z′ ws ws′ e e′ = (same (e .0) (e′ .0), pair refl (pair (same (e .1) (e′ .1)) refl))
+
+pub record-blank : Unique machine.records.Record.blank.Kinds.ps machine.records.Record.blank.Kinds.r machine.records.Record.blank.Reads.Pre machine.records.Record.blank.Reads.Post
+record-blank κs a p z z′ ws ws′ e e′ = (same e e′, refl)
+
+pub stack-empty : Unique machine.records.Stack.empty.Kinds.ps machine.records.Stack.empty.Kinds.r machine.records.Stack.empty.Reads.Pre machine.records.Stack.empty.Reads.Post
+stack-empty κs a p z z′ ws ws′ e e′ = (λ i. record { records = same e e′ i }, refl)
+
+pub find-record : Unique machine.find_record.Kinds.ps machine.find_record.Kinds.r machine.find_record.Reads.Pre machine.find_record.Reads.Post
+find-record κs a p z z′ ws ws′ e e′ = (same e e′, refl)
+
+pub record-at : Unique machine.record_at.Kinds.ps machine.record_at.Kinds.r machine.record_at.Reads.Pre machine.record_at.Reads.Post
+record-at κs a p z z′ ws ws′ e e′ = (same e e′, refl)
+
+pub with-record : Unique machine.with_record.Kinds.ps machine.with_record.Kinds.r machine.with_record.Reads.Pre machine.with_record.Reads.Post
+with-record κs a p z z′ ws ws′ e e′ = (λ i. record { records = same e e′ i }, refl)

@@ -1,0 +1,11 @@
+-- The public functions of `reader`.
+use mathlib.Core.Path.{refl}
+use Rattle.reader.proofs as reader
+use Rattle.promises.specs.Calls.{Unique}
+use Rattle.promises.proofs.Unique.{same}
+
+pub follows : Unique reader.follows.Kinds.ps reader.follows.Kinds.r reader.follows.Reads.Pre reader.follows.Reads.Post
+follows κs a p z z′ ws ws′ e e′ = (same e e′, refl)
+
+pub judge : Unique reader.judge.Kinds.ps reader.judge.Kinds.r reader.judge.Reads.Pre reader.judge.Reads.Post
+judge κs a p z z′ ws ws′ e e′ = (same e e′, refl)

@@ -1,0 +1,23 @@
+-- The public functions of `turns`.
+use mathlib.Core.Path.{refl}
+use Rattle.turns.proofs as turns
+use Rattle.promises.specs.Calls.{Unique}
+use Rattle.promises.proofs.Unique.{same}
+
+pub turned-to : Unique turns.turned_to.Kinds.ps turns.turned_to.Kinds.r turns.turned_to.Reads.Pre turns.turned_to.Reads.Post
+turned-to κs a p z z′ ws ws′ e e′ = (same e e′, refl)
+
+pub fails : Unique turns.fails.Kinds.ps turns.fails.Kinds.r turns.fails.Reads.Pre turns.fails.Reads.Post
+fails κs a p z z′ ws ws′ e e′ = (same e e′, refl)
+
+pub after : Unique turns.after.Kinds.ps turns.after.Kinds.r turns.after.Reads.Pre turns.after.Reads.Post
+after κs a p z z′ ws ws′ e e′ = (same e e′, refl)
+
+pub goes-on : Unique turns.goes_on.Kinds.ps turns.goes_on.Kinds.r turns.goes_on.Reads.Pre turns.goes_on.Reads.Post
+goes-on κs a p z z′ ws ws′ e e′ = (same e e′, refl)
+
+pub stored-or-full : Unique turns.stored_or_full.Kinds.ps turns.stored_or_full.Kinds.r turns.stored_or_full.Reads.Pre turns.stored_or_full.Reads.Post
+stored-or-full κs a p z z′ ws ws′ e e′ = (same e e′, refl)
+
+pub with-number : Unique turns.with_number.Kinds.ps turns.with_number.Kinds.r turns.with_number.Reads.Pre turns.with_number.Reads.Post
+with-number κs a p z z′ ws ws′ e e′ = (same e e′, refl)

@@ -1,0 +1,20 @@
+-- The public functions of `words`.
+use mathlib.Core.Path.{refl}
+use Rattle.words.proofs as words
+use Rattle.promises.specs.Calls.{Unique}
+use Rattle.promises.proofs.Unique.{same}
+
+pub capital : Unique words.capital.Kinds.ps words.capital.Kinds.r words.capital.Reads.Pre words.capital.Reads.Post
+capital κs a p z z′ ws ws′ e e′ = (same e e′, refl)
+
+pub class-of : Unique words.class_of.Kinds.ps words.class_of.Kinds.r words.class_of.Reads.Pre words.class_of.Reads.Post
+class-of κs a p z z′ ws ws′ e e′ = (same e e′, refl)
+
+pub telling-of : Unique words.telling_of.Kinds.ps words.telling_of.Kinds.r words.telling_of.Reads.Pre words.telling_of.Reads.Post
+telling-of κs a p z z′ ws ws′ e e′ = (same e e′, refl)
+
+pub same-name : Unique words.same_name.Kinds.ps words.same_name.Kinds.r words.same_name.Reads.Pre words.same_name.Reads.Post
+same-name κs a p z z′ ws ws′ e e′ = (same e e′, refl)
+
+pub token-at : Unique words.token_at.Kinds.ps words.token_at.Kinds.r words.token_at.Reads.Pre words.token_at.Reads.Post
+token-at κs a p z z′ ws ws′ e e′ = (same e e′, refl)

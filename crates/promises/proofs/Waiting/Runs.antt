@@ -1,0 +1,100 @@
+-- No run ever has more than 28 unfinished strings.
+use mathlib.Core.List.{List, [], _∷_}
+use Prim.Native.Nat.{ℕ, zero, suc, _≤_}
+use native.Mathlib.Omega.{arith}
+use lib.Dec.{ltb}
+use lib.ListN.{length, drop}
+use Rattle.whole.specs.Bytes.{bytes}
+use Rattle.whole.specs.Digits.{leadingDigits}
+use Rattle.words.specs.declared.places.LineNumber.{LineNumber}
+use Rattle.words.proofs.Choices.{by-test}
+use Rattle.loader.specs.Lines.{Line, linesOf}
+use Rattle.loader.specs.Loading.{loadOf}
+use Rattle.loader.specs.declared.loading.Loaded.{Loaded}
+use Rattle.loader.specs.declared.loading.Loaded.the-variants as loaded
+use Rattle.grammar.specs.Trees.{Part, last, more}
+use Rattle.statements.specs.Parts.{formulasOf, statementsOf, withinIf}
+use Rattle.machine.specs.Machine.{Rest, nothing, part, Position, Machine, fresh, withStep}
+use Rattle.turns.specs.Steps.{Next, goesOn, enters, ends, stops, fails, headOf, tailOf, doStatement}
+use Rattle.runner.specs.Run.{Ran, lineNumberOf, Entered, over, faulty, opened, enter, nextLine, Standing, finished, at, byEntered, entering, onward, following, turn, running, ifLoaded, runOf}
+use Rattle.runner.specs.Examples.{nested, nested-highest}
+use Rattle.promises.specs.Unfinished.{mostUnfinished, fewUnfinished, mostIsReached}
+use Rattle.promises.proofs.Waiting.Nesting.{Fine}
+use Rattle.promises.proofs.Waiting.Reading.{Each, Every, every-split, PartFine, EnteredFine, line-fine}
+use Rattle.promises.proofs.Waiting.Turns.{RestFine, Sound, NextFine, statement-sound}
+
+abbrev StandingFine : Standing → Type 0
+StandingFine (finished r) = r .machine .highest ≤ mostUnfinished
+StandingFine (at m lines p) = Sound m × PartFine p
+
+entered-fine : (x : Entered) (m : Machine) (lines : List Line) → EnteredFine x → Sound m → StandingFine (byEntered x m lines)
+entered-fine over m lines h s = s .few
+entered-fine (faulty e) m lines h s = s .few
+entered-fine (opened p) m lines h s = (s, h)
+
+enter-fine : (lines : List Line) → EnteredFine (enter lines)
+unfolding enter
+enter-fine [] = tt
+enter-fine (l ∷ ls) = line-fine (drop (length (leadingDigits (l .bytes))) (l .bytes))
+
+entering-fine : (m : Machine) (lines : List Line) → Sound m → StandingFine (entering m lines)
+entering-fine m lines s = entered-fine (enter lines) m lines (enter-fine lines) s
+
+onward-fine : (m : Machine) (lines : List Line) (r : Rest) → Sound m → RestFine r → StandingFine (onward m lines r)
+onward-fine m lines nothing s h = entering-fine m (nextLine lines) s
+onward-fine m lines (part p) s h = (s, h)
+
+following-fine : (line : LineNumber) (x : Next) → NextFine x → StandingFine (following line x)
+following-fine line (goesOn m p) h = onward-fine m (p .lines) (p .rest) (h .0) (h .1)
+following-fine line (enters m lines) h = entering-fine m lines h
+following-fine line (ends m) h = h .few
+following-fine line (stops m) h = h .few
+following-fine line (fails e m) h = h .few
+
+-- its first statement, the parts of that, and what is left
+abbrev HeadFine : Part → Type 0
+HeadFine p = Each Fine (formulasOf (headOf p)) × Every Fine (withinIf (headOf p)) × RestFine (tailOf p)
+
+head-fine : (p : Part) → PartFine p → HeadFine p
+unfolding statementsOf
+head-fine (last q x) h = (h .0, h .1, tt)
+head-fine (more q x rest) h = let k = every-split Fine (withinIf x) (statementsOf rest) (h .1) in (h .0, k .0, k .1)
+
+turn-fine : (program : List ℕ) (m : Machine) (lines : List Line) (p : Part) → Sound m → PartFine p → StandingFine (turn program m lines p)
+turn-fine program m lines p s h =
+    let k = head-fine p h in
+    let after : Position = record { lines = lines; rest = tailOf p } in
+    following-fine (lineNumberOf lines) (doStatement program (headOf p) (withStep m) after)
+    (statement-sound program (headOf p) (withStep m) after (k .0) (k .1) (record { few = s .few; held = s .held }) (k .2))
+
+running-few : (budget : ℕ) (program : List ℕ) (x : Standing) → StandingFine x → running budget program x .machine .highest ≤ mostUnfinished
+unfolding running
+running-few zero program (finished r) h = h
+running-few zero program (at m lines p) h = h .0 .few
+running-few (suc n) program (finished r) h = h
+running-few (suc n) program (at m lines p) h =
+    running-few n program (turn program m lines p) (turn-fine program m lines p (h .0) (h .1))
+
+fresh-sound : (input : List ℕ) (space outputRoom : ℕ) → Sound (fresh input space outputRoom)
+fresh-sound input space outputRoom = record { few = omega arith; held = tt }
+
+loaded-few : (x : Loaded) (m : Machine) (go : Unit {0} → Ran) → m .highest ≤ mostUnfinished → go tt .machine .highest ≤ mostUnfinished
+    → ifLoaded x m go .machine .highest ≤ mostUnfinished
+loaded-few loaded.Fine m go h k = k
+loaded-few (loaded.Refused refusal p) m go h k = h
+
+run-few : (text input : List ℕ) (space outputRoom budget : ℕ) → runOf text input space outputRoom budget .machine .highest ≤ mostUnfinished
+unfolding runOf
+run-few text input space outputRoom budget =
+    let m = fresh input space outputRoom in
+    let s = fresh-sound input space outputRoom in
+    by-test (ltb 16384 space) (λ e. rw e (s .few)) λ e. rw e
+    (loaded-few (loadOf text) m _ (s .few) (running-few budget text (entering m (linesOf text)) (entering-fine m (linesOf text) s)))
+
+pub few-unfinished : fewUnfinished
+few-unfinished text input space outputRoom budget =
+    let h = run-few text input space outputRoom budget in
+    record { allowed = omega arith; most = h }
+
+pub most-is-reached : mostIsReached
+most-is-reached n h = rw nested-highest at (h (bytes nested) [] 1000 1000 1000)

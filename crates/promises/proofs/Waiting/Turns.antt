@@ -1,0 +1,228 @@
+-- No statement has more than 28 unfinished strings, and wherever the run goes on, only formulas that were let through stand.
+use mathlib.Core.Bool.{Bool, true, false, cond}
+use mathlib.Core.List.{List, [], _∷_}
+use Prim.Native.Nat.{ℕ, _+_, _-_, _≤_}
+use native.Mathlib.Omega.{arith}
+use lib.Dec.{ltb, leb, eqb}
+use lib.ListN.{length}
+use Rattle.whole.specs.Whole.{applied}
+use Rattle.whole.specs.declared.arithmetic.Answer.{Answer}
+use Rattle.whole.specs.declared.arithmetic.Answer.the-variants.{Whole, Fault}
+use Rattle.whole.specs.declared.arithmetic.Operator.the-variants.{Add}
+use Rattle.words.specs.Names.{alike}
+use Rattle.words.specs.declared.names.Kind.{Kind}
+use Rattle.words.specs.declared.names.Kind.the-variants as kind
+use Rattle.words.specs.declared.names.Telling.{Telling}
+use Rattle.words.proofs.Choices.{by-test}
+use Rattle.loader.specs.Lines.{Line, linesOf, fromNumber}
+use Rattle.grammar.specs.Trees as tree
+use Rattle.grammar.specs.Trees.{Formula, Variable, Item, Statement}
+use Rattle.statements.specs.Parts.{itemFormulas, formulasOf, statementsOf, withinIf}
+use Rattle.variables.specs.Strings.{Value, whole, text, Room, Outcome, value, fault, make}
+use Rattle.variables.specs.Variables.{wordOf, numbersFull, stringsFull}
+use Rattle.operators.specs.Values.{valueOf}
+use Rattle.machine.specs.Machine.{Rest, nothing, part, Position, Record, loop, call, Machine, mostRecords, roomOf, withRecords, withInput, noting, write, commaBlanks, Search, missing, found, sought, below, passed}
+use Rattle.turns.specs.Steps.{Next, goesOn, enters, ends, stops, fails, worked, wholeOnly, workedWhole, withNumber, assigned, written, shownValue, printItems, toLine, pushed, returned, turned, nextOn, takeLine, filled, inputLine, isWholeKind, doStatement}
+use Rattle.control.specs.Answers.{loopsFrom}
+use Rattle.promises.specs.Unfinished.{mostUnfinished}
+use Rattle.promises.proofs.Waiting.Rooms.{Good, make-good}
+use Rattle.promises.proofs.Waiting.Needs.{value-good}
+use Rattle.promises.proofs.Waiting.Nesting.{Fine, needs-few}
+use Rattle.promises.proofs.Waiting.Reading.{Each, Every, every-split, PartFine}
+
+-- ---- what the machine holds
+
+abbrev pub RestFine : Rest → Type 0
+RestFine nothing = Unit {0}
+RestFine (part p) = PartFine p
+
+abbrev RecordFine : Record → Type 0
+RecordFine (loop v limit step back) = RestFine (back .rest)
+RecordFine (call back) = RestFine (back .rest)
+
+abbrev RecordsFine : List Record → Type 0
+RecordsFine [] = Unit {0}
+RecordsFine (r ∷ rs) = RecordFine r × RecordsFine rs
+
+pub record Sound (m : Machine) : Type 0 where
+  pub few : m .highest ≤ mostUnfinished
+  pub held : RecordsFine (m .records)
+
+abbrev pub NextFine : Next → Type 0
+NextFine (goesOn m p) = Sound m × RestFine (p .rest)
+NextFine (enters m lines) = Sound m
+NextFine (ends m) = Sound m
+NextFine (stops m) = Sound m
+NextFine (fails e m) = Sound m
+
+-- ---- working out
+
+noting-sound : {m : Machine} (room : Room) → Sound m → room .highest ≤ mostUnfinished → Sound (noting m room)
+noting-sound room s h = record { few = h; held = s .held }
+
+worked-sound : {m : Machine} (x : Outcome) (go : Value → Machine → Next) → Sound m → Good mostUnfinished (roomOf m) x
+    → ((v : Value) (n : Machine) → Sound n → NextFine (go v n)) → NextFine (worked m x go)
+worked-sound (value v room) go s h k = k v _ (noting-sound room s (h .low))
+worked-sound (fault e room) go s h k = noting-sound room s h
+
+formula-good : {f : Formula} {m : Machine} → Fine f → Sound m → Good mostUnfinished (roomOf m) (valueOf f (m .variables) (roomOf m))
+formula-good {f} {m} g s = value-good mostUnfinished f (m .variables) (roomOf m) (s .few) (omega (arith, needs-few g))
+
+formula-sound : {f : Formula} (m : Machine) (go : Value → Machine → Next) → Fine f → Sound m
+    → ((v : Value) (n : Machine) → Sound n → NextFine (go v n)) → NextFine (worked m (valueOf f (m .variables) (roomOf m)) go)
+formula-sound {f} m go g s k = worked-sound (valueOf f (m .variables) (roomOf m)) go s (formula-good g s) k
+
+whole-sound : {f : Formula} (m : Machine) (go : ℕ → Machine → Next) → Fine f → Sound m
+    → ((w : ℕ) (n : Machine) → Sound n → NextFine (go w n)) → NextFine (workedWhole f m go)
+whole-sound m go g s k = formula-sound m _ g s by-value
+  where
+    by-value : (v : Value) (n : Machine) → Sound n → NextFine (wholeOnly v n (λ w. go w n))
+    by-value (whole w) n t = k w n t
+    by-value (text b) n t = t
+
+-- ---- assignment
+
+-- a test decides between an error and what comes next
+either-fine : (t : Bool) (x y : Next) → NextFine x → NextFine y → NextFine (cond t x y)
+either-fine true x y h k = h
+either-fine false x y h k = k
+
+assigned-sound : (k : Kind) (name : Telling) (v : Value) {m : Machine} (after : Position) → Sound m → RestFine (after .rest)
+    → NextFine (assigned k name v m (λ o. goesOn o after))
+assigned-sound kind.Whole name (whole w) {m} after s h =
+    either-fine (numbersFull (m .variables .numbers) name) _ _ s (record { few = s .few; held = s .held }, h)
+assigned-sound kind.Whole name (text b) after s h = s
+assigned-sound kind.Text name (whole w) after s h = s
+assigned-sound kind.Text name (text b) {m} after s h =
+    either-fine (stringsFull (m .variables .strings) name) _ _ s (record { few = s .few; held = s .held }, h)
+
+-- ---- PRINT
+
+written-sound : (m : Machine) (b : List ℕ) (go : Machine → Next) → Sound m → ((n : Machine) → Sound n → NextFine (go n))
+    → NextFine (written m b go)
+unfolding write
+written-sound m b go s k =
+    by-test (ltb (m .outputRoom) (length (m .output) + length b))
+    (λ e. rw e s)
+    (λ e. rw e (k _ (record { few = s .few; held = s .held })))
+
+print-sound : (quiet : Bool) (is : List Item) (m : Machine) (go : Machine → Next) → Each Fine (itemFormulas is) → Sound m
+    → ((n : Machine) → Sound n → NextFine (go n)) → NextFine (printItems quiet is m go)
+unfolding printItems
+print-sound quiet [] m go g s k = either-fine quiet _ _ (k m s) (written-sound m (13 ∷ 10 ∷ []) go s k)
+print-sound quiet (tree.comma ∷ is) m go g s k =
+    written-sound m (commaBlanks m) _ s (λ n t. print-sound true is n go g t k)
+print-sound quiet (tree.semicolon ∷ is) m go g s k = print-sound true is m go g s k
+print-sound quiet (tree.shown f ∷ is) m go g s k =
+    formula-sound m _ (g .0) s (λ v n t. written-sound n (shownValue v) _ t (λ o u. print-sound false is o go (g .1) u k))
+
+-- ---- jumps and records
+
+line-sound : {m : Machine} (lines : List Line) (go : List Line → Next) → Sound m → ((ls : List Line) → NextFine (go ls))
+    → NextFine (toLine m lines go)
+line-sound [] go s k = s
+line-sound (l ∷ ls) go s k = k (l ∷ ls)
+
+pushed-sound : {m : Machine} (r : Record) (go : Machine → Next) → Sound m → RecordFine r → ((n : Machine) → Sound n → NextFine (go n))
+    → NextFine (pushed m r go)
+pushed-sound {m} r go s h k =
+    either-fine (leb mostRecords (length (m .records))) _ _ s (k _ (record { few = s .few; held = (h, s .held) }))
+
+returned-sound : (rs : List Record) {m : Machine} → RecordsFine rs → Sound m → NextFine (returned rs m)
+unfolding returned
+returned-sound [] h s = s
+returned-sound (loop v limit step back ∷ rs) h s = returned-sound rs (h .1) s
+returned-sound (call back ∷ rs) h s = (record { few = s .few; held = h .1 }, h .0)
+
+abbrev SearchFine : Search → Type 0
+SearchFine missing = Unit {0}
+SearchFine (found limit step back v under) = RestFine (back .rest) × RecordsFine under
+
+sought-fine : (test : Telling → Bool) (rs : List Record) → RecordsFine rs → SearchFine (sought test rs)
+unfolding sought
+sought-fine test [] h = tt
+sought-fine test (call back ∷ rs) h = tt
+sought-fine test (loop v limit step back ∷ rs) h = by-test (test v) (λ e. rw e h) (λ e. rw e (sought-fine test rs (h .1)))
+
+below-fine : (rs : List Record) (x : Search) → RecordsFine rs → SearchFine x → RecordsFine (below rs x)
+below-fine rs missing h k = h
+below-fine rs (found limit step back v under) h k = k .1
+
+turned-sound : {m : Machine} (v : Telling) (limit step : ℕ) (back : Position) (under : List Record) (after : Position) (x : Answer)
+    → Sound m → RestFine (back .rest) → RecordsFine under → RestFine (after .rest)
+    → NextFine (turned m v limit step back under after x)
+turned-sound {m} v limit step back under after (Whole w) s b u a =
+    either-fine (numbersFull (m .variables .numbers) v) _ _ s
+    (either-fine (passed w limit step) _ _ (record { few = s .few; held = u }, a) (record { few = s .few; held = (b, u) }, b))
+turned-sound v limit step back under after (Fault e) s b u a = s
+
+next-sound : {m : Machine} (x : Search) (after : Position) → Sound m → SearchFine x → RestFine (after .rest) → NextFine (nextOn m x after)
+next-sound missing after s h a = s
+next-sound {m} (found limit step back v under) after s h a =
+    turned-sound v limit step back under after (applied Add (wordOf (m .variables .numbers) v) step) s (h .0) (h .1) a
+
+loop-sound : (m : Machine) (v : Telling) (from limit step : ℕ) (after : Position) → Sound m → RestFine (after .rest)
+    → NextFine (loopsFrom v after from limit step m)
+loop-sound m v from limit step after s a =
+    let q = withNumber m v from in
+    let x = sought (λ u. alike u v) (q .records) in
+    let clear : Sound (withRecords q (below (q .records) x)) =
+    record { few = s .few; held = below-fine (q .records) x (s .held) (sought-fine (λ u. alike u v) (m .records) (s .held)) } in
+    either-fine (numbersFull (m .variables .numbers) v) _ _ s
+    (pushed-sound (loop v limit step after) (λ r. goesOn r after) clear a (λ r t. (t, a)))
+
+-- ---- LINE INPUT
+
+filled-sound : (k : Kind) (name : Telling) (b : List ℕ) {m : Machine} (after : Position) → Sound m → RestFine (after .rest)
+    → NextFine (filled k name b m (λ o. goesOn o after))
+filled-sound kind.Whole name b after s h = s
+filled-sound kind.Text name b after s h = assigned-sound kind.Text name (text b) after s h
+
+input-sound : (input : List ℕ) (m : Machine) (v : Variable) (after : Position) → Sound m → RestFine (after .rest)
+    → NextFine (inputLine input m v (λ o. goesOn o after))
+input-sound [] m v after s h = s
+input-sound (b ∷ rest) m v after s h =
+    let t = takeLine (b ∷ rest) in
+    let n = withInput m (t .left) (m .taken + (length (m .input) - length (t .left))) in
+    let i : Sound n = record { few = s .few; held = s .held } in
+    either-fine (ltb 254 (length (t .bytes))) _ _ s
+    (worked-sound (make (t .bytes) (roomOf n)) _ i
+    (make-good mostUnfinished (t .bytes) (roomOf n) (s .few) (omega arith))
+    (λ x o u. filled-sound (v .kind) (v .telling) (t .bytes) after u h))
+
+-- ---- all statements
+
+pub statement-sound : (program : List ℕ) (x : Statement) (m : Machine) (after : Position) → Each Fine (formulasOf x)
+    → Every Fine (withinIf x) → Sound m → RestFine (after .rest) → NextFine (doStatement program x m after)
+unfolding withinIf
+statement-sound program tree.empty m after g p s a = (s, a)
+statement-sound program (tree.assign v f) m after g p s a =
+    formula-sound m _ (g .0) s (λ x n t. assigned-sound (v .kind) (v .telling) x after t a)
+statement-sound program (tree.print is) m after g p s a = print-sound false is m _ g s (λ n t. (t, a))
+statement-sound program (tree.ifThen c q) m after g p s a =
+    whole-sound m _ (g .0) s (λ w n t. either-fine (eqb w 0) _ _ (t, tt) (t, p))
+statement-sound program (tree.ifElse c q r) m after g p s a =
+    let h = every-split Fine (statementsOf q) (statementsOf r) p in
+    whole-sound m _ (g .0) s (λ w n t. by-test (eqb w 0) (λ e. rw e (t, h .1)) (λ e. rw e (t, h .0)))
+statement-sound program (tree.goto l) m after g p s a = line-sound (fromNumber (l .0) (linesOf program)) _ s (λ ls. s)
+statement-sound program (tree.gosub l) m after g p s a =
+    line-sound (fromNumber (l .0) (linesOf program)) _ s (λ ls. pushed-sound (call after) (λ n. enters n ls) s a (λ n t. t))
+statement-sound program tree.return m after g p s a = returned-sound (m .records) (s .held) s
+statement-sound program (tree.for v from to by) m after g p s a =
+    either-fine (isWholeKind (v .kind)) _ _
+    (whole-sound m _ (g .0) s (λ x n t.
+    whole-sound n _ (g .1 .0) t (λ y o u.
+    whole-sound o _ (g .1 .1 .0) u (λ z q w. loop-sound q (v .telling) x y z after w a))))
+    s
+statement-sound program tree.next m after g p s a =
+    next-sound (sought (λ u. true) (m .records)) after s (sought-fine (λ u. true) (m .records) (s .held)) a
+statement-sound program (tree.nextOf v) m after g p s a =
+    either-fine (isWholeKind (v .kind)) _ _
+    (next-sound (sought (λ u. alike u (v .telling)) (m .records)) after s
+    (sought-fine (λ u. alike u (v .telling)) (m .records) (s .held)) a)
+    s
+statement-sound program (tree.lineInput t v) m after g p s a =
+    written-sound m t _ s (λ n i. input-sound (n .input) n v after i a)
+statement-sound program tree.end m after g p s a = s
+statement-sound program tree.stop m after g p s a = s
+statement-sound program tree.remark m after g p s a = (s, a)

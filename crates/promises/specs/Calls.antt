@@ -1,0 +1,98 @@
+-- A call of a public function of the code and what came of it, as the function's contract allows. `Post` is made by the toolchain from
+-- the `ensures` in the source, and is what it proves of the code: a call of a function without `requires` ends and meets it, whatever is
+-- passed. So what holds of all such calls holds of the code.
+use mathlib.Core.Path.{_≡_}
+use mathlib.Core.List.{List}
+use Prim.Native.Nat.{ℕ}
+use contract.Lifetimes.{Lfts}
+use denote.Triple.Clauses.{Lasts, atExit}
+use borrow.Fn.Kind.{PK, RK}
+use borrow.Fn.Kinds.{In, Out, Dens, resT, endedOf}
+use Rattle.variables.specs.declared.tables.Tables.{Tables}
+use Rattle.checker.proofs as checker
+use Rattle.runner.proofs as runner
+
+-- what is passed, what is answered, and what each `&mut` that was lent holds then
+pub record Call {n : ℕ} (parameters : List (PK n)) (result : RK n) (Post : Out n parameters result) : Type 0 where
+  pub lifetimes : Lfts n
+  pub passed : Dens lifetimes parameters
+  pub answer : resT result lifetimes .Denot
+  pub left : Lasts (endedOf n parameters result) lifetimes passed
+  pub allowed : Post lifetimes passed answer (atExit (endedOf n parameters result) lifetimes passed left)
+
+-- whatever is passed, there is an answer that the contract allows
+abbrev pub Always : {n : ℕ} (parameters : List (PK n)) (result : RK n) → Out n parameters result → Type 0
+Always {n} parameters result Post =
+    (lifetimes : Lfts n) (passed : Dens lifetimes parameters)
+    → (answer : resT result lifetimes .Denot) × (left : Lasts (endedOf n parameters result) lifetimes passed)
+    × Post lifetimes passed answer (atExit (endedOf n parameters result) lifetimes passed left)
+
+-- two answers that a contract allows to one call are equal, and so is what the lent memory holds after them
+abbrev pub Unique : {n : ℕ} (parameters : List (PK n)) (result : RK n) → In n parameters → Out n parameters result → Type 0
+Unique {n} parameters result Pre Post =
+    (lifetimes : Lfts n) (passed : Dens lifetimes parameters) → Pre lifetimes passed
+    → (answer answer′ : resT result lifetimes .Denot) (left left′ : Lasts (endedOf n parameters result) lifetimes passed)
+    → Post lifetimes passed answer (atExit (endedOf n parameters result) lifetimes passed left)
+    → Post lifetimes passed answer′ (atExit (endedOf n parameters result) lifetimes passed left′)
+    → (answer ≡ answer′) × (left ≡ left′)
+
+-- ---- `run(text, input, space, room, budget, tables)`
+
+abbrev pub RunCall : Type 0
+RunCall = Call runner.run.Kinds.ps runner.run.Kinds.r runner.run.Reads.Post
+
+abbrev pub runsAlways : Type 0
+runsAlways = Always runner.run.Kinds.ps runner.run.Kinds.r runner.run.Reads.Post
+
+abbrev pub textOf : RunCall → List ℕ
+textOf c = c .passed .0 .now
+
+abbrev pub inputOf : RunCall → List ℕ
+inputOf c = c .passed .1 .0 .now
+
+-- the string space and the room for output, as they were lent and as they are left
+abbrev pub spaceBefore : RunCall → List ℕ
+spaceBefore c = c .passed .1 .1 .0 .now
+
+abbrev pub spaceAfter : RunCall → List ℕ
+spaceAfter c = c .left .1 .1 .0
+
+abbrev pub roomBefore : RunCall → List ℕ
+roomBefore c = c .passed .1 .1 .1 .0 .now
+
+abbrev pub roomAfter : RunCall → List ℕ
+roomAfter c = c .left .1 .1 .1 .0
+
+abbrev pub budgetOf : RunCall → ℕ
+budgetOf c = c .passed .1 .1 .1 .1 .0
+
+abbrev pub tablesBefore : RunCall → Tables
+tablesBefore c = c .passed .1 .1 .1 .1 .1 .0
+
+-- ---- `check_recipe(text)`
+
+abbrev pub CheckCall : Type 0
+CheckCall = Call checker.check_recipe.Kinds.ps checker.check_recipe.Kinds.r checker.check_recipe.Reads.Post
+
+abbrev pub checksAlways : Type 0
+checksAlways = Always checker.check_recipe.Kinds.ps checker.check_recipe.Kinds.r checker.check_recipe.Reads.Post
+
+abbrev pub recipeOf : CheckCall → List ℕ
+recipeOf c = c .passed .0 .now
+
+-- ---- `ask(tables, space, name)`
+
+abbrev pub AskCall : Type 0
+AskCall = Call runner.ask.Kinds.ps runner.ask.Kinds.r runner.ask.Reads.Post
+
+abbrev pub asksAlways : Type 0
+asksAlways = Always runner.ask.Kinds.ps runner.ask.Kinds.r runner.ask.Reads.Post
+
+abbrev pub tablesHanded : AskCall → Tables
+tablesHanded c = c .passed .0
+
+abbrev pub spaceHanded : AskCall → List ℕ
+spaceHanded c = c .passed .1 .0 .now
+
+abbrev pub nameAsked : AskCall → List ℕ
+nameAsked c = c .passed .1 .1 .0 .now

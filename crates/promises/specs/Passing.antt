@@ -1,0 +1,109 @@
+-- Demand 3, its first half: what the check promises of every run of a recipe that it has passed.
+use mathlib.Core.Path.{_≡_}
+use mathlib.Core.Bool.{Bool, true, false, not}
+use mathlib.Core.List.{List}
+use Prim.Native.Nat.{ℕ, zero, suc}
+use lib.Dec.{eqb}
+use Rattle.whole.specs.Errors.{numberOf}
+use Rattle.whole.specs.declared.errors.Error.{Error}
+use Rattle.whole.specs.declared.errors.Error.the-variants.{
+  NextWithoutFor,
+  Syntax,
+  ReturnWithoutGosub,
+  IllegalFunctionCall,
+  Overflow,
+  OutOfMemory,
+  UndefinedLine,
+  DivisionByZero,
+  TypeMismatch,
+  OutOfStringSpace,
+  StringTooLong,
+  FormulaTooComplex,
+  LineBufferOverflow,
+  InputPastEnd,
+  OutputFull,
+}
+use Rattle.checker.specs.Check.{checkOf}
+use Rattle.checker.specs.declared.checking.Verdict.the-variants.{Passed}
+use Rattle.loader.specs.Lines.{Line, linesOf}
+use Rattle.grammar.specs.Trees as tree
+use Rattle.grammar.specs.Trees.{Statement, Part}
+use Rattle.machine.specs.Machine.{Machine, fresh, withStep}
+use Rattle.turns.specs.Steps.{Next, goesOn, enters, ends, stops, fails, headOf, tailOf, doStatement}
+use Rattle.runner.specs.Run.{Standing, finished, at, entering, turn, runOf}
+use Rattle.runner.specs.declared.running.Outcome.{Outcome}
+use Rattle.runner.specs.declared.running.Outcome.the-variants.{Ended, Stopped, Out, Failed, Refused}
+
+-- the errors that the check looks for, and so spares a run: 2, 8, 13 and 16
+abbrev pub spared : Error → Bool
+spared NextWithoutFor = false
+spared Syntax = true
+spared ReturnWithoutGosub = false
+spared IllegalFunctionCall = false
+spared Overflow = false
+spared OutOfMemory = false
+spared UndefinedLine = true
+spared DivisionByZero = false
+spared TypeMismatch = true
+spared OutOfStringSpace = false
+spared StringTooLong = false
+spared FormulaTooComplex = true
+spared LineBufferOverflow = false
+spared InputPastEnd = false
+spared OutputFull = false
+
+-- a run ends well unless it ends in one of these
+abbrev pub endsWell : Outcome → Bool
+endsWell Ended = true
+endsWell (Stopped l) = true
+endsWell (Out l) = true
+endsWell (Failed e l) = not (spared e)
+endsWell (Refused r p) = true
+
+-- A recipe that the check has passed never ends in 2, 8, 13 or 16: with any input, string space, room for output and budget of steps.
+-- It says nothing of the other errors (a division by zero, a string space that is full), which no check can foresee, and nothing of
+-- recipes that the check has not passed.
+abbrev pub checkedRunsEndWell : Type 0
+checkedRunsEndWell =
+    (text input : List ℕ) (space room budget : ℕ) → checkOf text ≡ Passed → endsWell (runOf text input space room budget .ending) ≡ true
+
+-- ---- NEXT always has room for its variable
+
+-- where a run stands after so many statements, if it has not ended before
+unfoldable pub standsAfter : ℕ → List ℕ → Standing → Standing
+standsAfter zero program s = s
+standsAfter (suc n) program (finished r) = finished r
+standsAfter (suc n) program (at m lines p) = standsAfter n program (turn program m lines p)
+
+abbrev pub isNext : Statement → Bool
+isNext tree.empty = false
+isNext (tree.assign v f) = false
+isNext (tree.print is) = false
+isNext (tree.ifThen c p) = false
+isNext (tree.ifElse c p q) = false
+isNext (tree.goto l) = false
+isNext (tree.gosub l) = false
+isNext tree.return = false
+isNext (tree.for v from to by) = false
+isNext tree.next = true
+isNext (tree.nextOf v) = true
+isNext (tree.lineInput t v) = false
+isNext tree.end = false
+isNext tree.stop = false
+isNext tree.remark = false
+
+-- a statement ends the run in 7
+abbrev pub lacksRoom : Next → Bool
+lacksRoom (goesOn m p) = false
+lacksRoom (enters m lines) = false
+lacksRoom (ends m) = false
+lacksRoom (stops m) = false
+lacksRoom (fails e m) = eqb (numberOf e) 7
+
+-- NEXT stores its variable as an assignment does, and yet never ends in 7: wherever a run of any recipe comes to a NEXT, the FOR of
+-- the loop that it takes has made the variable. It says nothing of the other errors of a NEXT (1, 6, 13).
+abbrev pub nextHasRoom : Type 0
+nextHasRoom =
+    (text input : List ℕ) (space room statements : ℕ) (m : Machine) (lines : List Line) (p : Part)
+    → standsAfter statements text (entering (fresh input space room) (linesOf text)) ≡ at m lines p → isNext (headOf p) ≡ true
+    → lacksRoom (doStatement text (headOf p) (withStep m) (record { lines = lines; rest = tailOf p })) ≡ false
