@@ -1,0 +1,31 @@
+-- A word that was put into an empty text, two fields and an end are a line (`line-put`).
+use mathlib.Core.Path.{_≡_, sym, ap, _∙_}
+use mathlib.Core.List.{[], _∷_}
+use native.Mathlib.Omega.{arith}
+use borrow.Author.Needs.{needs}
+use Rattle.whole.specs.Bytes.{bytes}
+use Rattle.whole.specs.Texts.{held, withByte}
+use Rattle.console.specs.Lines.{withBytes}
+use Rattle.console.proofs.Writing.{line-put}
+use Rattle.check_recipe.proofs.verdicts.refused.Statement.{statement}
+use Rattle.check_recipe.proofs.verdicts.refused.Tie as tie
+
+returns : tie.Need-returns
+unfolding bytes
+returns c =
+    let f = c .before .before in
+    let p = f .before .before .before .before .args in
+    rw (c .end-line .ensures, c .before .put-field2 .ensures, f .put-field .ensures, f .before .put-bytes .ensures, f .before .before .before .empty .ensures)
+    (line-put (bytes "refused") (p .number ∷ p .standing ∷ []) (omega arith))
+
+pub refused-spec : {M : Type 1} → statement M
+refused-spec =
+    tie.close
+    (tie.spec
+    (λ c κs. search needs)
+    (λ c. search needs)
+    (λ c κs. search needs)
+    (λ c κs. search needs)
+    (λ c κs. search needs)
+    (λ c κs. search needs)
+    returns)

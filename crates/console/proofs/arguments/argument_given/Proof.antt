@@ -1,0 +1,24 @@
+-- A number that is given is within its limit.
+use mathlib.Core.Path.{sym}
+use borrow.Author.Needs.{needs}
+use Rattle.console.specs.Arguments.{Limited}
+use Rattle.console.proofs.Values.{given-limited}
+use Rattle.console.proofs.arguments.argument_given.Statement.{statement}
+use Rattle.console.proofs.arguments.argument_given.Tie as tie
+
+returns-2 : tie.Need-returns-2
+returns-2 c = rw (c .number-given .ensures) (given-limited _ _)
+
+pub argument-given-spec : {M : Type 1} → statement M
+argument-given-spec =
+    tie.close
+    (tie.spec
+    (λ c κs. search needs)
+    (λ c. search needs)
+    (λ c κs. search needs)
+    (λ c κs. search needs)
+    (λ c. search needs)
+    (λ c. search needs)
+    (λ c. search needs)
+    (λ c κs. search needs)
+    returns-2)

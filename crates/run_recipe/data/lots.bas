@@ -1,0 +1,4 @@
+10 A$="LOT "
+20 FOR I=1 TO 2
+30 PRINT A$;I
+40 NEXT I

@@ -1,0 +1,25 @@
+-- What the runner answers is what is told (`tells`).
+use borrow.Author.Needs.{needs}
+use lib.ListN.{length}
+use Rattle.runner.specs.Run.{runOf}
+use Rattle.run_recipe.proofs.Answering.{tells}
+use Rattle.run_recipe.proofs.answers.answer_of.Statement.{statement}
+use Rattle.run_recipe.proofs.answers.answer_of.Tie as tie
+
+returns : tie.Need-returns
+returns c =
+    let r = c .before .before .before .before .before in
+    let p = r .before .before .before .before .before .before .before .before .args in
+    tells (runOf (p .text .now) (p .input .now) (length (p .space .now)) (length (p .room .now)) (p .budget)) _ (p .room .now) _ _ _
+    (r .run .ensures .0) (r .run .ensures .1 .1) (c .line-of .ensures)
+
+pub answer-of-spec : {M : Type 1} → statement M
+answer-of-spec =
+    tie.close
+    (tie.spec
+    (λ c κs. search needs)
+    (λ c κs. search needs)
+    (λ c κs. search needs)
+    (λ c. search needs)
+    (λ c. search needs)
+    returns)
