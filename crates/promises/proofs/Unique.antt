@@ -16,6 +16,7 @@ pub mod Operators
 pub mod Machine
 pub mod Turns
 pub mod Runner
+pub mod Host
 pub mod Promises
 
 -- what two answers are both said to be

@@ -1,0 +1,74 @@
+-- What a run leaves of a block of tables.
+use mathlib.Core.Path.{_≡_, refl, sym, ap, _∙_}
+use mathlib.Core.Bool.{true, false}
+use mathlib.Core.List.{List, [], _∷_, _++_, map}
+use Prim.Native.Nat.{ℕ, _+_, _-_, _*_, _<_}
+use native.Mathlib.Omega.{arith}
+use lib.ListN.{length, replicate, length-append, length-replicate, length-map}
+use Rattle.words.specs.declared.names.Telling.{Telling}
+use Rattle.variables.specs.Memory.{nameBytes, numbersTable, stringsTable}
+use Rattle.variables.specs.Variables.{NumberVariable, StringVariable}
+use Rattle.variables.specs.declared.tables.Tables.{Tables}
+use Rattle.runner.specs.Run.{Ran, isRefused, tablesOf, answerOf, spaceAfter, roomAfter}
+use Rattle.runner.specs.declared.running.Ran as code
+use Rattle.host.specs.Answers.{answerIn}
+use Rattle.host.specs.Blocks.{tablesIn, blockOf, Held}
+use Rattle.host.specs.Calls.{HasRun}
+use Rattle.host.proofs.RoundTrip.{round-trip}
+
+-- ---- there are at most 64 names in 128 bytes
+
+name-bytes-length : (names : List Telling) → length (nameBytes names) ≡ 2 * length names
+unfolding nameBytes
+name-bytes-length [] = refl
+name-bytes-length (n ∷ ns) = let e = name-bytes-length ns in omega arith
+
+few-names : (names : List Telling) → length (nameBytes names ++ replicate (128 - 2 * length names) 0) ≡ 128 → length names < 256
+few-names names e =
+    let zeros : List ℕ = replicate (128 - 2 * length names) 0 in
+    omega (arith, sym (length-append (nameBytes names) zeros) ∙ e, name-bytes-length names)
+
+few-numbers : (vs : List NumberVariable) → length (numbersTable vs .names) ≡ 128 → length vs < 256
+few-numbers vs e =
+    let k : length (map (λ v. v .name) vs) ≡ length vs = length-map vs (λ v. v .name) in
+    omega (arith, k, few-names (map (λ v. v .name) vs) (rw k e))
+
+few-strings : (vs : List StringVariable) → length (stringsTable vs .names) ≡ 128 → length vs < 256
+few-strings vs e =
+    let k : length (map (λ v. v .name) vs) ≡ length vs = length-map vs (λ v. v .name) in
+    omega (arith, k, few-names (map (λ v. v .name) vs) (rw k e))
+
+-- ---- a run
+
+module _ (ran : Ran) (answer : code.Ran) (given : Tables) (is : answer ≡ answerOf ran given)
+    (space room block space′ room′ words : List ℕ) (spaced : space′ ≡ spaceAfter ran space) (roomy : room′ ≡ roomAfter ran room)
+    (answered : words ≡ answerIn answer) where
+  -- that was refused leaves the block
+  pub refused-run : isRefused (answer .outcome) ≡ true → HasRun ran space room block space′ room′ block words
+  refused-run e =
+      let b : isRefused (ran .ending) ≡ true = rw is at e in
+      record { answered = answered ∙ ap answerIn is; spaced = spaced; roomy = roomy; kept = rw b; meant = rw b }
+
+  -- and any other leaves its tables in it
+  pub finished-run : (block′ : List ℕ) → isRefused (answer .outcome) ≡ false → block′ ≡ blockOf (answer .tables)
+      → length (answer .tables .numbers .names) ≡ 128 → length (answer .tables .numbers .words) ≡ 64
+      → length (answer .tables .strings .names) ≡ 128 → length (answer .tables .strings .lengths) ≡ 64
+      → HasRun ran space room block space′ room′ block′ words
+  finished-run block′ e k numbers numberWords strings lengths =
+      let b : isRefused (ran .ending) ≡ false = rw is at e in
+      let t : answer .tables ≡ tablesOf (ran .machine .variables) = ap (λ a. a .tables) is ∙ rw b in
+      let held : Held (answer .tables) = record {
+        numberNames = numbers;
+        words = numberWords;
+        fewNumbers = rw t (few-numbers (ran .machine .variables .numbers) (rw t at numbers));
+        stringNames = strings;
+        lengths = lengths;
+        fewStrings = rw t (few-strings (ran .machine .variables .strings) (rw t at strings));
+      } in
+      record {
+        answered = answered ∙ ap answerIn is;
+        spaced = spaced;
+        roomy = roomy;
+        kept = rw b (k ∙ ap blockOf t);
+        meant = rw b (ap tablesIn k ∙ round-trip (answer .tables) held ∙ t);
+      }

@@ -1,0 +1,25 @@
+-- The part of the block is copied over as many zeros.
+use mathlib.Core.Path.{_≡_, ap, _∙_}
+use Prim.Native.Nat.{_+_, _-_, _≤_}
+use native.Mathlib.Omega.{arith}
+use borrow.Author.Needs.{needs}
+use Rattle.host.proofs.Parts.{part-copied}
+use Rattle.host.proofs.blocks.lengths_at.Statement.{statement}
+use Rattle.host.proofs.blocks.lengths_at.Tie as tie
+
+returns : tie.Need-returns
+returns c =
+    let s = c .before .before .before .before .before in
+    c .before .copy-in .ensures ∙ part-copied (s .args .block .now) (s .args .from) 64 (s .pre)
+
+pub lengths-at-spec : {M : Type 1} → statement M
+lengths-at-spec =
+    tie.close
+    (tie.spec
+    (λ c. search needs)
+    (λ c. search needs)
+    (λ c. search needs)
+    (λ c. search needs)
+    (λ c. search needs)
+    (λ c κs. search needs)
+    returns)

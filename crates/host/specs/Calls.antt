@@ -1,0 +1,16 @@
+-- What a host has after a call.
+use mathlib.Core.Path.{_≡_}
+use mathlib.Core.List.{List}
+use Prim.Native.Nat.{ℕ}
+use Rattle.runner.specs.Run.{Ran, answerOf, spaceAfter, roomAfter}
+use Rattle.host.specs.Answers.{answerIn}
+use Rattle.host.specs.Blocks.{tablesIn, blockAfter}
+
+-- After a run, whatever it began with and to the last byte: the answer, the string space, the room for output and the block of tables. The
+-- block then means the tables that a run hands back to whoever hands it those that the block meant before.
+pub record HasRun (ran : Ran) (space room block space′ room′ block′ answer : List ℕ) : Type 0 where
+  pub answered : answer ≡ answerIn (answerOf ran (tablesIn block))
+  pub spaced : space′ ≡ spaceAfter ran space
+  pub roomy : room′ ≡ roomAfter ran room
+  pub kept : block′ ≡ blockAfter ran block
+  pub meant : tablesIn block′ ≡ answerOf ran (tablesIn block) .tables

@@ -1,0 +1,106 @@
+/* Measures how much stack a call uses, over lines that nest as deep as a line can and over stored cases.
+ *
+ * usage: stack <CASES
+ *
+ * Each call is made on a stack of its own, painted before it. Says the most that a call of each function used, and fails where that is
+ * not below QUERNHEM_STACK. */
+#define _DEFAULT_SOURCE
+#include "trials.h"
+
+#include <string.h>
+#include <ucontext.h>
+
+enum { STACK_WORDS = 2 * QUERNHEM_STACK / 8, LONGEST_LINE = 255, SHOWN = 20, BUDGET = 1000 };
+
+static const uint64_t paint = 0xA5A5A5A5A5A5A5A5;
+
+static uint64_t stack[STACK_WORDS], answer[QUERNHEM_ANSWER], verdict[QUERNHEM_VERDICT], found[QUERNHEM_FOUND];
+static uint8_t space[QUERNHEM_SPACE], room[QUERNHEM_SPACE], tables[QUERNHEM_TABLES];
+static const uint8_t *text, *input;
+static size_t text_len, input_len;
+
+static void run(void) { quernhem_run(text, text_len, input, input_len, space, sizeof space, room, sizeof room, BUDGET, tables, answer); }
+static void check(void) { quernhem_check(text, text_len, verdict); }
+static void ask(void) { quernhem_ask(tables, space, sizeof space, (const uint8_t *)"LOT$", 4, found); }
+
+static struct {
+    const char *name;
+    void (*call)(void);
+    size_t most;
+    char line[SHOWN + 1];
+} calls[] = {{.name = "quernhem_run", .call = run}, {.name = "quernhem_check", .call = check}, {.name = "quernhem_ask", .call = ask}};
+
+static size_t used_by(void (*call)(void)) {
+    ucontext_t here, there;
+    size_t low = 0;
+    for (size_t i = 0; i < STACK_WORDS; i++) stack[i] = paint;
+    getcontext(&there);
+    there.uc_stack.ss_sp = stack;
+    there.uc_stack.ss_size = sizeof stack;
+    there.uc_link = &here;
+    makecontext(&there, call, 0);
+    swapcontext(&here, &there);
+    while (low < STACK_WORDS && stack[low] == paint) low++;
+    return sizeof stack - 8 * low;
+}
+
+static void measure(void) {
+    for (size_t i = 0; i < sizeof calls / sizeof *calls; i++) {
+        size_t used = used_by(calls[i].call);
+        if (used <= calls[i].most) continue;
+        calls[i].most = used;
+        memset(calls[i].line, 0, sizeof calls[i].line);
+        memcpy(calls[i].line, text, text_len < SHOWN ? text_len : SHOWN);
+    }
+}
+
+/* A line of one thing over and over, as often as it fits; with as many parentheses that close it, or with none. */
+static void measure_line(const char *begin, const char *opening, int closed) {
+    static char line[LONGEST_LINE + 1];
+    size_t count = (LONGEST_LINE - strlen(begin) - (size_t)closed) / (strlen(opening) + (size_t)closed);
+    strcpy(line, begin);
+    for (size_t i = 0; i < count; i++) strcat(line, opening);
+    if (closed) strcat(line, "1");
+    for (size_t i = 0; closed && i < count; i++) strcat(line, ")");
+    text = (const uint8_t *)line;
+    text_len = strlen(line);
+    measure();
+}
+
+static void measure_lines(void) {
+    static const char *const begins[] = {"0?", "0 ", "0A$=", "0IF ", "0FORI=1TO 2STEP "};
+    static const char *const openings[] = {"(",    "-(",   "NOT(",  "NOT ", "1+(",    "1*(",      "1=(",        "1 OR(",     "A$+(",
+                                           "LEN(", "ABS(", "CHR$(", "VAL(", "LEFT$(", "MID$(A$,", "STRING$(1,", "INSTR(A$,", "IF 1 THEN ",
+                                           ":",    "1+",   "1 IMP "};
+    for (size_t i = 0; i < sizeof openings / sizeof *openings; i++)
+        for (size_t j = 0; j < sizeof begins / sizeof *begins; j++) {
+            measure_line(begins[j], openings[i], 0);
+            measure_line(begins[j], openings[i], 1);
+        }
+}
+
+static void measure_cases(void) {
+    Stored stored;
+    while (next_stored(&stored)) {
+        text = stored.text;
+        text_len = stored.text_len;
+        input = stored.input;
+        input_len = stored.input_len;
+        measure();
+        let_go(&stored);
+    }
+}
+
+int main(void) {
+    int below = 1;
+    input = (const uint8_t *)"LOT 41\n";
+    input_len = 7;
+    measure_lines();
+    measure_cases();
+    for (size_t i = 0; i < sizeof calls / sizeof *calls; i++) {
+        printf("%s: at most %zu bytes of stack, on %s..\n", calls[i].name, calls[i].most, calls[i].line);
+        below &= calls[i].most < QUERNHEM_STACK;
+    }
+    if (!below) printf("that is not below QUERNHEM_STACK, %d\n", QUERNHEM_STACK);
+    return !below;
+}

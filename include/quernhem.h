@@ -1,0 +1,152 @@
+/* Quernhem: runs and checks bath recipes over memory that the host lends.
+ *
+ * Link target/staticlib/libhost.a (`rt staticlib host`), for x86-64 Linux. It needs no library but the C library, keeps nothing between
+ * calls, and asks the system for nothing: no memory, no files, no clock.
+ *
+ * What holds of every call:
+ * - No pointer is null, also where its length is 0. What is lent for writing overlaps nothing else that is lent in the call.
+ * - Any bytes and any lengths will do. Every call returns, within its budget of steps, and reads and writes only what is lent to it.
+ * - Numbers in an answer are unsigned 64-bit words; what does not apply is 0.
+ * - A call uses less than QUERNHEM_STACK bytes of stack, also for a line of 253 opening parentheses (measured, not proved).
+ * - Threads may call at the same time, as long as what one lends for writing is lent to no other.
+ *
+ * docs/HOST.md tells more, and hosts/c/worked.c is a host to begin with.
+ */
+#ifndef QUERNHEM_H
+#define QUERNHEM_H
+
+#include <stddef.h>
+#include <stdint.h>
+
+#ifdef __cplusplus
+extern "C" {
+#endif
+
+/* How many bytes of stack to keep for a call. */
+#define QUERNHEM_STACK 327680
+
+/* The largest string space and text: a larger one is refused. */
+#define QUERNHEM_SPACE 16384
+#define QUERNHEM_TEXT 16384
+
+/* ---- Running a recipe ------------------------------------------------------------------------------------------------------------ */
+
+/* The variable tables: a block of so many bytes that the host keeps between a run and its questions, and where each part of it begins.
+ * Zeros at first: no variables. A run leaves its variables in order of first assignment, and zeros after them. */
+#define QUERNHEM_TABLES 450
+#define QUERNHEM_VARIABLES 64 /* of each kind, at most */
+enum {
+    QUERNHEM_NUMBER_NAMES = 0,   /* two bytes each: the first two characters of a name, in capitals; the second is 0 where there is one */
+    QUERNHEM_WORDS = 128,        /* two bytes each, the low one first: 16 bits of two's complement */
+    QUERNHEM_STRING_NAMES = 256, /* two bytes each */
+    QUERNHEM_LENGTHS = 384,      /* a byte each: the strings' bytes stand joined at the front of the space */
+    QUERNHEM_NUMBER_COUNT = 448, /* how many number variables there are */
+    QUERNHEM_STRING_COUNT = 449  /* and how many string variables */
+};
+
+/* The answer of a run: so many words, and which is which. */
+#define QUERNHEM_ANSWER 7
+enum {
+    QUERNHEM_OUTCOME,
+    QUERNHEM_NUMBER,  /* of an error or a refusal */
+    QUERNHEM_LINE,    /* where it stopped, ran out of steps or failed */
+    QUERNHEM_PLACE,   /* of a refusal: a byte of the text, counted from 0 */
+    QUERNHEM_STEPS,   /* statements begun */
+    QUERNHEM_WRITTEN, /* bytes of the room written */
+    QUERNHEM_TAKEN    /* bytes of the input taken */
+};
+
+/* The outcomes. */
+enum {
+    QUERNHEM_ENDED,
+    QUERNHEM_STOPPED, /* STOP, with its line */
+    QUERNHEM_OUT,     /* out of steps, at the line of the statement that was not begun */
+    QUERNHEM_ERROR,   /* an error, with its number and line */
+    QUERNHEM_REFUSED  /* nothing was done, and nothing is changed but the answer; number and place */
+};
+
+/* Runs a recipe on an input, for at most `budget` statements.
+ *
+ * Read: text, input. Changed: space, room, tables and answer. Whatever they held before the run does not matter to it.
+ * - answer: always, all seven words.
+ * - space: the string space. After a run that was not refused it holds the string variables' bytes, joined in order of first assignment,
+ *   and zeros after them.
+ * - room: for the output. Its first answer[QUERNHEM_WRITTEN] bytes are the output, and the others are as they were.
+ * - tables: after a run that was not refused, the variables of this run.
+ * A refused run leaves space, room and tables as they were, to the last byte. */
+void quernhem_run(const uint8_t *text, size_t text_len, const uint8_t *input, size_t input_len,
+                  uint8_t *space, size_t space_len, uint8_t *room, size_t room_len,
+                  uint32_t budget, uint8_t *tables, uint64_t *answer);
+
+/* ---- Checking a recipe ----------------------------------------------------------------------------------------------------------- */
+
+/* The verdict: so many words, and which is which. */
+#define QUERNHEM_VERDICT 4
+enum {
+    QUERNHEM_FAULTY,         /* 0: passed; 1: refused */
+    QUERNHEM_VERDICT_NUMBER, /* 100 to 105, or the error 2, 16, 13 or 8 */
+    QUERNHEM_VERDICT_LINE,   /* of an error */
+    QUERNHEM_VERDICT_PLACE   /* of 100 to 105 */
+};
+
+/* Checks a recipe before it ever runs. Read: text. Changed: verdict, all four words. */
+void quernhem_check(const uint8_t *text, size_t text_len, uint64_t *verdict);
+
+/* ---- Asking for a variable ------------------------------------------------------------------------------------------------------- */
+
+/* What is found: so many words, and which is which. */
+#define QUERNHEM_FOUND 5
+enum {
+    QUERNHEM_FOUND_NUMBER, /* 0, or 111: not a name, or the space ends before the variable's bytes */
+    QUERNHEM_KIND,         /* 0: a whole number; 1: a text */
+    QUERNHEM_VALUE,        /* of a whole number, in 64 bits of two's complement: cast it to int64_t */
+    QUERNHEM_START,        /* of a text: where its bytes begin in the space */
+    QUERNHEM_LENGTH        /* and how many there are, 0 to 255 */
+};
+
+/* Asks for one variable after a run: `LOT`, `LOT$` or `LOT%`, in capitals or small letters, with no blank. An unset one is 0 or empty.
+ *
+ * Read: tables, space and name, as the run left them. Changed: found, all five words.
+ * Any bytes will do for tables. Of a block that no run made the first of its 64 entries with the name is answered, whatever the counts
+ * say; a string begins after those of the entries before it, and is 111 where it ends past the space. */
+void quernhem_ask(const uint8_t *tables, const uint8_t *space, size_t space_len,
+                  const uint8_t *name, size_t name_len, uint64_t *found);
+
+/* ---- Numbers ---------------------------------------------------------------------------------------------------------------------- */
+
+/* Errors that end a run (and 2, 8, 13 and 16 of a check). */
+enum {
+    QUERNHEM_NEXT_WITHOUT_FOR = 1,
+    QUERNHEM_SYNTAX = 2,
+    QUERNHEM_RETURN_WITHOUT_GOSUB = 3,
+    QUERNHEM_ILLEGAL_FUNCTION_CALL = 5,
+    QUERNHEM_OVERFLOW = 6,
+    QUERNHEM_OUT_OF_MEMORY = 7,
+    QUERNHEM_UNDEFINED_LINE = 8,
+    QUERNHEM_DIVISION_BY_ZERO = 11,
+    QUERNHEM_TYPE_MISMATCH = 13,
+    QUERNHEM_OUT_OF_STRING_SPACE = 14,
+    QUERNHEM_STRING_TOO_LONG = 15,
+    QUERNHEM_FORMULA_TOO_COMPLEX = 16,
+    QUERNHEM_LINE_BUFFER_OVERFLOW = 23,
+    QUERNHEM_INPUT_PAST_END = 62,
+    QUERNHEM_OUTPUT_FULL = 110
+};
+
+/* Refusals. */
+enum {
+    QUERNHEM_TEXT_TOO_LONG = 100,
+    QUERNHEM_BAD_NUMBER = 101,
+    QUERNHEM_NOT_RISING = 102,
+    QUERNHEM_LINE_TOO_LONG = 103,
+    QUERNHEM_FOREIGN_BYTE = 104,
+    QUERNHEM_TOO_MANY_LINES = 105,
+    QUERNHEM_SPACE_TOO_LONG = 106, /* of a run */
+    QUERNHEM_NO_VARIABLE = 111     /* of a question */
+};
+
+#ifdef __cplusplus
+}
+#endif
+
+#endif
