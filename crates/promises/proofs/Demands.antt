@@ -161,4 +161,4 @@ passed-recipes-end-well k c same e =
     (ap checkOf (sym same) ∙ sym (k .allowed) ∙ e)
 
 pub few-at-once : fewAtOnce
-few-at-once c = few-unfinished (textOf c) (inputOf c) (length (spaceBefore c)) (length (roomBefore c)) (budgetOf c)
+few-at-once c = of few-unfinished c

@@ -2,7 +2,7 @@
 use mathlib.Core.Path.{refl}
 use Rattle.turns.proofs as turns
 use Rattle.promises.specs.Calls.{Unique}
-use Rattle.promises.proofs.Unique.{same}
+use Rattle.promises.proofs.Unique.{same, pair}
 
 pub turned-to : Unique turns.turned_to.Kinds.ps turns.turned_to.Kinds.r turns.turned_to.Reads.Pre turns.turned_to.Reads.Post
 turned-to κs a p z z′ ws ws′ e e′ = (same e e′, refl)
@@ -21,3 +21,6 @@ stored-or-full κs a p z z′ ws ws′ e e′ = (same e e′, refl)
 
 pub with-number : Unique turns.with_number.Kinds.ps turns.with_number.Kinds.r turns.with_number.Reads.Pre turns.with_number.Reads.Post
 with-number κs a p z z′ ws ws′ e e′ = (same e e′, refl)
+
+pub with-string : Unique turns.with_string.Kinds.ps turns.with_string.Kinds.r turns.with_string.Reads.Pre turns.with_string.Reads.Post
+with-string κs a p z z′ ws ws′ e e′ = (same (e .0) (e′ .0), pair refl (pair refl (pair (same (e .1) (e′ .1)) refl)))
