@@ -116,6 +116,7 @@ pub data StatementAsks : Statement → Machine → Ask → Type 0 where
       → valueOf from (m .variables) (roomOf m) ≡ value (whole a) room
       → valueOf to (m .variables) (roomOf (noting m room)) ≡ value (whole b) next → FormulaAsks by (noting m next) k
       → StatementAsks (tree.for v from to by) m k
+  -- a line of over 254 bytes is 23, and asks for none
   input : {t : List ℕ} {v : Variable} {m n : Machine} {b : ℕ} {s : List ℕ} → write m t ≡ printed n → n .input ≡ b ∷ s
       → length (takeLine (b ∷ s) .bytes) ≤ 254
       → StatementAsks (tree.lineInput t v) m (record { unfinished = []; bytes = takeLine (b ∷ s) .bytes })
