@@ -9,11 +9,12 @@ use Rattle.grammar.specs.declared.functions.Want.{Want}
 use Rattle.grammar.specs.declared.functions.Want.the-variants as want
 use Rattle.variables.specs.Strings.{text, value}
 use Rattle.operators.specs.Values.{meets}
-use Rattle.functions.specs.Memory.{argumentLength, argumentIn, countOf, givenLength, valuesIn, withArgument, meetsWant}
-use Rattle.functions.specs.declared.arguments.Argument.{Argument}
-use Rattle.functions.specs.declared.arguments.Argument.the-variants as argument
-use Rattle.functions.specs.declared.arguments.Given.{Given}
-use Rattle.functions.specs.declared.arguments.Given.the-variants as given
+use Rattle.functions.specs.Memory.{countOf, withArgument, meetsWant}
+use Rattle.strings.specs.Memory.{argumentLength, argumentIn, givenLength, valuesIn}
+use Rattle.strings.specs.declared.arguments.Argument.{Argument}
+use Rattle.strings.specs.declared.arguments.Argument.the-variants as argument
+use Rattle.strings.specs.declared.arguments.Given.{Given}
+use Rattle.strings.specs.declared.arguments.Given.the-variants as given
 
 -- ---- one argument
 

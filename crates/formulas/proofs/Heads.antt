@@ -30,7 +30,7 @@ use Rattle.expressions.proofs.Views.{opened-view, negated-view, complemented-vi
 use Rattle.variables.specs.Strings as strings
 use Rattle.variables.specs.Strings.{Room, Outcome, value, fault, make, letAllGo}
 use Rattle.variables.specs.Variables.{Variables}
-use Rattle.functions.specs.Functions.{answered}
+use Rattle.strings.specs.Functions.{answered}
 use Rattle.operators.specs.Values.{wholeThen, variableValue, valueOf}
 use Rattle.variables.specs.Memory.{
   textLength,

@@ -27,23 +27,15 @@ use Rattle.expressions.proofs.Fuel.{arguments-unrolled}
 use Rattle.expressions.proofs.Views.{Listed, list-view, list-ends}
 use Rattle.variables.specs.Strings.{Room}
 use Rattle.variables.specs.Variables.{Variables}
-use Rattle.functions.specs.Functions.{called}
+use Rattle.strings.specs.Functions.{called}
 use Rattle.operators.specs.Values as values
 use Rattle.operators.specs.Values.{stopped, wantAt, valueOf, valuesOf}
-use Rattle.functions.specs.Memory.{
-  argumentLength,
-  argumentIn,
-  countOf,
-  givenLength,
-  valuesIn,
-  wantBy,
-  takenAs,
-  Placed,
-}
+use Rattle.functions.specs.Memory.{countOf, wantBy, takenAs}
+use Rattle.strings.specs.Memory.{argumentLength, argumentIn, givenLength, valuesIn, Placed}
 use Rattle.variables.specs.Memory.{Looked, Held, Agrees, Made}
 use Rattle.formulas.specs.Memory.{Scans, Reads, Ready, Evaluated}
-use Rattle.functions.specs.declared.arguments.Given.{Given}
-use Rattle.functions.specs.declared.arguments.Given.the-variants as given
+use Rattle.strings.specs.declared.arguments.Given.{Given}
+use Rattle.strings.specs.declared.arguments.Given.the-variants as given
 use Rattle.functions.specs.declared.arguments.Taken.{Taken}
 use Rattle.functions.specs.declared.arguments.Taken.the-variants as taken
 use Rattle.variables.specs.declared.values.Worked.{Worked}

@@ -37,19 +37,11 @@ use Rattle.variables.specs.Strings.{Value, whole, text, Room, Outcome, value, f
 use Rattle.operators.specs.Values as values
 use Rattle.operators.specs.Values.{stopped, wantAt, tested}
 use Rattle.variables.specs.Memory.{textLength, Held, Agrees, GoesOn}
-use Rattle.functions.specs.Memory.{
-  argumentLength,
-  argumentIn,
-  countOf,
-  withArgument,
-  wantBy,
-  meetsWant,
-  takenBefore,
-  takenAs,
-}
-use Rattle.functions.specs.declared.arguments.Argument.{Argument}
-use Rattle.functions.specs.declared.arguments.Argument.the-variants as argument
-use Rattle.functions.specs.declared.arguments.Given.{Given}
+use Rattle.functions.specs.Memory.{countOf, withArgument, wantBy, meetsWant, takenBefore, takenAs}
+use Rattle.strings.specs.Memory.{argumentLength, argumentIn}
+use Rattle.strings.specs.declared.arguments.Argument.{Argument}
+use Rattle.strings.specs.declared.arguments.Argument.the-variants as argument
+use Rattle.strings.specs.declared.arguments.Given.{Given}
 use Rattle.functions.specs.declared.arguments.Taken.{Taken}
 use Rattle.functions.specs.declared.arguments.Taken.the-variants as taken
 use Rattle.variables.specs.declared.values.Worked.{Worked}

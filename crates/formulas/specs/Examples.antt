@@ -40,7 +40,7 @@ use Rattle.variables.specs.Strings.{
   produced,
 }
 use Rattle.variables.specs.Variables.{StringVariable, Variables, wordOf, bytesOf, stringBytes}
-use Rattle.functions.specs.Functions.{argument, startsWith, found, placeOf}
+use Rattle.strings.specs.Functions.{argument, startsWith, found, placeOf}
 use Rattle.operators.specs.Values.{isBefore, wantAt, valueOf, valuesOf}
 
 -- A$ is "LOT ", of 4 bytes, and B$ is "B"

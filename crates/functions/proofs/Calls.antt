@@ -1,215 +1,136 @@
--- What each function makes of its arguments, as the code goes about it: a law for each of its answers.
-use mathlib.Core.Path.{_≡_, refl, sym, ap, _∙_}
-use mathlib.Core.Bool.{Bool, true, false, cond, not}
+-- What each function that gives a number makes of its arguments, as the code goes about it: a law for each of its answers.
+use mathlib.Core.Path.{_≡_, refl, sym}
+use mathlib.Core.Bool.{true, false}
 use mathlib.Core.List.{List, [], _∷_}
-use Prim.Native.Nat.{ℕ, suc, _+_, _-_, _≤_, min}
+use Prim.Native.Nat.{ℕ, _+_, _-_, _≤_}
 use native.Mathlib.Omega.{arith}
-use borrow.Author.Tests.{le-leb, leb-true, not-true, not-false}
-use lib.Dec.{leb}
-use lib.ListN.{length, take, drop, getD, replicate, length-drop}
-use lib.Seq.{length-take-le, getD-take, getD-drop, drop-cons, drop-drop}
+use borrow.Author.Tests.{le-leb}
+use lib.IntN.{pos}
+use lib.ListN.{length, take, drop, getD}
+use lib.Seq.{getD-take, getD-drop}
+use types.Run.{OneOf, miss}
 use Rattle.whole.specs.Whole.{magnitude, signum}
 use Rattle.whole.specs.Digits.{valOf}
-use Rattle.whole.specs.Texts.{shown, hexadecimal}
 use Rattle.whole.specs.declared.arithmetic.Answer.{Answer}
 use Rattle.whole.specs.declared.arithmetic.Answer.the-variants.{Whole}
-use Rattle.whole.specs.declared.errors.Error.the-variants.{IllegalFunctionCall}
-use Rattle.words.proofs.Choices.{by-test, both}
+use Rattle.whole.proofs.Numbers.{fit-in}
+use Rattle.words.specs.declared.names.Kind.the-variants as kind
 use Rattle.words.specs.declared.symbols.Function.{Function}
-use Rattle.words.specs.declared.symbols.Function.the-variants.{Len, Asc, Chr, Left, Right, Mid, Space, String, Instr, Str, Hex, Val, Abs, Sgn}
+use Rattle.words.specs.declared.symbols.Function.the-variants.{
+  Len,
+  Asc,
+  Chr,
+  Left,
+  Right,
+  Mid,
+  Space,
+  String,
+  Instr,
+  Str,
+  Hex,
+  Val,
+  Abs,
+  Sgn,
+  Fre,
+}
 use Rattle.words.specs.declared.symbols.Scanned.{Scanned}
-use Rattle.variables.specs.Strings.{Value, whole, text, produced}
-use Rattle.functions.specs.Functions as definition
-use Rattle.functions.specs.Functions.{ranged, within, word, bytes, fillRight, fillByte, midLength, placeOf, called}
-use Rattle.functions.specs.Memory.{MadeOf, Placed, argumentLength, argumentWord, firstOf, secondOf, thirdOf, areThree, valuesIn}
+use Rattle.grammar.specs.Functions.{gives}
 use Rattle.variables.specs.Memory.{answeredAs}
-use Rattle.functions.specs.declared.arguments.Argument.the-variants as argument
-use Rattle.functions.specs.declared.arguments.Given.{Given}
+use Rattle.variables.specs.Strings.{letAllGo}
 use Rattle.variables.specs.declared.values.Worked.{Worked}
 use Rattle.variables.specs.declared.values.Worked.the-variants as worked
-use Rattle.functions.proofs.Givens.{word-first, word-second, word-third, bytes-first, bytes-second, bytes-third, value-second, count-three, texts-at}
-use Rattle.functions.proofs.Produced.{refused, made-as, answer-made}
-use Rattle.functions.proofs.Parts.{last-bytes}
-
--- ---- what a test's answer tells of the definition's
-
-module _ {r t : Bool} (e : r ≡ t) where
-  pub told-no : not r ≡ true → t ≡ false
-  told-no f = sym e ∙ not-true r f
-
-  pub told-yes : not r ≡ false → t ≡ true
-  told-yes f = sym e ∙ not-false r f
-
--- a word that passed is in the range
-pub passed : {r : Bool} (low n : ℕ) → r ≡ within low 255 n → not r ≡ false → (low ≤ n) × (n ≤ 255)
-passed low n e f =
-    let b = both (leb low n) (leb n 255) (told-yes e f) in (leb-true low n (b .0), leb-true n 255 (b .1))
-
-module _ (before : List ℕ) (used : ℕ) (g : Given) where
-  abbrev values : List Value
-  values = valuesIn g (drop used before)
+use Rattle.strings.specs.Functions.{within, placeOf}
+use Rattle.strings.specs.Memory.{Placed, argumentLength, argumentWord, firstOf, secondOf, thirdOf, areThree, valuesIn}
+use Rattle.strings.specs.declared.arguments.Given.{Given}
+use Rattle.strings.proofs.Givens.{word-first, bytes-first, bytes-second, bytes-third, count-three, texts-at}
+use Rattle.strings.proofs.Produced.{refused, made-as, answer-made, let-go}
+use Rattle.strings.proofs.Calls.{Calls, illegal, inside, first-long, first-word, functionTag, kinds-apart}
 
 module _ (before : List ℕ) (used : ℕ) (g : Given) (p : Placed before used g) (ahead : Scanned) where
-  -- a function's answer, and what it leaves of the space
-  abbrev pub Calls : Function → Worked → List ℕ → Type 0
-  Calls f r after = MadeOf (called f) before used g ahead r after
+  abbrev Gives : Function → Worked → Type 0
+  Gives f r = Calls before used g p ahead f r before
 
-  abbrev illegal : Worked
-  illegal = worked.Fault IllegalFunctionCall
+  abbrev Illegal : Worked
+  Illegal = illegal before used g p ahead
 
-  inside : used ≤ length before
-  inside = omega arith
+  pub len-made : {n : ℕ} → n ≡ argumentLength (firstOf g) → Gives Len (worked.Whole n ahead)
+  len-made {n} e = made-as (λ room. rw (first-long before used g p ahead, ← e)) (answer-made before used g p ahead (Whole n))
 
-  first-long : length (bytes (values before used g) 0) ≡ argumentLength (firstOf g)
-  first-long =
-      let d = length-drop used before in
-      rw (bytes-first before used g) (length-take-le (argumentLength (firstOf g)) (drop used before) (omega (arith, p .within)))
+  pub asc-refused : argumentLength (firstOf g) ≡ 0 → Gives Asc Illegal
+  asc-refused e = refused (inside before used g p ahead) (λ room. rw (first-long before used g p ahead, e))
 
-  -- ---- numbers
-
-  pub len-made : {n : ℕ} → n ≡ argumentLength (firstOf g) → Calls Len (worked.Whole n ahead) before
-  len-made {n} e = made-as (λ room. rw (first-long, ← e)) (answer-made before used g p ahead (Whole n))
-
-  pub asc-refused : argumentLength (firstOf g) ≡ 0 → Calls Asc illegal before
-  asc-refused e = refused inside (λ room. rw (first-long, e))
-
-  pub asc-made : 1 ≤ argumentLength (firstOf g) → Calls Asc (worked.Whole (getD before used 0) ahead) before
+  pub asc-made : 1 ≤ argumentLength (firstOf g) → Gives Asc (worked.Whole (getD before used 0) ahead)
   asc-made h =
       let n = argumentLength (firstOf g) in
       let z : used + 0 ≡ used = omega arith in
       made-as
-      (λ room. rw (first-long, le-leb 1 n h, bytes-first before used g, getD-take n (drop used before) 0 0 h, getD-drop used before 0 0, z))
+      (λ room. rw (first-long before used g p ahead, le-leb 1 n h, bytes-first before used g, getD-take n (drop used before) 0 0 h, getD-drop used before 0 0, z))
       (answer-made before used g p ahead (Whole (getD before used 0)))
 
-  pub val-made : (x : Answer) → x ≡ valOf (take (argumentLength (firstOf g)) (drop used before)) → Calls Val (answeredAs x ahead) before
+  pub val-made : (x : Answer) → x ≡ valOf (take (argumentLength (firstOf g)) (drop used before)) → Gives Val (answeredAs x ahead)
   val-made x e = made-as (λ room. rw (bytes-first before used g, ← e)) (answer-made before used g p ahead x)
 
-  pub abs-made : (x : Answer) → x ≡ magnitude (argumentWord (firstOf g)) → Calls Abs (answeredAs x ahead) before
+  pub abs-made : (x : Answer) → x ≡ magnitude (argumentWord (firstOf g)) → Gives Abs (answeredAs x ahead)
   abs-made x e = made-as (λ room. rw (word-first before used g, ← e)) (answer-made before used g p ahead x)
 
-  pub sgn-made : {n : ℕ} → n ≡ signum (argumentWord (firstOf g)) → Calls Sgn (worked.Whole n ahead) before
+  pub sgn-made : {n : ℕ} → n ≡ signum (argumentWord (firstOf g)) → Gives Sgn (worked.Whole n ahead)
   sgn-made {n} e = made-as (λ room. rw (word-first before used g, ← e)) (answer-made before used g p ahead (Whole n))
 
-  -- ---- parts of a text
-
-  module _ {n : ℕ} (e : n ≡ argumentWord (secondOf g)) where
-    second-word : word (values before used g) 1 ≡ n
-    second-word = word-second before used g ∙ sym e
-
-    pub left-refused : within 0 255 n ≡ false → Calls Left illegal before
-    left-refused f = refused inside (λ room. rw (second-word, f))
-
-    pub left-made : {r : Worked} {after : List ℕ} → within 0 255 n ≡ true
-        → MadeOf (λ vs. produced (take n (drop 0 (bytes vs 0))) vs) before used g ahead r after → Calls Left r after
-    left-made f m = made-as (λ room. rw (second-word, f)) m
-
-    pub right-refused : within 0 255 n ≡ false → Calls Right illegal before
-    right-refused f = refused inside (λ room. rw (second-word, f))
-
-    pub right-made : {r : Worked} {after : List ℕ} (from : ℕ) → within 0 255 n ≡ true
-        → from ≡ argumentLength (firstOf g) - min n (argumentLength (firstOf g))
-        → MadeOf (λ vs. produced (take n (drop from (bytes vs 0))) vs) before used g ahead r after → Calls Right r after
-    right-made from f l m =
-        made-as (λ room. rw (second-word, f, ← last-bytes (bytes (values before used g) 0) (argumentLength (firstOf g)) n from first-long l)) m
-
-    pub mid-refused : within 1 255 n ≡ false → Calls Mid illegal before
-    mid-refused f = refused inside (λ room. rw (second-word, f))
-
-    module _ {most : ℕ} (l : most ≡ cond (areThree g) (argumentWord (thirdOf g)) 255) where
-      mid-most : midLength (values before used g) ≡ most
-      mid-most = rw (count-three (drop used before) g, word-third before used g) (sym l)
-
-      pub mid-refused-length : within 1 255 n ≡ true → within 0 255 most ≡ false → Calls Mid illegal before
-      mid-refused-length f h = refused inside (λ room. rw (second-word, mid-most, f, h))
-
-      pub mid-made : {r : Worked} {after : List ℕ} → within 1 255 n ≡ true → within 0 255 most ≡ true
-          → MadeOf (λ vs. produced (take most (drop (n - 1) (bytes vs 0))) vs) before used g ahead r after → Calls Mid r after
-      mid-made f h m = made-as (λ room. rw (second-word, mid-most, f, h)) m
-
-  -- ---- so many of one byte, and the texts of a number
-
-  abbrev Fills : ℕ → ℕ → Worked → List ℕ → Type 0
-  Fills count byte r after =
-      MadeOf (λ vs room. ranged (within 0 255 count) room (produced (replicate count byte) vs room)) before used g ahead r after
-
-  module _ {n : ℕ} (e : n ≡ argumentWord (firstOf g)) where
-    first-word : word (values before used g) 0 ≡ n
-    first-word = word-first before used g ∙ sym e
-
-    pub chr-refused : within 0 255 n ≡ false → Calls Chr illegal before
-    chr-refused f = refused inside (λ room. rw (first-word, f))
-
-    pub chr-made : {r : Worked} {after : List ℕ} → within 0 255 n ≡ true → Fills 1 n r after → Calls Chr r after
-    chr-made f m = made-as (λ room. rw (first-word, f)) m
-
-    pub space-made : {r : Worked} {after : List ℕ} → Fills n 32 r after → Calls Space r after
-    space-made m = made-as (λ room. rw first-word) m
-
-    pub str-made : {r : Worked} {after : List ℕ} → MadeOf (produced (shown n)) before used g ahead r after → Calls Str r after
-    str-made m = made-as (λ room. rw first-word) m
-
-    pub hex-made : {r : Worked} {after : List ℕ} → MadeOf (produced (hexadecimal n)) before used g ahead r after → Calls Hex r after
-    hex-made m = made-as (λ room. rw first-word) m
-
-    -- STRING$, by the value of its second argument
-    module _ (v : Value) (s : definition.argument (values before used g) 1 ≡ v) where
-      string-refused : fillRight v ≡ false → Calls String illegal before
-      string-refused f = refused inside (λ room. rw (first-word, s, f) (by-test (within 0 255 n) (λ t. rw t) (λ t. rw t)))
-
-      string-made : {r : Worked} {after : List ℕ} → fillRight v ≡ true → Fills n (fillByte v) r after → Calls String r after
-      string-made f m = made-as (λ room. rw (first-word, s, f) (by-test (within 0 255 n) (λ t. rw t) (λ t. rw t))) m
-
-    module _ (code : ℕ) (s : secondOf g ≡ argument.Whole code) where
-      second-code : definition.argument (values before used g) 1 ≡ whole code
-      second-code = value-second (drop used before) g ∙ rw s
-
-      pub code-refused : within 0 255 code ≡ false → Calls String illegal before
-      code-refused f = string-refused (whole code) second-code f
-
-      pub code-made : {r : Worked} {after : List ℕ} → within 0 255 code ≡ true → Fills n code r after → Calls String r after
-      code-made f m = string-made (whole code) second-code f m
-
-    module _ (len : ℕ) (s : secondOf g ≡ argument.Text len) where
-      second-text : definition.argument (values before used g) 1 ≡ text (take len (drop (used + argumentLength (firstOf g)) before))
-      second-text = value-second (drop used before) g ∙ rw (s, drop-drop)
-
-      pub text-refused : len ≡ 0 → Calls String illegal before
-      text-refused f = string-refused (text []) (second-text ∙ rw f) refl
-
-      -- where it is not empty, the byte stands after the first argument
-      second-starts : 1 ≤ len → take len (drop (used + argumentLength (firstOf g)) before)
-          ≡ getD before (used + argumentLength (firstOf g)) 0 ∷ take (len - 1) (drop (suc (used + argumentLength (firstOf g))) before)
-      second-starts h =
-          let i = used + argumentLength (firstOf g) in
-          let l : argumentLength (secondOf g) ≡ len = ap argumentLength s in
-          let e : len ≡ suc (len - 1) = omega arith in
-          ap (take len) (drop-cons before i 0 (omega (arith, p .within))) ∙ ap (λ k. take k (getD before i 0 ∷ drop (suc i) before)) e
-
-      pub text-made : {r : Worked} {after : List ℕ} → 1 ≤ len → Fills n (getD before (used + argumentLength (firstOf g)) 0) r after
-          → Calls String r after
-      text-made h m = string-made _ (second-text ∙ ap text (second-starts h)) refl m
+  -- FRE: the space that is not live when its argument is let go
+  pub free-made : Gives Fre (worked.Whole (length before - used) ahead)
+  free-made =
+      record {
+        framed = record { long = refl; kept = refl; fits = omega (arith, p .within); short = omega arith };
+        agrees = λ room h. let z : used + 0 ≡ used = omega arith in
+            let k = rw z at (let-go before used g p ahead before 0 room refl (h .limit) (omega (arith, h .lives))) in
+            let n : room .limit - letAllGo (valuesIn g (drop used before)) room .live ≡ length before - used = omega (arith, k .lives, h .limit) in
+            rw (n, fit-in (pos (length before - used)) (omega (arith, p .small))) (refl, k);
+        goes = refl;
+      }
 
   -- ---- INSTR, of two arguments and of three
 
   module _ {first second : ℕ} (f : first ≡ argumentLength (firstOf g)) (s : second ≡ argumentLength (secondOf g)) where
     pub two-made : {place : ℕ} → areThree g ≡ false
         → place ≡ placeOf 1 (take first (drop used before)) (take second (drop (used + first) before))
-        → Calls Instr (worked.Whole place ahead) before
+        → Gives Instr (worked.Whole place ahead)
     two-made {place} t e =
         let a = bytes-first before used g in let b = bytes-second before used g in
         made-as (λ room. rw (texts-at (drop used before) g, count-three (drop used before) g, t, a, b, ← f, ← s, ← e))
         (answer-made before used g p ahead (Whole place))
 
     module _ {start : ℕ} (t : areThree g ≡ true) (w : start ≡ argumentWord (firstOf g)) where
-      pub three-refused : within 1 255 start ≡ false → Calls Instr illegal before
-      three-refused n = refused inside (λ room. rw (count-three (drop used before) g, t, first-word w, n))
+      pub three-refused : within 1 255 start ≡ false → Gives Instr Illegal
+      three-refused n = refused (inside before used g p ahead) (λ room. rw (count-three (drop used before) g, t, first-word before used g p ahead w, n))
 
       pub three-made : {place third : ℕ} → within 1 255 start ≡ true → third ≡ argumentLength (thirdOf g)
           → place ≡ placeOf start (take second (drop (used + first) before)) (take third (drop (used + first + second) before))
-          → Calls Instr (worked.Whole place ahead) before
+          → Gives Instr (worked.Whole place ahead)
       three-made {place} y l e =
           let n : used + (first + second) ≡ used + first + second = omega arith in
           let b = bytes-second before used g in let c = bytes-third before used g in
           made-as
-          (λ room. rw (texts-at (drop used before) g, count-three (drop used before) g, t, first-word w, y, b, c, ← f, ← s, ← l, n, ← e))
+          (λ room. rw (texts-at (drop used before) g, count-three (drop used before) g, t, first-word before used g p ahead w, y, b, c, ← f, ← s, ← l, n, ← e))
           (answer-made before used g p ahead (Whole place))
+
+-- ---- the function that is left when all other numbers are told apart
+
+abbrev otherNumbers : List ℕ
+otherNumbers = 2 ∷ 3 ∷ 4 ∷ 5 ∷ 6 ∷ 7 ∷ 9 ∷ 10 ∷ 14 ∷ []
+
+pub last-number : (f : Function) → gives f ≡ kind.Whole → OneOf otherNumbers (functionTag f) → f ≡ Fre
+last-number Len e h = absurd (miss otherNumbers 0 tt h)
+last-number Asc e h = absurd (miss otherNumbers 1 tt h)
+last-number Chr e h = absurd (kinds-apart (sym e))
+last-number Left e h = absurd (kinds-apart (sym e))
+last-number Right e h = absurd (kinds-apart (sym e))
+last-number Mid e h = absurd (kinds-apart (sym e))
+last-number Space e h = absurd (kinds-apart (sym e))
+last-number String e h = absurd (kinds-apart (sym e))
+last-number Instr e h = absurd (miss otherNumbers 8 tt h)
+last-number Str e h = absurd (kinds-apart (sym e))
+last-number Hex e h = absurd (kinds-apart (sym e))
+last-number Val e h = absurd (miss otherNumbers 11 tt h)
+last-number Abs e h = absurd (miss otherNumbers 12 tt h)
+last-number Sgn e h = absurd (miss otherNumbers 13 tt h)
+last-number Fre e h = refl

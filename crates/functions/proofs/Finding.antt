@@ -12,7 +12,7 @@ use lib.ListN.{length, take, drop, getD, length-drop}
 use lib.Seq.{drop-cons, drop-drop, take-take}
 use Rattle.words.proofs.Choices.{by-test}
 use Rattle.space.proofs.Parts.{part-below}
-use Rattle.functions.specs.Functions.{startsWith, found, placeOf}
+use Rattle.strings.specs.Functions.{startsWith, found, placeOf}
 use Rattle.variables.proofs.Bytewise.{part-length, part-next, part-end}
 
 -- ---- a text of the space stands at another place of it too, if it does after i bytes that are the same

@@ -1,5 +1,2 @@
-pub mod Givens
-pub mod Produced
-pub mod Parts
 pub mod Finding
 pub mod Calls

@@ -1,9 +1,10 @@
-// The arguments of a function, as they are worked out.
+// The arguments of a function, taken one by one as they are worked out.
 ghost use mathlib.Core.Path.{_≡_};
-ghost use Prim.Native.Nat.{_≤_};
-ghost use Rattle.functions.specs.Memory.{argumentLength, argumentWord, firstOf, secondOf, thirdOf, areThree, countOf, givenLength, withArgument, wantBy, meetsWant, takenBefore, takenAs};
+ghost use Rattle.functions.specs.Memory.{countOf, withArgument, wantBy, meetsWant, takenBefore, takenAs};
 use grammar::Want;
 use grammar::is_symbol;
+use strings::Argument;
+use strings::Given;
 use variables::Worked;
 use whole::Error;
 use words::Function;
@@ -11,87 +12,11 @@ use words::Place;
 use words::Scanned;
 use words::Sign;
 
-// A whole number, or a text of so many bytes.
-pub enum Argument {
-    Whole(u16),
-    Text(usize),
-}
-
-// Those worked out so far, at most three; their texts stand side by side.
-pub enum Given {
-    None,
-    One(Argument),
-    Two(Argument, Argument),
-    Three(Argument, Argument, Argument),
-}
-
 // What an argument leads to once it is worked out: an error, the call with all of them, or one more; and the place after it.
 pub enum Taken {
     Fault(Error),
     All(Given, Place),
     More(Given, Place),
-}
-
-pub(crate) fn argument_length(argument: Argument) -> usize
-    ensures { λ r. ⌜ r ≡ argumentLength argument ⌝ }
-{
-    match argument {
-        Argument::Whole(_) => 0,
-        Argument::Text(len) => len,
-    }
-}
-
-pub(crate) fn argument_word(argument: Argument) -> u16
-    ensures { λ r. ⌜ r ≡ argumentWord argument ⌝ }
-{
-    match argument {
-        Argument::Whole(word) => word,
-        Argument::Text(_) => 0,
-    }
-}
-
-pub(crate) fn first_of(given: Given) -> Argument
-    ensures { λ r. ⌜ r ≡ firstOf given ⌝ }
-{
-    match given {
-        Given::None => Argument::Whole(0),
-        Given::One(a) => a,
-        Given::Two(a, _) => a,
-        Given::Three(a, _, _) => a,
-    }
-}
-
-pub(crate) fn second_of(given: Given) -> Argument
-    ensures { λ r. ⌜ r ≡ secondOf given ⌝ }
-{
-    match given {
-        Given::None => Argument::Whole(0),
-        Given::One(_) => Argument::Whole(0),
-        Given::Two(_, b) => b,
-        Given::Three(_, b, _) => b,
-    }
-}
-
-pub(crate) fn third_of(given: Given) -> Argument
-    ensures { λ r. ⌜ r ≡ thirdOf given ⌝ }
-{
-    match given {
-        Given::None => Argument::Whole(0),
-        Given::One(_) => Argument::Whole(0),
-        Given::Two(_, _) => Argument::Whole(0),
-        Given::Three(_, _, c) => c,
-    }
-}
-
-pub(crate) fn are_three(given: Given) -> bool
-    ensures { λ r. ⌜ r ≡ areThree given ⌝ }
-{
-    match given {
-        Given::None => false,
-        Given::One(_) => false,
-        Given::Two(_, _) => false,
-        Given::Three(_, _, _) => true,
-    }
 }
 
 // How many there are.
@@ -106,18 +31,8 @@ fn count_of(given: Given) -> usize
     }
 }
 
-// The bytes of all their texts.
-pub fn given_length(given: Given) -> usize
-    requires { ⌜ givenLength given ≤ 16384 ⌝ }
-    ensures { λ r. ⌜ r ≡ givenLength given ⌝ }
-{
-    argument_length(first_of(given))
-        + argument_length(second_of(given))
-        + argument_length(third_of(given))
-}
-
 // One more; no function takes a fourth.
-pub(crate) fn with_argument(given: Given, argument: Argument) -> Given
+fn with_argument(given: Given, argument: Argument) -> Given
     ensures { λ r. ⌜ r ≡ withArgument given argument ⌝ }
 {
     match given {
@@ -129,7 +44,7 @@ pub(crate) fn with_argument(given: Given, argument: Argument) -> Given
 }
 
 // Whether it is of the type that is wanted.
-pub(crate) fn meets(want: Want, argument: Argument) -> bool
+fn meets(want: Want, argument: Argument) -> bool
     ensures { λ r. ⌜ r ≡ meetsWant want argument ⌝ }
 {
     match want {
@@ -146,7 +61,7 @@ pub(crate) fn meets(want: Want, argument: Argument) -> bool
 }
 
 // What a function wants of the argument at a place, from 0; of INSTR it goes by whether there are three.
-pub(crate) fn want_of(function: Function, three: bool, place: usize) -> Want
+fn want_of(function: Function, three: bool, place: usize) -> Want
     ensures { λ r. ⌜ r ≡ wantBy function three place ⌝ }
 {
     let first = place == 0;

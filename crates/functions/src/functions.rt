@@ -1,251 +1,34 @@
-// The functions, each over the values of its arguments.
+// The functions, each over the values of its arguments; here are those that give a number.
 ghost use mathlib.Core.Path.{_≡_};
-ghost use mathlib.Core.Bool.{cond};
-ghost use mathlib.Core.List.{List};
-ghost use Prim.Native.Nat.{ℕ, _+_, _≤_, min};
-ghost use lib.Dec.{leb};
-ghost use lib.ListN.{length, take, drop, replicate};
-ghost use Rattle.whole.specs.Texts.{held};
+ghost use Prim.Native.Nat.{_+_, _≤_};
+ghost use lib.ListN.{length, take, drop};
 ghost use Rattle.whole.specs.Digits.{valOf};
-ghost use Rattle.words.specs.declared.symbols.Function.the-variants.{Asc, Chr, Left, Right, Mid, String, Instr};
-ghost use Rattle.variables.specs.Strings.{produced};
-ghost use Rattle.functions.specs.Functions.{bytes, within, ranged, startsWith, placeOf, called};
-ghost use Rattle.functions.specs.Memory.{argumentLength, argumentWord, firstOf, secondOf, thirdOf, areThree, givenLength, valuesIn, Placed, MadeOf};
+ghost use Rattle.words.specs.declared.names.Kind.the-variants as kind;
+ghost use Rattle.words.specs.declared.symbols.Function.the-variants.{Asc, Instr};
+ghost use Rattle.grammar.specs.Functions.{gives};
 ghost use Rattle.variables.specs.Memory.{Made};
-use crate::arguments::Argument;
-use crate::arguments::Given;
-use crate::arguments::are_three;
-use crate::arguments::argument_length;
-use crate::arguments::argument_word;
-use crate::arguments::first_of;
-use crate::arguments::given_length;
-use crate::arguments::second_of;
-use crate::arguments::third_of;
-use space::Offset;
-use space::copy_in;
-use space::move_bytes;
+ghost use Rattle.strings.specs.Functions.{startsWith, placeOf, called};
+ghost use Rattle.strings.specs.Memory.{givenLength, valuesIn, Placed};
+ghost use Rattle.functions.specs.Memory.{NumberOf};
+use grammar::gives;
+use strings::Given;
+use strings::are_three;
+use strings::first_length;
+use strings::first_word;
+use strings::in_range;
+use strings::second_length;
+use strings::text_called;
+use strings::third_length;
 use variables::Worked;
 use variables::answered;
-use variables::has_room;
 use whole::Answer;
 use whole::Error;
-use whole::Text;
 use whole::absolute;
-use whole::hex_text;
 use whole::sign;
-use whole::str_text;
 use whole::val;
 use words::Function;
+use words::Kind;
 use words::Scanned;
-
-const LONGEST: u16 = 255;
-
-// Whether a word is in a function's range, which ends at 255.
-fn in_range(low: u16, word: u16) -> bool
-    ensures { λ r. ⌜ r ≡ within low 255 word ⌝ }
-{
-    low <= word && word <= LONGEST
-}
-
-// How many bytes of text the first argument has.
-fn first_length(given: Given) -> usize
-    ensures { λ r. ⌜ r ≡ argumentLength (firstOf given) ⌝ }
-{
-    argument_length(first_of(given))
-}
-
-// The first argument as a whole number; 0 where it is a text.
-fn first_word(given: Given) -> u16
-    ensures { λ r. ⌜ r ≡ argumentWord (firstOf given) ⌝ }
-{
-    argument_word(first_of(given))
-}
-
-// And the second.
-fn second_word(given: Given) -> u16
-    ensures { λ r. ⌜ r ≡ argumentWord (secondOf given) ⌝ }
-{
-    argument_word(second_of(given))
-}
-
-fn least(a: usize, b: usize) -> usize
-    ensures { λ r. ⌜ r ≡ min a b ⌝ }
-{
-    if a < b { a } else { b }
-}
-
-// A result of so many bytes asks for room while the arguments, and what was live before them, are live.
-fn grants(space: &[u8], used: usize, given: Given, len: usize) -> bool
-    requires { ⌜ Placed (now space) used given ⌝ }
-    ensures { λ r. ⌜ r ≡ leb (used + givenLength given + len) (length (now (space .entry))) ⌝ }
-{
-    has_room(space, used + given_length(given), len)
-}
-
-// A part of the first text, as far as it goes, moved down over it.
-fn part(
-    space: &mut [u8],
-    used: usize,
-    given: Given,
-    from: usize,
-    most: usize,
-    ahead: Scanned,
-) -> Worked
-    requires { ⌜ Placed (now space) used given × (most ≤ 255) ⌝ }
-    ensures { λ r. ⌜
-        MadeOf (λ vs. produced (take most (drop from (bytes vs 0))) vs) (now (space .entry)) used given ahead r (now (space .exit))
-        ⌝ }
-{
-    let all = first_length(given);
-    let start = least(from, all);
-    let len = least(most, all - start);
-    if !grants(space, used, given, len) {
-        return Worked::Fault(Error::OutOfStringSpace);
-    }
-    move_bytes(space, Offset(used + start), Offset(used), len);
-    Worked::Text(len, ahead)
-}
-
-// A text built in a buffer, copied in where the arguments stood.
-fn built(space: &mut [u8], used: usize, given: Given, text: Text, ahead: Scanned) -> Worked
-    requires { ⌜ Placed (now space) used given ⌝ }
-    ensures { λ r. ⌜
-        ((l : List ℕ) → text ≡ held l → MadeOf (produced l) (now (space .entry)) used given ahead r (now (space .exit)))
-        ⌝ }
-{
-    let len = text.len as usize;
-    if !grants(space, used, given, len) {
-        return Worked::Fault(Error::OutOfStringSpace);
-    }
-    let bytes = text.bytes;
-    copy_in(space, Offset(used), &bytes[..len]);
-    Worked::Text(len, ahead)
-}
-
-// So many of one byte, in a buffer.
-fn repeated(byte: u8, count: u16) -> Text
-    requires { ⌜ count ≤ 255 ⌝ }
-    ensures { λ r. ⌜ r ≡ held (replicate count byte) ⌝ }
-{
-    let mut text = Text::empty();
-    let mut i = 0;
-    while i < count {
-        text = text.put(byte);
-        i += 1;
-    }
-    text
-}
-
-// SPACE$, and what CHR$ and STRING$ come to: so many of one byte.
-fn filled(
-    space: &mut [u8],
-    used: usize,
-    given: Given,
-    count: u16,
-    byte: u8,
-    ahead: Scanned,
-) -> Worked
-    requires { ⌜ Placed (now space) used given ⌝ }
-    ensures { λ r. ⌜
-        MadeOf (λ vs room. ranged (within 0 255 count) room (produced (replicate count byte) vs room)) (now (space .entry)) used given ahead r
-        (now (space .exit))
-        ⌝ }
-{
-    if !in_range(0, count) {
-        return Worked::Fault(Error::IllegalFunctionCall);
-    }
-    built(space, used, given, repeated(byte, count), ahead)
-}
-
-// CHR$: the byte of a code.
-fn chr(space: &mut [u8], used: usize, given: Given, ahead: Scanned) -> Worked
-    requires { ⌜ Placed (now space) used given ⌝ }
-    ensures { λ r. ⌜ MadeOf (called Chr) (now (space .entry)) used given ahead r (now (space .exit)) ⌝ }
-{
-    let code = first_word(given);
-    if !in_range(0, code) {
-        return Worked::Fault(Error::IllegalFunctionCall);
-    }
-    filled(space, used, given, 1, code as u8, ahead)
-}
-
-// STRING$: so many of a code, or of a text's first byte.
-fn string(space: &mut [u8], used: usize, given: Given, ahead: Scanned) -> Worked
-    requires { ⌜ Placed (now space) used given ⌝ }
-    ensures { λ r. ⌜ MadeOf (called String) (now (space .entry)) used given ahead r (now (space .exit)) ⌝ }
-{
-    let count = first_word(given);
-    let second = second_of(given);
-    match second {
-        Argument::Whole(code) => {
-            if !in_range(0, code) {
-                return Worked::Fault(Error::IllegalFunctionCall);
-            }
-            filled(space, used, given, count, code as u8, ahead)
-        }
-        Argument::Text(len) => {
-            if len == 0 {
-                return Worked::Fault(Error::IllegalFunctionCall);
-            }
-            let byte = space[used + first_length(given)];
-            filled(space, used, given, count, byte, ahead)
-        }
-    }
-}
-
-// LEFT$: so many bytes at the front.
-fn left(space: &mut [u8], used: usize, given: Given, ahead: Scanned) -> Worked
-    requires { ⌜ Placed (now space) used given ⌝ }
-    ensures { λ r. ⌜ MadeOf (called Left) (now (space .entry)) used given ahead r (now (space .exit)) ⌝ }
-{
-    let n = second_word(given);
-    if !in_range(0, n) {
-        return Worked::Fault(Error::IllegalFunctionCall);
-    }
-    part(space, used, given, 0, n as usize, ahead)
-}
-
-// RIGHT$: so many bytes at the end.
-fn right(space: &mut [u8], used: usize, given: Given, ahead: Scanned) -> Worked
-    requires { ⌜ Placed (now space) used given ⌝ }
-    ensures { λ r. ⌜ MadeOf (called Right) (now (space .entry)) used given ahead r (now (space .exit)) ⌝ }
-{
-    let n = second_word(given);
-    if !in_range(0, n) {
-        return Worked::Fault(Error::IllegalFunctionCall);
-    }
-    let len = first_length(given);
-    let most = n as usize;
-    let kept = least(most, len);
-    part(space, used, given, len - kept, most, ahead)
-}
-
-// How many bytes MID$ takes at most: its third argument, or all.
-fn mid_length(given: Given) -> u16
-    ensures { λ r. ⌜ r ≡ cond (areThree given) (argumentWord (thirdOf given)) 255 ⌝ }
-{
-    if are_three(given) {
-        argument_word(third_of(given))
-    } else {
-        LONGEST
-    }
-}
-
-// MID$: the bytes from a place on, counted from 1.
-fn mid(space: &mut [u8], used: usize, given: Given, ahead: Scanned) -> Worked
-    requires { ⌜ Placed (now space) used given ⌝ }
-    ensures { λ r. ⌜ MadeOf (called Mid) (now (space .entry)) used given ahead r (now (space .exit)) ⌝ }
-{
-    let n = second_word(given);
-    if !in_range(1, n) {
-        return Worked::Fault(Error::IllegalFunctionCall);
-    }
-    let most = mid_length(given);
-    if !in_range(0, most) {
-        return Worked::Fault(Error::IllegalFunctionCall);
-    }
-    part(space, used, given, n as usize - 1, most as usize, ahead)
-}
 
 // Whether the text of `len` bytes at offset y stands at offset x too.
 fn stands_at(space: &[u8], x: usize, y: usize, len: usize) -> bool
@@ -288,32 +71,32 @@ fn place_of(space: &[u8], from: usize, start: u16, first: usize, second: usize) 
 }
 
 // INSTR: of two arguments from the first place on, of three from the place that the first one says.
-fn instr(space: &[u8], used: usize, given: Given, ahead: Scanned) -> Worked
+fn instr(space: &[u8], used: usize, given: Given) -> Answer
     requires { ⌜ Placed (now space) used given ⌝ }
-    ensures { λ r. ⌜ MadeOf (called Instr) (now (space .entry)) used given ahead r (now (space .entry)) ⌝ }
+    ensures { λ r. ⌜ NumberOf (called Instr) (now (space .entry)) used given r ⌝ }
 {
     let first = first_length(given);
-    let second = argument_length(second_of(given));
+    let second = second_length(given);
     if !are_three(given) {
-        return Worked::Whole(place_of(space, used, 1, first, second), ahead);
+        return Answer::Whole(place_of(space, used, 1, first, second));
     }
     let start = first_word(given);
     if !in_range(1, start) {
-        return Worked::Fault(Error::IllegalFunctionCall);
+        return Answer::Fault(Error::IllegalFunctionCall);
     }
-    let third = argument_length(third_of(given));
-    Worked::Whole(place_of(space, used + first, start, second, third), ahead)
+    let third = third_length(given);
+    Answer::Whole(place_of(space, used + first, start, second, third))
 }
 
 // ASC: the first byte's code.
-fn asc(space: &[u8], used: usize, given: Given, ahead: Scanned) -> Worked
+fn asc(space: &[u8], used: usize, given: Given) -> Answer
     requires { ⌜ Placed (now space) used given ⌝ }
-    ensures { λ r. ⌜ MadeOf (called Asc) (now (space .entry)) used given ahead r (now (space .entry)) ⌝ }
+    ensures { λ r. ⌜ NumberOf (called Asc) (now (space .entry)) used given r ⌝ }
 {
     if first_length(given) == 0 {
-        return Worked::Fault(Error::IllegalFunctionCall);
+        return Answer::Fault(Error::IllegalFunctionCall);
     }
-    Worked::Whole(space[used] as u16, ahead)
+    Answer::Whole(space[used] as u16)
 }
 
 // VAL: the number that a text begins with.
@@ -323,6 +106,25 @@ fn val_of(space: &[u8], used: usize, len: usize) -> Answer
 {
     let end = used + len;
     val(&space[used..end])
+}
+
+// A function that gives a number.
+fn number_called(function: Function, space: &[u8], used: usize, given: Given) -> Answer
+    requires { ⌜ Placed (now space) used given × (gives function ≡ kind.Whole) ⌝ }
+    ensures { λ r. ⌜ NumberOf (called function) (now (space .entry)) used given r ⌝ }
+{
+    let word = first_word(given);
+    let len = first_length(given);
+    match function {
+        Function::Len => Answer::Whole(len as u16),
+        Function::Asc => asc(space, used, given),
+        Function::Instr => instr(space, used, given),
+        Function::Val => val_of(space, used, len),
+        Function::Abs => absolute(word),
+        Function::Sgn => Answer::Whole(sign(word)),
+        // FRE: no other function gives a number.
+        _ => Answer::Whole((space.len() - used) as u16),
+    }
 }
 
 // A function whose arguments are all worked out.
@@ -339,23 +141,9 @@ pub fn called(
         (called function (valuesIn given (drop used (now (space .entry))))) ahead r (now (space .exit))
         ⌝ }
 {
-    let word = first_word(given);
-    let len = first_length(given);
-    match function {
-        Function::Len => Worked::Whole(len as u16, ahead),
-        Function::Asc => asc(space, used, given, ahead),
-        Function::Chr => chr(space, used, given, ahead),
-        Function::Left => left(space, used, given, ahead),
-        Function::Right => right(space, used, given, ahead),
-        Function::Mid => mid(space, used, given, ahead),
-        Function::Space => filled(space, used, given, word, b' ', ahead),
-        Function::String => string(space, used, given, ahead),
-        Function::Instr => instr(space, used, given, ahead),
-        Function::Str => built(space, used, given, str_text(word), ahead),
-        Function::Hex => built(space, used, given, hex_text(word), ahead),
-        Function::Val => answered(val_of(space, used, len), ahead),
-        Function::Abs => answered(absolute(word), ahead),
-        Function::Sgn => Worked::Whole(sign(word), ahead),
-        Function::Fre => Worked::Whole((space.len() - used) as u16, ahead),
+    let kind = gives(function);
+    match kind {
+        Kind::Text => text_called(function, space, used, given, ahead),
+        Kind::Whole => answered(number_called(function, space, used, given), ahead),
     }
 }

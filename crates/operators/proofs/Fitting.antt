@@ -16,7 +16,7 @@ use Rattle.words.specs.Spellings.{sameBytes}
 use Rattle.words.specs.declared.symbols.Scanned.{Scanned}
 use Rattle.words.proofs.Choices.{by-test}
 use Rattle.variables.specs.Strings.{Value, whole, text, Room, Outcome, value, fault, make, produced}
-use Rattle.functions.specs.Functions.{answered}
+use Rattle.strings.specs.Functions.{answered}
 use Rattle.operators.specs.Values.{isBefore, onTexts, joined}
 use Rattle.variables.specs.Memory.{textLength, Held, Agrees, GoesOn}
 use Rattle.operators.specs.Memory.{RightMet, SidesMet}

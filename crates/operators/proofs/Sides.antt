@@ -16,7 +16,7 @@ use Rattle.words.proofs.Choices.{by-test}
 use Rattle.words.specs.Spellings.{sameBytes}
 use Rattle.words.specs.declared.symbols.Scanned.{Scanned}
 use Rattle.variables.specs.Strings.{Value, Room, Outcome, whole, text, value, fault, then, make, letGo, letAllGo, produced}
-use Rattle.functions.specs.Functions.{answered}
+use Rattle.strings.specs.Functions.{answered}
 use Rattle.operators.specs.Values.{isBefore, joined, sides}
 use Rattle.variables.specs.Memory.{Agrees, Held, GoesOn, answeredAs, textLength}
 use Rattle.operators.specs.Memory.{RightMet, SidesMet, takesLeft, joinedLength, orderOf, isLessOrder, isSameOrder, isGreaterOrder}

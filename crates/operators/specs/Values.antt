@@ -42,7 +42,7 @@ use Rattle.grammar.specs.declared.functions.Want.{Want}
 use Rattle.grammar.specs.declared.functions.Want.the-variants as want
 use Rattle.variables.specs.Strings.{Value, whole, text, Room, Outcome, value, fault, then, make, letAllGo, produced}
 use Rattle.variables.specs.Variables.{Variables, wordOf, bytesOf}
-use Rattle.functions.specs.Functions.{answered, called}
+use Rattle.strings.specs.Functions.{answered, called}
 
 -- ---- types
 

@@ -11,6 +11,7 @@ pub mod Reader
 pub mod Checker
 pub mod Space
 pub mod Variables
+pub mod Strings
 pub mod Functions
 pub mod Operators
 pub mod Machine

@@ -25,7 +25,7 @@ use Rattle.statements.specs.Statements.{itemsAt, printAt, forAt, inputAt, begun
 use Rattle.statements.specs.Parts.{deepest, allSome, statementsOf, withinIf, deepestIn, allTyped}
 use Rattle.variables.specs.Strings.{make, letGo, letAllGo, produced}
 use Rattle.variables.specs.Variables.{wordOf, bytesOf, stringBytes, hasNumber, hasString, setNumber, setString, joinedStrings}
-use Rattle.functions.specs.Functions.{argument, startsWith, found, placeOf}
+use Rattle.strings.specs.Functions.{argument, startsWith, found, placeOf}
 use Rattle.operators.specs.Values.{isBefore, wantAt, valueOf, valuesOf}
 use Rattle.variables.specs.Memory.{namesFrom, namesIn, numbersIn, slotFrom, sumOf, emptyTables, nameBytes}
 use Rattle.machine.specs.Machine.{columnAfter, write, sought, passed}

@@ -20,7 +20,7 @@ use Rattle.grammar.specs.Formulas.{countOf}
 use Rattle.grammar.specs.declared.functions.Want.{Want}
 use Rattle.variables.specs.Strings.{Value, whole, text, Room, value, produced}
 use Rattle.variables.specs.Variables.{Variables, bytesOf, stringBytes}
-use Rattle.functions.specs.Functions.{called}
+use Rattle.strings.specs.Functions.{called}
 use Rattle.operators.specs.Values.{leftRight, taken, valueOf, valuesOf}
 use Rattle.machine.specs.Machine.{Machine, fresh, roomOf, withStep, noting, printed, write, commaBlanks}
 use Rattle.turns.specs.Steps.{shownValue, takeLine, isWholeKind, headOf}

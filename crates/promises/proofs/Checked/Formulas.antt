@@ -21,7 +21,7 @@ use Rattle.expressions.specs.declared.sorts.Sort.the-variants.{Whole, Text, Wro
 use Rattle.variables.specs.Strings as strings
 use Rattle.variables.specs.Strings.{Value, Room, Outcome, value, fault}
 use Rattle.variables.specs.Variables.{Variables, bytesOf}
-use Rattle.functions.specs.Functions.{called}
+use Rattle.strings.specs.Functions.{called}
 use Rattle.operators.specs.Values as values
 use Rattle.operators.specs.Values.{variableValue, wantAt, Taken, taken, stopped, tested, further, result, valueOf, valuesOf}
 use Rattle.promises.proofs.Checked.Operators.{Allowed, Fits, fault-fits, fit-answers, answered-fits, make-fits, sign-fits, sides-fit, called-fits}

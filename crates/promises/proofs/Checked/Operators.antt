@@ -41,7 +41,7 @@ use Rattle.expressions.specs.Types.{ofKind, wholeOnly, alike, compared, joinedS
 use Rattle.expressions.specs.declared.sorts.Sort.{Sort}
 use Rattle.expressions.specs.declared.sorts.Sort.the-variants.{Whole, Text, Wrong}
 use Rattle.variables.specs.Strings.{Value, whole, text, Room, Outcome, value, fault, then, make, letAllGo, produced}
-use Rattle.functions.specs.Functions.{argument, word, bytes, answered, within, ranged, fillRight, midLength, instrStart, called}
+use Rattle.strings.specs.Functions.{argument, word, bytes, answered, within, ranged, fillRight, midLength, instrStart, called}
 use Rattle.operators.specs.Values.{wholeThen, isBefore, onTexts, joined, wantsWhole, leftRight, sides}
 use Rattle.promises.specs.Passing.{spared}
 

@@ -22,7 +22,7 @@ use Rattle.grammar.specs.Formulas.{countOf}
 use Rattle.grammar.specs.declared.functions.Want.{Want}
 use Rattle.variables.specs.Strings.{Value, whole, text, Room, Outcome, value, fault, then, make, letAllGo, produced}
 use Rattle.variables.specs.Variables.{Variables, bytesOf}
-use Rattle.functions.specs.Functions.{answered, called}
+use Rattle.strings.specs.Functions.{answered, called}
 use Rattle.operators.specs.Values.{
   wholeThen,
   onTexts,

@@ -29,7 +29,7 @@ use Rattle.grammar.specs.Functions.{wants}
 use Rattle.grammar.specs.Formulas.{countOf}
 use Rattle.variables.specs.Strings.{Value, whole, text, Room, Outcome, value, fault, then, make, letGo, letAllGo, produced}
 use Rattle.variables.specs.Variables.{Variables, bytesOf}
-use Rattle.functions.specs.Functions.{
+use Rattle.strings.specs.Functions.{
   argument,
   word,
   bytes,

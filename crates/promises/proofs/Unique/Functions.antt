@@ -4,8 +4,5 @@ use Rattle.functions.proofs as functions
 use Rattle.promises.specs.Calls.{Unique}
 use Rattle.promises.proofs.Unique.{same}
 
-pub given-length : Unique functions.given_length.Kinds.ps functions.given_length.Kinds.r functions.given_length.Reads.Pre functions.given_length.Reads.Post
-given-length κs a p z z′ ws ws′ e e′ = (same e e′, refl)
-
 pub take-argument : Unique functions.take_argument.Kinds.ps functions.take_argument.Kinds.r functions.take_argument.Reads.Pre functions.take_argument.Reads.Post
 take-argument κs a p z z′ ws ws′ e e′ = (same e e′, refl)

@@ -22,7 +22,7 @@ use Rattle.grammar.specs.Formulas.{countOf}
 use Rattle.grammar.specs.declared.functions.Want.{Want}
 use Rattle.grammar.specs.declared.functions.Want.the-variants as want
 use Rattle.variables.specs.Strings.{Value, whole, text, Room, Outcome, value, fault, then}
-use Rattle.functions.specs.Functions.{called}
+use Rattle.strings.specs.Functions.{called}
 use Rattle.variables.specs.Variables.{StringVariable, Variables, wordOf, bytesOf, stringBytes, setString}
 use Rattle.operators.specs.Values.{wholeThen, isBefore, onTexts, joined, wantsWhole, leftRight, sides, Taken, taken, stopped, meets, wantAt, tested, further, result, variableValue, valueOf, valuesOf}
 use Rattle.promises.specs.Unfinished.{bytesHeld, stringsHeld, allBytes, allStrings, ByValue, ByValues, liveIsExact}

@@ -16,7 +16,7 @@ use Rattle.words.specs.declared.symbols.Function.{Function}
 use Rattle.words.specs.declared.symbols.Function.the-variants.{Len, Asc, Chr, Left, Right, Mid, Space, String, Instr, Str, Hex, Val, Abs, Sgn, Fre}
 use Rattle.words.proofs.Choices.{by-test}
 use Rattle.variables.specs.Strings.{Value, whole, text, Room, Outcome, value, fault, make, letGo, letAllGo, produced}
-use Rattle.functions.specs.Functions.{argument, word, bytes, answered, within, ranged, placeOf, fillRight, fillByte, midLength, instrStart, instrTexts, called}
+use Rattle.strings.specs.Functions.{argument, word, bytes, answered, within, ranged, placeOf, fillRight, fillByte, midLength, instrStart, instrTexts, called}
 use Rattle.promises.specs.Unfinished.{bytesHeld, stringsHeld, allBytes, allStrings, Grown}
 
 -- ---- letting go

@@ -59,7 +59,7 @@ use Rattle.formulas.proofs.Listing.{
   listing-lightens,
   listing-goes,
 }
-use Rattle.functions.proofs.given_length.Reads as given-length-reads
+use Rattle.strings.proofs.given_length.Reads as given-length-reads
 use Rattle.formulas.proofs.evaluating.has_third.Reads as has-third-reads
 use Rattle.functions.proofs.take_argument.Reads as take-argument-reads
 use Rattle.functions.proofs.called.Reads as called-reads

@@ -7,16 +7,14 @@ use Rattle.functions.proofs.functions.asc.Statement.{statement}
 use Rattle.functions.proofs.functions.asc.Tie as tie
 
 returns : tie.Need-returns
-returns c =
+returns c ahead =
     let s = c .before .before .before in
-    asc-refused (s .args .space .now) (s .args .used) (s .args .given) (s .pre) (s .args .ahead)
-    (sym (c .before .first-length .ensures) ∙ c .if1 .taken)
+    asc-refused (s .args .space .now) (s .args .used) (s .args .given) (s .pre) ahead (sym (c .before .first-length .ensures) ∙ c .if1 .taken)
 
 returns-2 : tie.Need-returns-2
-returns-2 c =
+returns-2 c ahead =
     let s = c .before .before .before .before in
-    asc-made (s .args .space .now) (s .args .used) (s .args .given) (s .pre) (s .args .ahead)
-    (omega (arith, c .before .before .first-length .ensures))
+    asc-made (s .args .space .now) (s .args .used) (s .args .given) (s .pre) ahead (omega (arith, c .before .before .first-length .ensures))
 
 pub asc-spec : {M : Type 1} → statement M
 asc-spec =

@@ -3,7 +3,7 @@ use mathlib.Core.Path.{_≡_}
 use Prim.Native.Nat.{_+_, _-_, _≤_}
 use native.Mathlib.Omega.{arith}
 use lib.ListN.{drop}
-use Rattle.functions.specs.Functions.{placeOf, found}
+use Rattle.strings.specs.Functions.{placeOf, found}
 use Rattle.functions.proofs.Finding.{First, Second, none-after, empty-at, begins-at, found-at, goes-on, none-left}
 use Rattle.functions.proofs.functions.place_of.Statement.{statement}
 use Rattle.functions.proofs.functions.place_of.Tie as tie

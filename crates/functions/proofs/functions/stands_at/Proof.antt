@@ -4,7 +4,7 @@ use Prim.Native.Nat.{_+_, _-_, _≤_}
 use native.Mathlib.Nat.{add-zero}
 use native.Mathlib.Omega.{arith}
 use lib.ListN.{take, drop}
-use Rattle.functions.specs.Functions.{startsWith}
+use Rattle.strings.specs.Functions.{startsWith}
 use Rattle.functions.proofs.Finding.{stands-next, stands-not, stands-all}
 use Rattle.functions.proofs.functions.stands_at.Statement.{statement}
 use Rattle.functions.proofs.functions.stands_at.Tie as tie

@@ -9,7 +9,7 @@ use Rattle.whole.specs.Whole.{say}
 use Rattle.whole.specs.declared.arithmetic.Answer.{Answer}
 use Rattle.words.specs.Spellings.{sameBytes}
 use Rattle.variables.specs.Strings.{text}
-use Rattle.functions.specs.Functions.{answered}
+use Rattle.strings.specs.Functions.{answered}
 use Rattle.operators.specs.Values.{isBefore}
 use Rattle.variables.specs.Memory.{answeredAs}
 use Rattle.operators.specs.Memory.{isLessOrder, isSameOrder, isGreaterOrder}

@@ -1,0 +1,4 @@
+pub mod Givens
+pub mod Produced
+pub mod Parts
+pub mod Calls
