@@ -1,15 +1,18 @@
 -- What an operator makes of both sides, over the space, agrees with the outcome that the definition gives: whole numbers, comparisons, and
 -- texts side by side.
 use mathlib.Core.Path.{_≡_, refl, sym, ap, _∙_}
-use mathlib.Core.Bool.{Bool, true, false, cond, false≢true}
+use mathlib.Core.Bool.{Bool, true, false, cond, not, false≢true}
 use mathlib.Core.List.{List, [], _∷_, _++_}
 use Prim.Native.Nat.{ℕ, _+_, _≤_}
 use native.Mathlib.Omega.{arith}
+use denote.Enum.Declared.{tagOf}
 use lib.Dec.{ltb}
 use lib.ListN.{length, take, drop, length-append}
 use lib.Seq.{take-add, drop-drop}
+use types.Run.{OneOf, miss}
 use Rattle.whole.specs.Whole.{say}
 use Rattle.whole.specs.declared.arithmetic.Operator.{Operator}
+use Rattle.whole.specs.declared.arithmetic.Operator.the-variants as operator
 use Rattle.whole.specs.declared.arithmetic.Answer.{Answer}
 use Rattle.whole.specs.declared.arithmetic.Answer.the-variants.{Whole, Fault}
 use Rattle.words.proofs.Choices.{by-test}
@@ -17,9 +20,9 @@ use Rattle.words.specs.Spellings.{sameBytes}
 use Rattle.words.specs.declared.symbols.Scanned.{Scanned}
 use Rattle.variables.specs.Strings.{Value, Room, Outcome, whole, text, value, fault, then, make, letGo, letAllGo, produced}
 use Rattle.strings.specs.Functions.{answered}
-use Rattle.operators.specs.Values.{isBefore, joined, sides}
+use Rattle.operators.specs.Values.{isBefore, onTexts, wantsWhole, joined, sides}
 use Rattle.variables.specs.Memory.{Agrees, Held, GoesOn, answeredAs, textLength}
-use Rattle.operators.specs.Memory.{RightMet, SidesMet, takesLeft, joinedLength, orderOf, isLessOrder, isSameOrder, isGreaterOrder}
+use Rattle.operators.specs.Memory.{RightMet, SidesMet, takesLeft, joinedLength, orderOf, isLessOrder, isSameOrder, isGreaterOrder, holdsIn}
 use Rattle.operators.specs.declared.operators.Order.{Order}
 use Rattle.variables.proofs.Lookups.{part-kept}
 use Rattle.variables.proofs.Bytewise.{part-length}
@@ -37,6 +40,58 @@ pub answer-gives : (x : Answer) (t : Scanned) (space : List ℕ) (used : ℕ) �
 unfolding letAllGo
 answer-gives (Whole w) t space used = (λ room h. (refl, h), refl)
 answer-gives (Fault e) t space used = (λ room h. refl, tt)
+
+-- ---- operators by their tags
+
+abbrev pub operatorTag : Operator → ℕ
+operatorTag op = tagOf Rattle.whole.proofs.arithmetic.Operator.the-type op
+
+-- all but `+`
+abbrev pub notAdd : List ℕ
+notAdd = 0 ∷ 1 ∷ 2 ∷ 4 ∷ 5 ∷ 6 ∷ 7 ∷ 8 ∷ 9 ∷ 10 ∷ 11 ∷ 12 ∷ 13 ∷ 14 ∷ 15 ∷ []
+
+-- all but `+` and the comparisons, and those with `+`
+abbrev notOnTexts : List ℕ
+notOnTexts = 0 ∷ 1 ∷ 2 ∷ 4 ∷ 11 ∷ 12 ∷ 13 ∷ 14 ∷ 15 ∷ []
+
+abbrev notComparing : List ℕ
+notComparing = 0 ∷ 1 ∷ 2 ∷ 3 ∷ 4 ∷ 11 ∷ 12 ∷ 13 ∷ 14 ∷ 15 ∷ []
+
+pub wanted-whole : (op : Operator) → OneOf notOnTexts (operatorTag op) → wantsWhole op ≡ true
+wanted-whole operator.Multiply h = refl
+wanted-whole operator.Divide h = refl
+wanted-whole operator.Modulo h = refl
+wanted-whole operator.Add h = absurd (miss notOnTexts 3 tt h)
+wanted-whole operator.Subtract h = refl
+wanted-whole operator.Equal h = absurd (miss notOnTexts 5 tt h)
+wanted-whole operator.Unequal h = absurd (miss notOnTexts 6 tt h)
+wanted-whole operator.Less h = absurd (miss notOnTexts 7 tt h)
+wanted-whole operator.Greater h = absurd (miss notOnTexts 8 tt h)
+wanted-whole operator.AtMost h = absurd (miss notOnTexts 9 tt h)
+wanted-whole operator.AtLeast h = absurd (miss notOnTexts 10 tt h)
+wanted-whole operator.And h = refl
+wanted-whole operator.Or h = refl
+wanted-whole operator.Xor h = refl
+wanted-whole operator.Eqv h = refl
+wanted-whole operator.Imp h = refl
+
+pub holds-not : (op : Operator) (o : Order) → OneOf notComparing (operatorTag op) → holdsIn op o ≡ false
+holds-not operator.Multiply o h = refl
+holds-not operator.Divide o h = refl
+holds-not operator.Modulo o h = refl
+holds-not operator.Add o h = refl
+holds-not operator.Subtract o h = refl
+holds-not operator.Equal o h = absurd (miss notComparing 5 tt h)
+holds-not operator.Unequal o h = absurd (miss notComparing 6 tt h)
+holds-not operator.Less o h = absurd (miss notComparing 7 tt h)
+holds-not operator.Greater o h = absurd (miss notComparing 8 tt h)
+holds-not operator.AtMost o h = absurd (miss notComparing 9 tt h)
+holds-not operator.AtLeast o h = absurd (miss notComparing 10 tt h)
+holds-not operator.And o h = refl
+holds-not operator.Or o h = refl
+holds-not operator.Xor o h = refl
+holds-not operator.Eqv o h = refl
+holds-not operator.Imp o h = refl
 
 -- ---- two texts
 
@@ -104,12 +159,52 @@ module _ (space : List ℕ) (used m n : ℕ) where
         → Gives r t space used (used + m + n) (answered (say y) (text A ∷ text B ∷ []))
     beside-said {y = y} e f g = rw (e, f, g) (rw (length-A, length-B) at (said-gives space used A B t y))
 
+    -- and of a comparison, which is any operator that wants no whole numbers but `+`
+    pub beside-compared : (op : Operator) → wantsWhole op ≡ false → OneOf notAdd (operatorTag op) → {r : Worked} {answer : Answer} {x : Bool} {o : Order}
+        → r ≡ answeredAs answer t → answer ≡ say x → x ≡ holdsIn op o → o ≡ orderOf A B → Gives r t space used (used + m + n) (onTexts op A B)
+    beside-compared operator.Multiply w l e f g k = absurd (false≢true (sym w))
+    beside-compared operator.Divide w l e f g k = absurd (false≢true (sym w))
+    beside-compared operator.Modulo w l e f g k = absurd (false≢true (sym w))
+    beside-compared operator.Add w l e f g k = absurd (miss notAdd 3 tt l)
+    beside-compared operator.Subtract w l e f g k = absurd (false≢true (sym w))
+    beside-compared operator.Equal w l e f g k = beside-said e f (beside-same k g)
+    beside-compared operator.Unequal w l e f g k = beside-said e f (g ∙ ap not (beside-same k refl))
+    beside-compared operator.Less w l e f g k = beside-said e f (beside-less k g)
+    beside-compared operator.Greater w l e f g k = beside-said e f (beside-greater k g)
+    beside-compared operator.AtMost w l e f g k = beside-said e f (g ∙ ap not (beside-greater k refl))
+    beside-compared operator.AtLeast w l e f g k = beside-said e f (g ∙ ap not (beside-less k refl))
+    beside-compared operator.And w l e f g k = absurd (false≢true (sym w))
+    beside-compared operator.Or w l e f g k = absurd (false≢true (sym w))
+    beside-compared operator.Xor w l e f g k = absurd (false≢true (sym w))
+    beside-compared operator.Eqv w l e f g k = absurd (false≢true (sym w))
+    beside-compared operator.Imp w l e f g k = absurd (false≢true (sym w))
+
     -- they are joined already
     side-by-side : take (length A + length B) (drop used space) ≡ A ++ B
     side-by-side = rw (length-A, length-B) (take-add m n (drop used space) ∙ rw (drop-drop m used space))
 
     pub beside-joined : Gives (joinedLength (length space) used m n t) t space used (used + m + n) (produced (A ++ B) (text A ∷ text B ∷ []))
     beside-joined = rw (length-A, length-B) at (join-gives space used A B t side-by-side)
+
+-- no other operator takes texts
+pub texts-refused : (op : Operator) (a b : List ℕ) (t : Scanned) (space : List ℕ) (used live : ℕ) → wantsWhole op ≡ true
+    → Gives (worked.Fault TypeMismatch) t space used live (onTexts op a b)
+texts-refused operator.Multiply a b t space used live w = (λ room h. refl, tt)
+texts-refused operator.Divide a b t space used live w = (λ room h. refl, tt)
+texts-refused operator.Modulo a b t space used live w = (λ room h. refl, tt)
+texts-refused operator.Add a b t space used live w = absurd (false≢true w)
+texts-refused operator.Subtract a b t space used live w = (λ room h. refl, tt)
+texts-refused operator.Equal a b t space used live w = absurd (false≢true w)
+texts-refused operator.Unequal a b t space used live w = absurd (false≢true w)
+texts-refused operator.Less a b t space used live w = absurd (false≢true w)
+texts-refused operator.Greater a b t space used live w = absurd (false≢true w)
+texts-refused operator.AtMost a b t space used live w = absurd (false≢true w)
+texts-refused operator.AtLeast a b t space used live w = absurd (false≢true w)
+texts-refused operator.And a b t space used live w = (λ room h. refl, tt)
+texts-refused operator.Or a b t space used live w = (λ room h. refl, tt)
+texts-refused operator.Xor a b t space used live w = (λ room h. refl, tt)
+texts-refused operator.Eqv a b t space used live w = (λ room h. refl, tt)
+texts-refused operator.Imp a b t space used live w = (λ room h. refl, tt)
 
 -- ---- both sides of an operator
 

@@ -7,6 +7,7 @@ use lib.Dec.{ltb}
 use lib.ListN.{take, drop}
 use Rattle.variables.specs.Strings.{Value, whole, text, Room}
 use Rattle.whole.specs.declared.arithmetic.Operator.{Operator}
+use Rattle.whole.specs.declared.arithmetic.Operator.the-variants as operator
 use Rattle.whole.specs.declared.errors.Error.the-variants.{StringTooLong, OutOfStringSpace}
 use Rattle.words.specs.declared.symbols.Scanned.{Scanned}
 use Rattle.words.specs.declared.places.Place.{Place}
@@ -41,6 +42,25 @@ abbrev pub isGreaterOrder : Order → Bool
 isGreaterOrder order.Less = false
 isGreaterOrder order.Same = false
 isGreaterOrder order.Greater = true
+
+-- whether a comparison holds of two texts in an order
+abbrev pub holdsIn : Operator → Order → Bool
+holdsIn operator.Multiply o = false
+holdsIn operator.Divide o = false
+holdsIn operator.Modulo o = false
+holdsIn operator.Add o = false
+holdsIn operator.Subtract o = false
+holdsIn operator.Equal o = isSameOrder o
+holdsIn operator.Unequal o = not (isSameOrder o)
+holdsIn operator.Less o = isLessOrder o
+holdsIn operator.Greater o = isGreaterOrder o
+holdsIn operator.AtMost o = not (isGreaterOrder o)
+holdsIn operator.AtLeast o = not (isLessOrder o)
+holdsIn operator.And o = false
+holdsIn operator.Or o = false
+holdsIn operator.Xor o = false
+holdsIn operator.Eqv o = false
+holdsIn operator.Imp o = false
 
 -- ---- what small functions make
 

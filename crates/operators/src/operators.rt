@@ -5,7 +5,7 @@ ghost use lib.ListN.{length, take, drop};
 ghost use Rattle.whole.specs.Whole.{say};
 ghost use Rattle.variables.specs.Strings.{Room};
 ghost use Rattle.operators.specs.Values.{wantsWhole, onTexts};
-ghost use Rattle.operators.specs.Memory.{orderOf, isLessOrder, isSameOrder, isGreaterOrder, takesLeft, joinedLength, turnAs, turnBefore, SidesMet};
+ghost use Rattle.operators.specs.Memory.{orderOf, isLessOrder, isSameOrder, isGreaterOrder, holdsIn, takesLeft, joinedLength, turnAs, turnBefore, SidesMet};
 ghost use Rattle.variables.specs.Memory.{textLength, Agrees, Held, GoesOn};
 use grammar::OperatorFound;
 use grammar::tight_operator;
@@ -102,54 +102,18 @@ fn is_greater(order: Order) -> bool
     }
 }
 
-// Two texts side by side are already joined; only room is asked for, while both are live.
-fn join(space: &[u8], used: usize, first: usize, second: usize, ahead: Scanned) -> Worked
-    requires { ⌜ used + first + second ≤ length (now space) ⌝ }
-    ensures { λ r. ⌜ r ≡ joinedLength (length (now (space .entry))) used first second ahead ⌝ }
+// Whether a comparison holds of two texts in an order; no other operator does.
+fn holds(operator: Operator, order: Order) -> bool
+    ensures { λ r. ⌜ r ≡ holdsIn operator order ⌝ }
 {
-    let len = first + second;
-    if LONGEST < len {
-        return Worked::Fault(Error::StringTooLong);
-    }
-    if !has_room(space, used + len, len) {
-        return Worked::Fault(Error::OutOfStringSpace);
-    }
-    Worked::Text(len, ahead)
-}
-
-fn on_texts(
-    operator: Operator,
-    space: &[u8],
-    used: usize,
-    first: usize,
-    second: usize,
-    ahead: Scanned,
-) -> Worked
-    requires { ⌜ used + first + second ≤ length (now space) ⌝ }
-    ensures { λ r. ⌜
-        ((room : Room) → Held room (now (space .entry)) (used + first + second)
-        → Agrees r (now (space .entry)) used (onTexts operator (take first (drop used (now (space .entry)))) (take second (drop (used + first) (now (space .entry)))) room))
-        × GoesOn r ahead
-        ⌝ }
-{
-    let order = compare(space, used, first, second);
     match operator {
-        Operator::Add => join(space, used, first, second, ahead),
-        Operator::Equal => answered(truth(is_same(order)), ahead),
-        Operator::Unequal => answered(truth(!is_same(order)), ahead),
-        Operator::Less => answered(truth(is_less(order)), ahead),
-        Operator::Greater => answered(truth(is_greater(order)), ahead),
-        Operator::AtMost => answered(truth(!is_greater(order)), ahead),
-        Operator::AtLeast => answered(truth(!is_less(order)), ahead),
-        Operator::Multiply => Worked::Fault(Error::TypeMismatch),
-        Operator::Divide => Worked::Fault(Error::TypeMismatch),
-        Operator::Modulo => Worked::Fault(Error::TypeMismatch),
-        Operator::Subtract => Worked::Fault(Error::TypeMismatch),
-        Operator::And => Worked::Fault(Error::TypeMismatch),
-        Operator::Or => Worked::Fault(Error::TypeMismatch),
-        Operator::Xor => Worked::Fault(Error::TypeMismatch),
-        Operator::Eqv => Worked::Fault(Error::TypeMismatch),
-        Operator::Imp => Worked::Fault(Error::TypeMismatch),
+        Operator::Equal => is_same(order),
+        Operator::Unequal => !is_same(order),
+        Operator::Less => is_less(order),
+        Operator::Greater => is_greater(order),
+        Operator::AtMost => !is_greater(order),
+        Operator::AtLeast => !is_less(order),
+        _ => false,
     }
 }
 
@@ -165,15 +129,50 @@ fn wants_whole(operator: Operator) -> bool
         Operator::Greater => false,
         Operator::AtMost => false,
         Operator::AtLeast => false,
-        Operator::Multiply => true,
-        Operator::Divide => true,
-        Operator::Modulo => true,
-        Operator::Subtract => true,
-        Operator::And => true,
-        Operator::Or => true,
-        Operator::Xor => true,
-        Operator::Eqv => true,
-        Operator::Imp => true,
+        _ => true,
+    }
+}
+
+// Two texts side by side are already joined; only room is asked for, while both are live.
+fn join(space: &[u8], used: usize, first: usize, second: usize, ahead: Scanned) -> Worked
+    requires { ⌜ used + first + second ≤ length (now space) ⌝ }
+    ensures { λ r. ⌜ r ≡ joinedLength (length (now (space .entry))) used first second ahead ⌝ }
+{
+    let len = first + second;
+    if LONGEST < len {
+        return Worked::Fault(Error::StringTooLong);
+    }
+    if !has_room(space, used + len, len) {
+        return Worked::Fault(Error::OutOfStringSpace);
+    }
+    Worked::Text(len, ahead)
+}
+
+// `+` joins two texts, and a comparison says how they compare; no other operator takes texts.
+fn on_texts(
+    operator: Operator,
+    space: &[u8],
+    used: usize,
+    first: usize,
+    second: usize,
+    ahead: Scanned,
+) -> Worked
+    requires { ⌜ used + first + second ≤ length (now space) ⌝ }
+    ensures { λ r. ⌜
+        ((room : Room) → Held room (now (space .entry)) (used + first + second)
+        → Agrees r (now (space .entry)) used (onTexts operator (take first (drop used (now (space .entry)))) (take second (drop (used + first) (now (space .entry)))) room))
+        × GoesOn r ahead
+        ⌝ }
+{
+    if wants_whole(operator) {
+        return Worked::Fault(Error::TypeMismatch);
+    }
+    match operator {
+        Operator::Add => join(space, used, first, second, ahead),
+        _ => answered(
+            truth(holds(operator, compare(space, used, first, second))),
+            ahead,
+        ),
     }
 }
 
@@ -220,14 +219,14 @@ pub fn joined(operator: Operator, left: Worked, right: Worked, space: &[u8], use
     ensures { λ r. ⌜ SidesMet operator left right (now (space .entry)) used r ⌝ }
 {
     match left {
-        Worked::Fault(error) => Worked::Fault(error),
+        Worked::Fault(_) => left,
         Worked::Whole(a, _) => match right {
-            Worked::Fault(error) => Worked::Fault(error),
+            Worked::Fault(_) => right,
             Worked::Whole(b, ahead) => answered(apply(operator, a, b), ahead),
             Worked::Text(_, _) => Worked::Fault(Error::TypeMismatch),
         },
         Worked::Text(first, _) => match right {
-            Worked::Fault(error) => Worked::Fault(error),
+            Worked::Fault(_) => right,
             Worked::Whole(_, _) => Worked::Fault(Error::TypeMismatch),
             Worked::Text(second, ahead) => on_texts(operator, space, used, first, second, ahead),
         },
