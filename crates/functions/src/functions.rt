@@ -8,10 +8,11 @@ ghost use Rattle.words.specs.declared.symbols.Function.the-variants.{Asc, Instr
 ghost use Rattle.grammar.specs.Functions.{gives};
 ghost use Rattle.variables.specs.Memory.{Made};
 ghost use Rattle.strings.specs.Functions.{startsWith, placeOf, called};
-ghost use Rattle.strings.specs.Memory.{givenLength, valuesIn, Placed};
+ghost use Rattle.strings.specs.Memory.{givenLength, valuesIn, Placed, repliedAs};
 ghost use Rattle.functions.specs.Memory.{NumberOf};
 use grammar::gives;
 use strings::Given;
+use strings::Reply;
 use strings::are_three;
 use strings::first_length;
 use strings::first_word;
@@ -122,8 +123,18 @@ fn number_called(function: Function, space: &[u8], used: usize, given: Given) ->
         Function::Val => val_of(space, used, len),
         Function::Abs => absolute(word),
         Function::Sgn => Answer::Whole(sign(word)),
-        // FRE: no other function gives a number.
+        // What is left is FRE.
         _ => Answer::Whole((space.len() - used) as u16),
+    }
+}
+
+// A text or its error, and the token that follows.
+fn replied(reply: Reply, ahead: Scanned) -> Worked
+    ensures { λ r. ⌜ r ≡ repliedAs reply ahead ⌝ }
+{
+    match reply {
+        Reply::Text(len) => Worked::Text(len, ahead),
+        Reply::Fault(error) => Worked::Fault(error),
     }
 }
 
@@ -143,7 +154,7 @@ pub fn called(
 {
     let kind = gives(function);
     match kind {
-        Kind::Text => text_called(function, space, used, given, ahead),
+        Kind::Text => replied(text_called(function, space, used, given), ahead),
         Kind::Whole => answered(number_called(function, space, used, given), ahead),
     }
 }

@@ -1,11 +1,12 @@
 // The two-sided operators over values: the texts of both sides stand side by side in the space, the left one from `used` on.
 ghost use mathlib.Core.Path.{_≡_};
-ghost use Prim.Native.Nat.{_+_, _≤_};
+ghost use mathlib.Core.List.{List};
+ghost use Prim.Native.Nat.{ℕ, _+_, _≤_};
 ghost use lib.ListN.{length, take, drop};
 ghost use Rattle.whole.specs.Whole.{say};
-ghost use Rattle.variables.specs.Strings.{Room};
+ghost use Rattle.variables.specs.Strings.{Room, whole, text};
 ghost use Rattle.operators.specs.Values.{wantsWhole, onTexts};
-ghost use Rattle.operators.specs.Memory.{orderOf, isLessOrder, isSameOrder, isGreaterOrder, holdsIn, takesLeft, joinedLength, turnAs, turnBefore, SidesMet};
+ghost use Rattle.operators.specs.Memory.{orderOf, isLessOrder, isSameOrder, isGreaterOrder, holdsIn, takesLeft, joinedLength, turnAs, turnBefore, RightMet, SidesMet};
 ghost use Rattle.variables.specs.Memory.{textLength, Agrees, Held, GoesOn};
 use grammar::OperatorFound;
 use grammar::tight_operator;
@@ -213,6 +214,31 @@ fn turn_before(level: u8, left: Worked, ahead: Scanned) -> Turn
     }
 }
 
+// A whole number on the left: the right side's answer, if it is an error, or what the operator makes of both.
+fn beside_whole(operator: Operator, a: u16, right: Worked) -> Worked
+    ensures { λ r. ⌜ ((space : List ℕ) (used : ℕ) → RightMet operator (whole a) used right space used r) ⌝ }
+{
+    match right {
+        Worked::Fault(_) => right,
+        Worked::Whole(b, ahead) => answered(apply(operator, a, b), ahead),
+        Worked::Text(_, _) => Worked::Fault(Error::TypeMismatch),
+    }
+}
+
+// The same of a text on the left.
+fn beside_text(operator: Operator, first: usize, right: Worked, space: &[u8], used: usize) -> Worked
+    requires { ⌜ used + first + textLength right ≤ length (now space) ⌝ }
+    ensures { λ r. ⌜
+        RightMet operator (text (take first (drop used (now (space .entry))))) (used + first) right (now (space .entry)) used r
+        ⌝ }
+{
+    match right {
+        Worked::Fault(_) => right,
+        Worked::Whole(_, _) => Worked::Fault(Error::TypeMismatch),
+        Worked::Text(second, ahead) => on_texts(operator, space, used, first, second, ahead),
+    }
+}
+
 // Both sides' answers: the first error stands, and the right value must be of the left one's type.
 pub fn joined(operator: Operator, left: Worked, right: Worked, space: &[u8], used: usize) -> Worked
     requires { ⌜ used + textLength left + textLength right ≤ length (now space) ⌝ }
@@ -220,15 +246,7 @@ pub fn joined(operator: Operator, left: Worked, right: Worked, space: &[u8], use
 {
     match left {
         Worked::Fault(_) => left,
-        Worked::Whole(a, _) => match right {
-            Worked::Fault(_) => right,
-            Worked::Whole(b, ahead) => answered(apply(operator, a, b), ahead),
-            Worked::Text(_, _) => Worked::Fault(Error::TypeMismatch),
-        },
-        Worked::Text(first, _) => match right {
-            Worked::Fault(_) => right,
-            Worked::Whole(_, _) => Worked::Fault(Error::TypeMismatch),
-            Worked::Text(second, ahead) => on_texts(operator, space, used, first, second, ahead),
-        },
+        Worked::Whole(a, _) => beside_whole(operator, a, right),
+        Worked::Text(first, _) => beside_text(operator, first, right, space, used),
     }
 }

@@ -7,10 +7,13 @@ use Rattle.words.specs.declared.symbols.Scanned.{Scanned}
 use Rattle.variables.specs.Memory.{Made}
 use Rattle.variables.specs.Strings.{Value, whole, text, Room, Outcome}
 use Rattle.variables.specs.declared.values.Worked.{Worked}
+use Rattle.variables.specs.declared.values.Worked.the-variants as worked
 use Rattle.strings.specs.declared.arguments.Argument.{Argument}
 use Rattle.strings.specs.declared.arguments.Argument.the-variants as argument
 use Rattle.strings.specs.declared.arguments.Given.{Given}
 use Rattle.strings.specs.declared.arguments.Given.the-variants as given
+use Rattle.strings.specs.declared.strings.Reply.{Reply}
+use Rattle.strings.specs.declared.strings.Reply.the-variants as reply
 
 -- ---- arguments, whose texts stand side by side
 
@@ -72,3 +75,12 @@ pub record Placed (space : List ℕ) (used : ℕ) (g : Given) : Type 0 where
 abbrev pub MadeOf : (List Value → Room → Outcome) → List ℕ → ℕ → Given → Scanned → Worked → List ℕ → Type 0
 MadeOf outcome before used g ahead r after =
     Made before used (used + givenLength g) (outcome (valuesIn g (drop used before))) ahead r after
+
+-- ---- a text, whatever token follows
+
+abbrev pub repliedAs : Reply → Scanned → Worked
+repliedAs (reply.Text n) t = worked.Text n t
+repliedAs (reply.Fault e) t = worked.Fault e
+
+abbrev pub TextOf : (List Value → Room → Outcome) → List ℕ → ℕ → Given → Reply → List ℕ → Type 0
+TextOf outcome before used g r after = (ahead : Scanned) → MadeOf outcome before used g ahead (repliedAs r ahead) after

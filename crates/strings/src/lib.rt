@@ -11,4 +11,5 @@ pub use arguments::given_length;
 pub use arguments::in_range;
 pub use arguments::second_length;
 pub use arguments::third_length;
+pub use strings::Reply;
 pub use strings::text_called;

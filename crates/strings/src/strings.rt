@@ -11,7 +11,7 @@ ghost use Rattle.words.specs.declared.symbols.Function.the-variants.{Chr, Left,
 ghost use Rattle.grammar.specs.Functions.{gives};
 ghost use Rattle.variables.specs.Strings.{produced};
 ghost use Rattle.strings.specs.Functions.{bytes, within, ranged, called};
-ghost use Rattle.strings.specs.Memory.{argumentLength, argumentWord, firstOf, secondOf, thirdOf, areThree, givenLength, Placed, MadeOf};
+ghost use Rattle.strings.specs.Memory.{argumentLength, argumentWord, firstOf, secondOf, thirdOf, areThree, givenLength, Placed, TextOf};
 use crate::arguments::Argument;
 use crate::arguments::Given;
 use crate::arguments::are_three;
@@ -25,14 +25,18 @@ use crate::arguments::third_word;
 use space::Offset;
 use space::copy_in;
 use space::move_bytes;
-use variables::Worked;
 use variables::has_room;
 use whole::Error;
 use whole::Text;
 use whole::hex_text;
 use whole::str_text;
 use words::Function;
-use words::Scanned;
+
+// What a function that gives a text leads to, whatever token follows: a text of so many bytes, or an error.
+pub enum Reply {
+    Text(usize),
+    Fault(Error),
+}
 
 const LONGEST: u16 = 255;
 
@@ -51,43 +55,36 @@ fn grants(space: &[u8], used: usize, given: Given, len: usize) -> bool
 }
 
 // A part of the first text, as far as it goes, moved down over it.
-fn part(
-    space: &mut [u8],
-    used: usize,
-    given: Given,
-    from: usize,
-    most: usize,
-    ahead: Scanned,
-) -> Worked
+fn part(space: &mut [u8], used: usize, given: Given, from: usize, most: usize) -> Reply
     requires { ⌜ Placed (now space) used given × (most ≤ 255) ⌝ }
     ensures { λ r. ⌜
-        MadeOf (λ vs. produced (take most (drop from (bytes vs 0))) vs) (now (space .entry)) used given ahead r (now (space .exit))
+        TextOf (λ vs. produced (take most (drop from (bytes vs 0))) vs) (now (space .entry)) used given r (now (space .exit))
         ⌝ }
 {
     let all = first_length(given);
     let start = least(from, all);
     let len = least(most, all - start);
     if !grants(space, used, given, len) {
-        return Worked::Fault(Error::OutOfStringSpace);
+        return Reply::Fault(Error::OutOfStringSpace);
     }
     move_bytes(space, Offset(used + start), Offset(used), len);
-    Worked::Text(len, ahead)
+    Reply::Text(len)
 }
 
 // A text built in a buffer, copied in where the arguments stood.
-fn built(space: &mut [u8], used: usize, given: Given, text: Text, ahead: Scanned) -> Worked
+fn built(space: &mut [u8], used: usize, given: Given, text: Text) -> Reply
     requires { ⌜ Placed (now space) used given ⌝ }
     ensures { λ r. ⌜
-        ((l : List ℕ) → text ≡ held l → MadeOf (produced l) (now (space .entry)) used given ahead r (now (space .exit)))
+        ((l : List ℕ) → text ≡ held l → TextOf (produced l) (now (space .entry)) used given r (now (space .exit)))
         ⌝ }
 {
     let len = text.len as usize;
     if !grants(space, used, given, len) {
-        return Worked::Fault(Error::OutOfStringSpace);
+        return Reply::Fault(Error::OutOfStringSpace);
     }
     let bytes = text.bytes;
     copy_in(space, Offset(used), &bytes[..len]);
-    Worked::Text(len, ahead)
+    Reply::Text(len)
 }
 
 // So many of one byte, in a buffer.
@@ -105,87 +102,80 @@ fn repeated(byte: u8, count: u16) -> Text
 }
 
 // SPACE$, and what CHR$ and STRING$ come to: so many of one byte.
-fn filled(
-    space: &mut [u8],
-    used: usize,
-    given: Given,
-    count: u16,
-    byte: u8,
-    ahead: Scanned,
-) -> Worked
+fn filled(space: &mut [u8], used: usize, given: Given, count: u16, byte: u8) -> Reply
     requires { ⌜ Placed (now space) used given ⌝ }
     ensures { λ r. ⌜
-        MadeOf (λ vs room. ranged (within 0 255 count) room (produced (replicate count byte) vs room)) (now (space .entry)) used given ahead r
+        TextOf (λ vs room. ranged (within 0 255 count) room (produced (replicate count byte) vs room)) (now (space .entry)) used given r
         (now (space .exit))
         ⌝ }
 {
     if !in_range(0, count) {
-        return Worked::Fault(Error::IllegalFunctionCall);
+        return Reply::Fault(Error::IllegalFunctionCall);
     }
-    built(space, used, given, repeated(byte, count), ahead)
+    built(space, used, given, repeated(byte, count))
 }
 
 // CHR$: the byte of a code.
-fn chr(space: &mut [u8], used: usize, given: Given, ahead: Scanned) -> Worked
+fn chr(space: &mut [u8], used: usize, given: Given) -> Reply
     requires { ⌜ Placed (now space) used given ⌝ }
-    ensures { λ r. ⌜ MadeOf (called Chr) (now (space .entry)) used given ahead r (now (space .exit)) ⌝ }
+    ensures { λ r. ⌜ TextOf (called Chr) (now (space .entry)) used given r (now (space .exit)) ⌝ }
 {
     let code = first_word(given);
     if !in_range(0, code) {
-        return Worked::Fault(Error::IllegalFunctionCall);
+        return Reply::Fault(Error::IllegalFunctionCall);
     }
-    filled(space, used, given, 1, code as u8, ahead)
+    filled(space, used, given, 1, code as u8)
 }
 
 // STRING$: so many of a code, or of a text's first byte.
-fn string(space: &mut [u8], used: usize, given: Given, ahead: Scanned) -> Worked
+fn string(space: &mut [u8], used: usize, given: Given) -> Reply
     requires { ⌜ Placed (now space) used given ⌝ }
-    ensures { λ r. ⌜ MadeOf (called String) (now (space .entry)) used given ahead r (now (space .exit)) ⌝ }
+    ensures { λ r. ⌜ TextOf (called String) (now (space .entry)) used given r (now (space .exit)) ⌝ }
 {
     let count = first_word(given);
     let second = second_of(given);
     match second {
         Argument::Whole(code) => {
             if !in_range(0, code) {
-                return Worked::Fault(Error::IllegalFunctionCall);
+                return Reply::Fault(Error::IllegalFunctionCall);
             }
-            filled(space, used, given, count, code as u8, ahead)
+            filled(space, used, given, count, code as u8)
         }
         Argument::Text(len) => {
             if len == 0 {
-                return Worked::Fault(Error::IllegalFunctionCall);
+                return Reply::Fault(Error::IllegalFunctionCall);
             }
             let byte = space[used + first_length(given)];
-            filled(space, used, given, count, byte, ahead)
+            filled(space, used, given, count, byte)
         }
     }
 }
 
 // LEFT$: so many bytes at the front.
-fn left(space: &mut [u8], used: usize, given: Given, ahead: Scanned) -> Worked
+fn left(space: &mut [u8], used: usize, given: Given) -> Reply
     requires { ⌜ Placed (now space) used given ⌝ }
-    ensures { λ r. ⌜ MadeOf (called Left) (now (space .entry)) used given ahead r (now (space .exit)) ⌝ }
+    ensures { λ r. ⌜ TextOf (called Left) (now (space .entry)) used given r (now (space .exit)) ⌝ }
 {
     let n = second_word(given);
     if !in_range(0, n) {
-        return Worked::Fault(Error::IllegalFunctionCall);
+        return Reply::Fault(Error::IllegalFunctionCall);
     }
-    part(space, used, given, 0, n as usize, ahead)
+    part(space, used, given, 0, n as usize)
 }
 
 // RIGHT$: so many bytes at the end.
-fn right(space: &mut [u8], used: usize, given: Given, ahead: Scanned) -> Worked
+fn right(space: &mut [u8], used: usize, given: Given) -> Reply
     requires { ⌜ Placed (now space) used given ⌝ }
-    ensures { λ r. ⌜ MadeOf (called Right) (now (space .entry)) used given ahead r (now (space .exit)) ⌝ }
+    ensures { λ r. ⌜ TextOf (called Right) (now (space .entry)) used given r (now (space .exit)) ⌝ }
 {
     let n = second_word(given);
     if !in_range(0, n) {
-        return Worked::Fault(Error::IllegalFunctionCall);
+        return Reply::Fault(Error::IllegalFunctionCall);
     }
     let len = first_length(given);
     let most = n as usize;
     let kept = least(most, len);
-    part(space, used, given, len - kept, most, ahead)
+    part(space, used, given, len - kept, most)
 }
 
 // How many bytes MID$ takes at most: its third argument, or all.
@@ -200,42 +190,36 @@ fn mid_length(given: Given) -> u16
 }
 
 // MID$: the bytes from a place on, counted from 1.
-fn mid(space: &mut [u8], used: usize, given: Given, ahead: Scanned) -> Worked
+fn mid(space: &mut [u8], used: usize, given: Given) -> Reply
     requires { ⌜ Placed (now space) used given ⌝ }
-    ensures { λ r. ⌜ MadeOf (called Mid) (now (space .entry)) used given ahead r (now (space .exit)) ⌝ }
+    ensures { λ r. ⌜ TextOf (called Mid) (now (space .entry)) used given r (now (space .exit)) ⌝ }
 {
     let n = second_word(given);
     if !in_range(1, n) {
-        return Worked::Fault(Error::IllegalFunctionCall);
+        return Reply::Fault(Error::IllegalFunctionCall);
     }
     let most = mid_length(given);
     if !in_range(0, most) {
-        return Worked::Fault(Error::IllegalFunctionCall);
+        return Reply::Fault(Error::IllegalFunctionCall);
     }
-    part(space, used, given, n as usize - 1, most as usize, ahead)
+    part(space, used, given, n as usize - 1, most as usize)
 }
 
 // A function that gives a text, when its arguments are all worked out.
-pub fn text_called(
-    function: Function,
-    space: &mut [u8],
-    used: usize,
-    given: Given,
-    ahead: Scanned,
-) -> Worked
+pub fn text_called(function: Function, space: &mut [u8], used: usize, given: Given) -> Reply
     requires { ⌜ Placed (now space) used given × (gives function ≡ kind.Text) ⌝ }
-    ensures { λ r. ⌜ MadeOf (called function) (now (space .entry)) used given ahead r (now (space .exit)) ⌝ }
+    ensures { λ r. ⌜ TextOf (called function) (now (space .entry)) used given r (now (space .exit)) ⌝ }
 {
     let word = first_word(given);
     match function {
-        Function::Chr => chr(space, used, given, ahead),
-        Function::Left => left(space, used, given, ahead),
-        Function::Right => right(space, used, given, ahead),
-        Function::Mid => mid(space, used, given, ahead),
-        Function::Space => filled(space, used, given, word, b' ', ahead),
-        Function::String => string(space, used, given, ahead),
-        Function::Str => built(space, used, given, str_text(word), ahead),
-        // HEX$: no other function gives a text.
-        _ => built(space, used, given, hex_text(word), ahead),
+        Function::Chr => chr(space, used, given),
+        Function::Left => left(space, used, given),
+        Function::Right => right(space, used, given),
+        Function::Mid => mid(space, used, given),
+        Function::Space => filled(space, used, given, word, b' '),
+        Function::String => string(space, used, given),
+        Function::Str => built(space, used, given, str_text(word)),
+        // What is left is HEX$.
+        _ => built(space, used, given, hex_text(word)),
     }
 }

@@ -3,6 +3,11 @@ use borrow.Author.Needs.{needs}
 use Rattle.functions.proofs.functions.called.Statement.{statement}
 use Rattle.functions.proofs.functions.called.Tie as tie
 
+returns : tie.Need-returns
+returns c =
+    let t = c .before .before .before in let s = t .before .before .before .before .before .before in
+    rw (c .replied .ensures) (t .text-called .ensures (s .args .ahead))
+
 returns-2 : tie.Need-returns-2
 returns-2 c =
     let s = c .before .before .before .before .before .before .before in
@@ -15,10 +20,11 @@ called-spec =
     (λ c κs. search needs)
     (λ c. search needs)
     (λ c κs. search needs)
+    (λ c κs. search needs)
     (λ c. search needs)
     (λ c κs. search needs)
     (λ c κs. search needs)
     (λ c. search needs)
-    (λ c. search needs)
+    returns
     (λ c. search needs)
     returns-2)

@@ -5,9 +5,9 @@ use Rattle.strings.proofs.strings.left.Statement.{statement}
 use Rattle.strings.proofs.strings.left.Tie as tie
 
 returns : tie.Need-returns
-returns c =
+returns c ahead =
     let w = c .before .before in let s = w .before .before in let p = s .args in
-    left-refused (p .space .now) (p .used) (p .given) (s .pre) (p .ahead) (w .second-word .ensures)
+    left-refused (p .space .now) (p .used) (p .given) (s .pre) ahead (w .second-word .ensures)
     (told-no (c .before .in-range .ensures) (c .if1 .taken))
 
 part-requires : tie.Need-part-requires
@@ -16,11 +16,11 @@ part-requires c κs =
     (t .before .before .before .before .pre, passed 0 (t .before .before .second-word .result) (t .before .in-range .ensures) (t .if1 .left) .1)
 
 returns-2 : tie.Need-returns-2
-returns-2 c =
+returns-2 c ahead =
     let t = c .before .before .before .before in
     let w = t .before .before in let s = w .before .before in let p = s .args in
-    left-made (p .space .now) (p .used) (p .given) (s .pre) (p .ahead) (w .second-word .ensures)
-    (told-yes (t .before .in-range .ensures) (t .if1 .left)) (c .before .before .part .ensures)
+    left-made (p .space .now) (p .used) (p .given) (s .pre) ahead (w .second-word .ensures)
+    (told-yes (t .before .in-range .ensures) (t .if1 .left)) (c .before .before .part .ensures ahead)
 
 pub left-spec : {M : Type 1} → statement M
 left-spec =

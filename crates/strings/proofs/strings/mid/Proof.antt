@@ -5,16 +5,16 @@ use Rattle.strings.proofs.strings.mid.Statement.{statement}
 use Rattle.strings.proofs.strings.mid.Tie as tie
 
 returns : tie.Need-returns
-returns c =
+returns c ahead =
     let w = c .before .before in let s = w .before .before in let p = s .args in
-    mid-refused (p .space .now) (p .used) (p .given) (s .pre) (p .ahead) (w .second-word .ensures)
+    mid-refused (p .space .now) (p .used) (p .given) (s .pre) ahead (w .second-word .ensures)
     (told-no (c .before .in-range .ensures) (c .if1 .taken))
 
 returns-2 : tie.Need-returns-2
-returns-2 c =
+returns-2 c ahead =
     let m = c .before .before in let t = m .before in
     let w = t .before .before in let s = w .before .before in let p = s .args in
-    mid-refused-length (p .space .now) (p .used) (p .given) (s .pre) (p .ahead) (w .second-word .ensures) (m .mid-length .ensures)
+    mid-refused-length (p .space .now) (p .used) (p .given) (s .pre) ahead (w .second-word .ensures) (m .mid-length .ensures)
     (told-yes (t .before .in-range .ensures) (t .if1 .left)) (told-no (c .before .in-range2 .ensures) (c .if2 .taken))
 
 sub-part : tie.Need-sub-part
@@ -29,12 +29,12 @@ part-requires c κs =
     (u .before .before .before .before .before .before .before .pre, h .1)
 
 returns-3 : tie.Need-returns-3
-returns-3 c =
+returns-3 c ahead =
     let u = c .before .before .before .before in let m = u .before .before in let t = m .before in
     let w = t .before .before in let s = w .before .before in let p = s .args in
-    mid-made (p .space .now) (p .used) (p .given) (s .pre) (p .ahead) (w .second-word .ensures) (m .mid-length .ensures)
+    mid-made (p .space .now) (p .used) (p .given) (s .pre) ahead (w .second-word .ensures) (m .mid-length .ensures)
     (told-yes (t .before .in-range .ensures) (t .if1 .left)) (told-yes (u .before .in-range2 .ensures) (u .if2 .left))
-    (c .before .before .part .ensures)
+    (c .before .before .part .ensures ahead)
 
 pub mid-spec : {M : Type 1} → statement M
 mid-spec =

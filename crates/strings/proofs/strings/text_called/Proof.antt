@@ -9,27 +9,27 @@ use Rattle.strings.proofs.strings.text_called.Tie as tie
 
 -- SPACE$
 returns-5 : tie.Need-returns-5
-returns-5 c =
+returns-5 c ahead =
     let k = c .before .before .before .before in let w = k .before .before in let s = w .before .before in let p = s .args in
     rw (k .enum-told5 .given .1)
-    (space-made (p .space .now) (p .used) (p .given) (s .pre .0) (p .ahead) (w .first-word .ensures) (c .before .before .filled .ensures))
+    (space-made (p .space .now) (p .used) (p .given) (s .pre .0) ahead (w .first-word .ensures) (c .before .before .filled .ensures ahead))
 
 -- STR$
 returns-7 : tie.Need-returns-7
-returns-7 c =
+returns-7 c ahead =
     let k = c .before .before .before .before .before in let w = k .before .before in let s = w .before .before in let p = s .args in
     rw (k .enum-told7 .given .1)
-    (str-made (p .space .now) (p .used) (p .given) (s .pre .0) (p .ahead) (w .first-word .ensures)
-    (c .before .before .built .ensures (shown (w .first-word .result)) (c .before .before .before .str-text .ensures)))
+    (str-made (p .space .now) (p .used) (p .given) (s .pre .0) ahead (w .first-word .ensures)
+    (c .before .before .built .ensures (shown (w .first-word .result)) (c .before .before .before .str-text .ensures) ahead))
 
 -- HEX$
 returns-8 : tie.Need-returns-8
-returns-8 c =
+returns-8 c ahead =
     let k = c .before .before .before .before .before in let w = k .before in let s = w .before .before in let p = s .args in
     let e : p .function ≡ Hex = last-text (p .function) (s .pre .1) (k .match .keys8) in
     rw e
-    (hex-made (p .space .now) (p .used) (p .given) (s .pre .0) (p .ahead) (w .first-word .ensures)
-    (c .before .before .built2 .ensures (hexadecimal (w .first-word .result)) (c .before .before .before .hex-text .ensures)))
+    (hex-made (p .space .now) (p .used) (p .given) (s .pre .0) ahead (w .first-word .ensures)
+    (c .before .before .built2 .ensures (hexadecimal (w .first-word .result)) (c .before .before .before .hex-text .ensures) ahead))
 
 pub text-called-spec : {M : Type 1} → statement M
 text-called-spec =
