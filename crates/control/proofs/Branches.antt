@@ -15,6 +15,8 @@ use Rattle.grammar.specs.Tests.{isKeyword}
 use Rattle.grammar.specs.Trees.{Formula, Part, ifThen, ifElse}
 use Rattle.statements.specs.Statements.{goodPart}
 use Rattle.statements.specs.Answers.{partOf}
+use Rattle.reader.specs.Lines.{elseAt}
+use Rattle.reader.specs.declared.branches.Branch.the-variants as way
 use Rattle.variables.specs.declared.values.Worked.the-variants.{Whole, Text, Fault}
 use Rattle.machine.specs.Machine as spec
 use Rattle.machine.specs.Machine.{part}
@@ -27,8 +29,7 @@ use Rattle.machine.specs.declared.records.Record.{Record}
 use Rattle.turns.specs.Steps as step
 use Rattle.turns.specs.Steps.{goesOn, branch, lineOver, doStatement}
 use Rattle.turns.specs.Turns.{turnedTo, Turns, anyRecords, Valued, Standing}
-use Rattle.control.specs.Answers.{takenTurn, elseAt}
-use Rattle.control.specs.declared.branching.Branch.the-variants as way
+use Rattle.control.specs.Answers.{takenTurn}
 use Rattle.turns.proofs.Keeping.{sound-kept, leaves-unprinted}
 use Rattle.turns.proofs.Leading.{turns-on}
 use Rattle.turns.proofs.Wholes.{turns-fault, turns-text, turns-whole}

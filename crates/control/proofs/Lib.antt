@@ -1,5 +1,4 @@
 pub mod Branches
-pub mod Elses
 pub mod Fors
 pub mod Jumps
 pub mod Nexts

@@ -12,12 +12,14 @@ use Rattle.words.specs.Places.{place}
 use Rattle.words.specs.declared.names.Telling.{Telling}
 use Rattle.words.specs.declared.places.Place.{Place}
 use Rattle.words.specs.declared.symbols.Scanned.{Scanned}
-use Rattle.words.specs.declared.symbols.Word.the-variants.{Else, Step}
+use Rattle.words.specs.declared.symbols.Word.the-variants.{Step}
 use Rattle.grammar.specs.Tests.{choose, isKeyword}
 use Rattle.grammar.specs.Trees as tree
 use Rattle.grammar.specs.Trees.{Formula, number}
 use Rattle.grammar.specs.Formulas.{Reading, good, after, formulaOf}
 use Rattle.statements.specs.Statements.{done, variableOf, forAt}
+use Rattle.reader.specs.declared.branches.Branch.{Branch}
+use Rattle.reader.specs.declared.branches.Branch.the-variants as branch
 use Rattle.formulas.specs.Memory.{Scans}
 use Rattle.machine.specs.Machine as spec
 use Rattle.machine.specs.Machine.{below}
@@ -32,8 +34,6 @@ use Rattle.machine.specs.declared.records.Found.the-variants as found
 use Rattle.turns.specs.Steps as step
 use Rattle.turns.specs.Steps.{goesOn, workedWhole, storeNumber, pushed}
 use Rattle.turns.specs.Turns.{turnedTo, withDepth, numberSet}
-use Rattle.control.specs.declared.branching.Branch.{Branch}
-use Rattle.control.specs.declared.branching.Branch.the-variants as branch
 
 -- a record more, written above the others; at most 32
 abbrev pub pushedTurn : Machine → Record → Next → Turned
@@ -45,10 +45,6 @@ pushedTurn m held n =
 abbrev pub takenTurn : Machine → Place → Branch → Turned
 takenTurn m line (branch.At at) = turnedTo m (next.On (record { line = line; at = at; over = false }))
 takenTurn m line branch.None = turnedTo m (next.On (record { line = line; at = place 0; over = true }))
-
--- where the ELSE of a part's IF leads, by the token that ends the part
-abbrev pub elseAt : Scanned → Branch
-elseAt u = cond (isKeyword Else (u .token)) (branch.At (u .next)) branch.None
 
 -- ---- FOR
 

@@ -13,14 +13,13 @@ ghost use Rattle.machine.specs.Machine as spec;
 ghost use Rattle.machine.specs.Holding.{linesAt, Settled, Sound};
 ghost use Rattle.turns.specs.Steps.{doStatement};
 ghost use Rattle.turns.specs.Turns.{Turns, anyRecords, Formed, Standing};
-ghost use Rattle.control.specs.Answers.{takenTurn, elseAt};
+ghost use Rattle.control.specs.Answers.{takenTurn};
 use machine::Machine;
 use machine::Next;
 use machine::Position;
 use machine::Turned;
-use reader::Follow;
-use reader::follows;
-use statements::statement_at;
+use reader::Branch;
+use reader::else_of;
 use turns::fails;
 use turns::turned_to;
 use turns::value;
@@ -28,42 +27,6 @@ use variables::Worked;
 use whole::Error;
 use words::Place;
 use words::Scanned;
-
-// Where a part of an IF begins, if there is one.
-pub enum Branch {
-    At(Place),
-    None,
-}
-
-// The ELSE of the IF whose part begins at a place: nested IFs take theirs first.
-fn else_of(line: &[u8], part: Place) -> Branch
-    ensures { λ r. ⌜
-        ((p : Part) (u : Scanned) → partOf (now (line .entry)) true (part .0) ≡ goodPart p u → r ≡ elseAt u)
-        ⌝ }
-{
-    let mut at = part;
-    let mut waiting: usize = 0;
-    loop {
-        match follows(statement_at(line, at, true)) {
-            Follow::Nothing => return Branch::None,
-            Follow::End => return Branch::None,
-            Follow::Statement(next) => {
-                at = next;
-            }
-            Follow::Part(next) => {
-                waiting += 1;
-                at = next;
-            }
-            Follow::Else(next) => {
-                if waiting == 0 {
-                    return Branch::At(next);
-                }
-                waiting -= 1;
-                at = next;
-            }
-        }
-    }
-}
 
 // A part of the line is entered, or the line is over.
 fn taken(machine: Machine, here: Place, branch: Branch) -> Turned

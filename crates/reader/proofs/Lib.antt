@@ -1,3 +1,4 @@
+pub mod Elses
 pub mod Tallies
 pub mod Visits
 pub mod Walks

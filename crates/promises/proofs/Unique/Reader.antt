@@ -4,6 +4,9 @@ use Rattle.reader.proofs as reader
 use Rattle.promises.specs.Calls.{Unique}
 use Rattle.promises.proofs.Unique.{same}
 
+pub else-of : Unique reader.else_of.Kinds.ps reader.else_of.Kinds.r reader.else_of.Reads.Pre reader.else_of.Reads.Post
+else-of κs a p z z′ ws ws′ e e′ = (same e e′, refl)
+
 pub follows : Unique reader.follows.Kinds.ps reader.follows.Kinds.r reader.follows.Reads.Pre reader.follows.Reads.Post
 follows κs a p z z′ ws ws′ e e′ = (same e e′, refl)
 

@@ -8,7 +8,7 @@ use Rattle.control.proofs.branching.choose.Tie as tie
 returns : tie.Need-returns
 returns c text input room k t p u after sound st lines f e =
     let v = rw (c .before .before .before .before .before .word .given .1) at (c .before .before .before .before .before .before .before .before .before .value .ensures k t f) in
-    rw (c .taken .ensures, c .before .else-of .ensures p u (rw (v .goes) e)) (if-false after st sound lines e v (c .before .before .if1 .taken))
+    rw (c .taken .ensures, c .before .else-of .ensures, v .goes, e) (if-false after st sound lines e v (c .before .before .if1 .taken))
 
 -- an error
 returns-2 : tie.Need-returns-2
