@@ -9,6 +9,7 @@ use native.Mathlib.Nat.{le-refl}
 use types.Run.{OneOf, miss}
 use lib.ListN.{length, take, drop, length-drop, drop-of-length-le}
 use lib.Seq.{drop-drop, length-take-le}
+use Rattle.whole.specs.declared.errors.Error.{Error}
 use Rattle.whole.specs.declared.errors.Error.the-variants.{OutOfStringSpace, TypeMismatch, LineBufferOverflow, InputPastEnd, OutputFull}
 use Rattle.words.specs.declared.names.Kind.the-variants as kind
 use Rattle.words.specs.declared.names.Name.{Name}
@@ -37,12 +38,15 @@ use Rattle.formulas.specs.Memory.{Scans}
 use Rattle.machine.specs.Machine as spec
 use Rattle.machine.specs.Machine.{roomOf, withInput, noting}
 use Rattle.machine.specs.Holding.{positionOf, Positioned, printedAs, Settled, Sound, Same}
+use Rattle.machine.specs.Taking.{takenAt}
 use Rattle.machine.specs.declared.machine.Machine.{Machine}
 use Rattle.machine.specs.declared.machine.Printer.{Printer}
 use Rattle.machine.specs.declared.positions.Next.{Next}
 use Rattle.machine.specs.declared.positions.Next.the-variants as next
 use Rattle.machine.specs.declared.positions.Turned.{Turned}
 use Rattle.machine.specs.declared.records.Record.{Record}
+use Rattle.machine.specs.declared.taking.InputLine.the-variants as asked
+use Rattle.machine.proofs.Takes.{took, untaken}
 use Rattle.machine.proofs.Writing.{not-printed, room-length, written-grows, room-above, fitting-after, write-full}
 use Rattle.turns.specs.Steps as step
 use Rattle.turns.specs.Steps.{goesOn, fails, firstLine, takeLine, lineTaken, inputLine, filled, doStatement}
@@ -72,16 +76,16 @@ extent-further p q (b ∷ t) =
     or-further (endingOf (b ∷ t)) p q (extentAt (p + q + 1) t) (extentAt (q + 1) t) (rw h (extent-further p (q + 1) t))
 
 -- what is taken of the input from a place on goes as far as the line's extent
-pub record Took (input : List ℕ) (p : ℕ) (e : Extent) : Type 0 where
-  pub low : p ≤ e .end
-  pub mid : e .end ≤ e .next
-  pub inside : e .next ≤ length input
-  pub size : length (take (e .end - p) (drop p input)) ≡ e .end - p
-  pub is : takeLine (drop p input) ≡ record { bytes = take (e .end - p) (drop p input); left = drop (e .next) input }
+record Reach (input : List ℕ) (p : ℕ) (e : Extent) : Type 0 where
+  low : p ≤ e .end
+  mid : e .end ≤ e .next
+  inside : e .next ≤ length input
+  size : length (take (e .end - p) (drop p input)) ≡ e .end - p
+  is : takeLine (drop p input) ≡ record { bytes = take (e .end - p) (drop p input); left = drop (e .next) input }
 
 -- the definition counts its places from there
-pub took : (input : List ℕ) (p : ℕ) {e : Extent} → p < length input → e ≡ extentAt p (drop p input) → Took input p e
-took input p {e} h q =
+reach : (input : List ℕ) (p : ℕ) {e : Extent} → p < length input → e ≡ extentAt p (drop p input) → Reach input p e
+reach input p {e} h q =
     let s = drop p input in
     let l = length-drop p input in
     let z = extentAt 0 s in
@@ -104,7 +108,7 @@ some-taken : (s : List ℕ) (n : spec.Machine) (v : Variable) (go : spec.Machine
 some-taken [] n v go h = absurd (omega arith)
 some-taken (b ∷ s) n v go h = refl
 
-module _ (input : List ℕ) (p : ℕ) {e : Extent} (h : p < length input) (k : Took input p e) (v : Variable) (after : spec.Position) where
+module _ (input : List ℕ) (p : ℕ) {e : Extent} (h : p < length input) (k : Reach input p e) (v : Variable) (after : spec.Position) where
   takes : (n : spec.Machine) → n .input ≡ drop p input
       → takesLine v after n ≡ lineTaken n v (record { bytes = take (e .end - p) (drop p input); left = drop (e .next) input }) (λ o. goesOn o after)
   takes n i =
@@ -156,26 +160,26 @@ module _ {m : Machine} {input space room : List ℕ} (k : ℕ) where
 
 module _ (text : List ℕ) {m : Machine} {input space room : List ℕ} (sound : Sound m input space room) (v : Variable) (after : spec.Position) where
   -- no bytes are left
-  pub takes-none : length input ≤ m .taken
+  takes-none : length input ≤ m .taken
       → Turns text m input space room anyRecords (takesLine v after) (turnedTo m (next.Fails InputPastEnd)) space room
   takes-none h =
       turns-fails (leaves-unprinted sound refl refl refl)
       (λ rs l t n s. record { machine = n; is = ap (λ i. inputLine i n v (λ o. goesOn o after)) (s .left ∙ drop-of-length-le input h); same = s })
 
-  module _ {e : Extent} (h : m .taken < length input) (k : Took input (m .taken) e) where
+  module _ {e : Extent} (h : m .taken < length input) (k : Reach input (m .taken) e) where
     -- the line is too long
-    pub takes-long : 254 < e .end - m .taken
+    takes-long : 254 < e .end - m .taken
         → Turns text m input space room anyRecords (takesLine v after) (turnedTo m (next.Fails LineBufferOverflow)) space room
     takes-long b =
         turns-fails (leaves-unprinted sound refl refl refl)
         (λ rs l t n s. record { machine = n; is = taken-long input (m .taken) h k v after b n (s .left); same = s })
 
     -- it is taken
-    pub takes-line : e .end - m .taken ≤ 254 → {r : Turned} {space′ : List ℕ}
+    takes-short : e .end - m .taken ≤ 254 → {r : Turned} {space′ : List ℕ}
         → (Sound (withTaken m (e .next)) input space room
         → Turns text (withTaken m (e .next)) input space room anyRecords (fillsIn v (take (e .end - m .taken) (drop (m .taken) input)) after) r space′ room)
         → Turns text m input space room anyRecords (takesLine v after) r space′ room
-    takes-line b t =
+    takes-short b t =
         let w = taken-sound (e .next) sound (k .inside) in
         turns-then (leaves-unprinted {r = turnedTo (withTaken m (e .next)) next.Ends} w refl refl refl)
         (λ rs l u n s.
@@ -185,6 +189,21 @@ module _ (text : List ℕ) {m : Machine} {input space room : List ℕ} (sound : 
           same = taken-same (e .next) s;
         })
         (t w)
+
+  -- so where none is taken, and where one is
+  pub takes-fault : {x : Error} → takenAt input (m .taken) ≡ asked.Fault x
+      → Turns text m input space room anyRecords (takesLine v after) (turnedTo m (next.Fails x)) space room
+  takes-fault e =
+      untaken input (m .taken) (λ x. Turns text m input space room anyRecords (takesLine v after) (turnedTo m (next.Fails x)) space room) e
+      takes-none
+      (λ h b. takes-long h (reach input (m .taken) h refl) b)
+
+  pub takes-line : {e : Extent} → takenAt input (m .taken) ≡ asked.Is e → {r : Turned} {space′ : List ℕ}
+      → (Sound (withTaken m (e .next)) input space room
+      → Turns text (withTaken m (e .next)) input space room anyRecords (fillsIn v (take (e .end - m .taken) (drop (m .taken) input)) after) r space′ room)
+      → Turns text m input space room anyRecords (takesLine v after) r space′ room
+  takes-line q =
+      let k = took input (m .taken) q in takes-short (k .some) (reach input (m .taken) (k .some) (k .is)) (k .short)
 
 -- ---- the variable is set to the line
 

@@ -11,9 +11,10 @@ ghost use Rattle.turns.specs.Steps.{doStatement};
 ghost use Rattle.turns.specs.Turns.{afterOf, Turns, anyRecords};
 ghost use Rattle.dialogue.specs.Asking.{Asks, takesLine, fillsIn};
 use crate::outputting::with_printer;
-use loader::extent_at;
+use machine::InputLine;
 use machine::Machine;
 use machine::Turned;
+use machine::take_line;
 use machine::write;
 use space::Offset;
 use space::copy_in;
@@ -28,9 +29,6 @@ use words::Scanned;
 use words::Token;
 use words::telling_of;
 use words::token_at;
-
-// The longest line of input.
-const LONGEST: usize = 254;
 
 // A line that was taken makes a string; its room is asked for before the variable's type is looked at.
 fn fill(
@@ -66,8 +64,8 @@ fn fill(
     }
 }
 
-// 62 if no bytes are left, 23 if over 254 bytes; on these no input is taken.
-fn take_line(
+// A line of input is taken, and the variable is set to it.
+fn take_in(
     line: &[u8],
     here: Place,
     name: Name,
@@ -84,17 +82,15 @@ fn take_line(
         ⌝ }
 {
     let from = machine.taken;
-    if input.len() <= from {
-        return fails(machine, Error::InputPastEnd);
+    match take_line(input, from) {
+        InputLine::Fault(error) => fails(machine, error),
+        InputLine::Is(extent) => {
+            let end = extent.end;
+            let mut m = machine;
+            m.taken = extent.next;
+            fill(line, here, name, ahead, m, &input[from..end], space)
+        }
     }
-    let extent = extent_at(input, from);
-    let end = extent.end;
-    if LONGEST < end - from {
-        return fails(machine, Error::LineBufferOverflow);
-    }
-    let mut m = machine;
-    m.taken = extent.next;
-    fill(line, here, name, ahead, m, &input[from..end], space)
 }
 
 // The text is printed, making no string; then a line of input is taken.
@@ -124,7 +120,7 @@ fn prompt(
     let m = with_printer(machine, printer);
     let token = target.token;
     match token {
-        Token::Named(name) => take_line(
+        Token::Named(name) => take_in(
             line,
             here,
             name,

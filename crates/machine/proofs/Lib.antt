@@ -3,3 +3,4 @@ pub mod Searching
 pub mod Limits
 pub mod Writing
 pub mod Standing
+pub mod Takes

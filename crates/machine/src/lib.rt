@@ -4,6 +4,7 @@ mod machine;
 mod positions;
 mod printing;
 mod records;
+mod taking;
 
 pub use loops::passed;
 pub use machine::Machine;
@@ -21,3 +22,5 @@ pub use records::Stack;
 pub use records::find_record;
 pub use records::record_at;
 pub use records::with_record;
+pub use taking::InputLine;
+pub use taking::take_line;

@@ -30,3 +30,6 @@ record-at κs a p z z′ ws ws′ e e′ = (same e e′, refl)
 
 pub with-record : Unique machine.with_record.Kinds.ps machine.with_record.Kinds.r machine.with_record.Reads.Pre machine.with_record.Reads.Post
 with-record κs a p z z′ ws ws′ e e′ = (λ i. record { records = same e e′ i }, refl)
+
+pub take-line : Unique machine.take_line.Kinds.ps machine.take_line.Kinds.r machine.take_line.Reads.Pre machine.take_line.Reads.Post
+take-line κs a p z z′ ws ws′ e e′ = (same e e′, refl)

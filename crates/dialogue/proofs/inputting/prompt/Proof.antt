@@ -11,7 +11,7 @@ use Rattle.dialogue.proofs.inputting.prompt.Tie as tie
 use Rattle.dialogue.proofs.inputting.prompt.Reads as reads
 use Rattle.dialogue.proofs.inputting.prompt.Lts as lts
 use Rattle.machine.proofs.write.Reads as write-reads
-use Rattle.dialogue.proofs.inputting.take_line.Reads as take-line-reads
+use Rattle.dialogue.proofs.inputting.take_in.Reads as take-in-reads
 use Rattle.dialogue.proofs.outputting.with_printer.Reads as with-printer-reads
 use Rattle.turns.proofs.fails.Reads as fails-reads
 use Rattle.words.proofs.token_at.Reads as token-at-reads
@@ -39,8 +39,8 @@ enum-known-token c = search needs
 token-at-requires : tie.Need-token-at-requires
 token-at-requires c κs = search needs
 
-take-line-requires : tie.Need-take-line-requires
-take-line-requires c κs = printed-settled (c .before .before .before .before .before .with-printer .ensures) (c .before .before .before .before .before .before .before .before .before .before .before .before .before .before .before .before .before .before .pre .settled)
+take-in-requires : tie.Need-take-in-requires
+take-in-requires c κs = printed-settled (c .before .before .before .before .before .with-printer .ensures) (c .before .before .before .before .before .before .before .before .before .before .before .before .before .before .before .before .before .before .pre .settled)
 
 fails-requires-2 : tie.Need-fails-requires-2
 fails-requires-2 c κs = search needs
@@ -59,7 +59,7 @@ returns-2 c =
     (asks-on program (c .before .before .before .before .before .before .before .before .before .before .before .before .before .before .before .before .before .before .before .before .before .pre) (c .before .before .before .before .before .before .before .before .before .before .before .before .before .before .before .before .before .before .before .before .before .args .text .now) (variableOf (c .before .before .before .before .before .before .before .before .before .before .before .before .before .before .before .before .before .before .before .before .before .args .line .now) (c .before .before .before .before .before .before .token .given .0 .0)) (positionOf program (afterOf (c .before .before .before .before .before .before .before .before .before .before .before .before .before .before .before .before .before .before .before .before .before .args .here) (c .before .before .before .before .token-at .result)))
     (passed (ap (λ (x : Printed). x .ok) (c .before .before .before .before .before .before .before .before .before .before .before .before .before .before .write .ensures .0)) (c .before .before .before .before .before .before .before .before .before .before .if1 .left))
     (c .before .before .before .before .before .before .before .before .with-printer .ensures ∙ ap (λ (x : Printed). withPrinter (c .before .before .before .before .before .before .before .before .before .before .before .before .before .before .before .before .before .before .before .before .before .args .machine) (x .printer)) (c .before .before .before .before .before .before .before .before .before .before .before .before .before .before .write .ensures .0)) (c .before .before .before .before .before .before .before .before .before .before .before .before .before .before .write .ensures .1)
-    (λ s. c .before .before .take-line .ensures program (c .before .before .before .before .before .before .before .before .before .before .before .before .before .before .write .last .1 .0) s (rw (k .1, ← (c .before .before .before .before .token-at .ensures)) at p)))
+    (λ s. c .before .before .take-in .ensures program (c .before .before .before .before .before .before .before .before .before .before .before .before .before .before .write .last .1 .0) s (rw (k .1, ← (c .before .before .before .before .token-at .ensures)) at p)))
 
 same-length-4 : tie.Need-same-length-4
 same-length-4 c = search needs
@@ -78,7 +78,7 @@ prompt-spec =
     with-printer-requires
     enum-known-token
     token-at-requires
-    take-line-requires
+    take-in-requires
     fails-requires-2
     same-length-2
     same-length-3

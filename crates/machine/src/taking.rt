@@ -1,0 +1,30 @@
+// Taking a line of the input.
+ghost use mathlib.Core.Path.{_≡_};
+ghost use Rattle.machine.specs.Taking.{takenAt};
+use loader::Extent;
+use loader::extent_at;
+use whole::Error;
+
+// How far a line of the input goes, or why none is taken.
+pub enum InputLine {
+    Is(Extent),
+    Fault(Error),
+}
+
+// The longest line of input.
+const LONGEST: usize = 254;
+
+// The line from a place on: 62 if no bytes are left, 23 if over 254 bytes.
+pub fn take_line(input: &[u8], from: usize) -> InputLine
+    ensures { λ r. ⌜ r ≡ takenAt (now (input .entry)) from ⌝ }
+{
+    if input.len() <= from {
+        return InputLine::Fault(Error::InputPastEnd);
+    }
+    let extent = extent_at(input, from);
+    let end = extent.end;
+    if LONGEST < end - from {
+        return InputLine::Fault(Error::LineBufferOverflow);
+    }
+    InputLine::Is(extent)
+}
