@@ -1,6 +1,7 @@
 pub mod Answering
 pub mod Fuel
 pub mod Grammar
+pub mod Joining
 pub mod Levelled
 pub mod Sorting
 pub mod Steps

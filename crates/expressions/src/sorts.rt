@@ -65,21 +65,13 @@ pub fn joined_sort(operator: Operator, left: Sort, right: Sort) -> Sort
     let both = alike(left, right);
     match operator {
         Operator::Add => both,
-        Operator::Equal => compared(both),
-        Operator::Unequal => compared(both),
-        Operator::Less => compared(both),
-        Operator::Greater => compared(both),
-        Operator::AtMost => compared(both),
-        Operator::AtLeast => compared(both),
-        Operator::Multiply => whole_only(both),
-        Operator::Divide => whole_only(both),
-        Operator::Modulo => whole_only(both),
-        Operator::Subtract => whole_only(both),
-        Operator::And => whole_only(both),
-        Operator::Or => whole_only(both),
-        Operator::Xor => whole_only(both),
-        Operator::Eqv => whole_only(both),
-        Operator::Imp => whole_only(both),
+        Operator::Equal
+        | Operator::Unequal
+        | Operator::Less
+        | Operator::Greater
+        | Operator::AtMost
+        | Operator::AtLeast => compared(both),
+        _ => whole_only(both),
     }
 }
 

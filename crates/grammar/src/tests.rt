@@ -68,18 +68,8 @@ pub fn is_symbol(sign: Sign, token: Token) -> bool
     ensures { λ r. ⌜ r ≡ isSymbol sign token ⌝ }
 {
     match token {
-        Token::EndOfLine => false,
-        Token::Keyword(_) => false,
-        Token::Not => false,
-        Token::Infix(_) => false,
-        Token::Call(_) => false,
-        Token::Named(_) => false,
-        Token::Number(_) => false,
-        Token::Hexadecimal(_) => false,
-        Token::LineOnly(_) => false,
-        Token::Quoted(_) => false,
         Token::Symbol(found) => sign_rank(found) == sign_rank(sign),
-        Token::Unreadable => false,
+        _ => false,
     }
 }
 
@@ -87,18 +77,8 @@ pub fn is_keyword(word: Word, token: Token) -> bool
     ensures { λ r. ⌜ r ≡ isKeyword word token ⌝ }
 {
     match token {
-        Token::EndOfLine => false,
         Token::Keyword(found) => word_rank(found) == word_rank(word),
-        Token::Not => false,
-        Token::Infix(_) => false,
-        Token::Call(_) => false,
-        Token::Named(_) => false,
-        Token::Number(_) => false,
-        Token::Hexadecimal(_) => false,
-        Token::LineOnly(_) => false,
-        Token::Quoted(_) => false,
-        Token::Symbol(_) => false,
-        Token::Unreadable => false,
+        _ => false,
     }
 }
 
@@ -107,17 +87,7 @@ pub fn ends_line(token: Token) -> bool
 {
     match token {
         Token::EndOfLine => true,
-        Token::Keyword(_) => false,
-        Token::Not => false,
-        Token::Infix(_) => false,
-        Token::Call(_) => false,
-        Token::Named(_) => false,
-        Token::Number(_) => false,
-        Token::Hexadecimal(_) => false,
-        Token::LineOnly(_) => false,
-        Token::Quoted(_) => false,
-        Token::Symbol(_) => false,
-        Token::Unreadable => false,
+        _ => false,
     }
 }
 
@@ -139,18 +109,9 @@ pub fn line_of(token: Token) -> NamedLine
     ensures { λ r. ⌜ r ≡ lineOf token ⌝ }
 {
     match token {
-        Token::EndOfLine => NamedLine::NoLine,
-        Token::Keyword(_) => NamedLine::NoLine,
-        Token::Not => NamedLine::NoLine,
-        Token::Infix(_) => NamedLine::NoLine,
-        Token::Call(_) => NamedLine::NoLine,
-        Token::Named(_) => NamedLine::NoLine,
         Token::Number(number) => NamedLine::Names(LineNumber(number)),
-        Token::Hexadecimal(_) => NamedLine::NoLine,
         Token::LineOnly(number) => NamedLine::Names(number),
-        Token::Quoted(_) => NamedLine::NoLine,
-        Token::Symbol(_) => NamedLine::NoLine,
-        Token::Unreadable => NamedLine::NoLine,
+        _ => NamedLine::NoLine,
     }
 }
 
@@ -182,14 +143,9 @@ fn sign_operator(sign: Sign) -> OperatorFound
     ensures { λ r. ⌜ r ≡ signOperator sign ⌝ }
 {
     match sign {
-        Sign::Open => OperatorFound::None,
-        Sign::Close => OperatorFound::None,
-        Sign::Comma => OperatorFound::None,
-        Sign::Semicolon => OperatorFound::None,
-        Sign::Colon => OperatorFound::None,
-        Sign::Question => OperatorFound::None,
         Sign::Equal => OperatorFound::Is(Operator::Equal),
         Sign::Minus => OperatorFound::Is(Operator::Subtract),
+        _ => OperatorFound::None,
     }
 }
 
@@ -197,18 +153,9 @@ fn operator_of(token: Token) -> OperatorFound
     ensures { λ r. ⌜ r ≡ operatorOf token ⌝ }
 {
     match token {
-        Token::EndOfLine => OperatorFound::None,
-        Token::Keyword(_) => OperatorFound::None,
-        Token::Not => OperatorFound::None,
         Token::Infix(operator) => OperatorFound::Is(operator),
-        Token::Call(_) => OperatorFound::None,
-        Token::Named(_) => OperatorFound::None,
-        Token::Number(_) => OperatorFound::None,
-        Token::Hexadecimal(_) => OperatorFound::None,
-        Token::LineOnly(_) => OperatorFound::None,
-        Token::Quoted(_) => OperatorFound::None,
         Token::Symbol(sign) => sign_operator(sign),
-        Token::Unreadable => OperatorFound::None,
+        _ => OperatorFound::None,
     }
 }
 

@@ -1,6 +1,12 @@
--- Each arm is what the function's lists of arguments come to.
+-- Each arm is what the lists of arguments of its functions come to.
+use mathlib.Core.Path.{refl}
+use mathlib.Core.List.{[], _∷_}
 use borrow.Author.Needs.{needs}
+use Rattle.words.specs.declared.symbols.Function.the-variants.{Len, Asc, Chr, Left, Right, Space, String, Str, Hex, Val, Abs, Sgn, Fre}
+use Rattle.grammar.specs.Answers.{wantedOf}
 use Rattle.grammar.specs.Functions.{anyFor, formFor}
+use Rattle.grammar.specs.declared.functions.Wanted.the-variants as wanted
+use Rattle.grammar.proofs.Others.{of-functions}
 use Rattle.grammar.proofs.functions.wants_three.Statement.{statement}
 use Rattle.grammar.proofs.functions.wants_three.Tie as tie
 
@@ -11,31 +17,6 @@ wants-three-spec =
     (tie.spec
     (λ c. search needs)
     (λ c. search needs)
-    (λ c. search needs)
-    (λ c. search needs)
-    (λ c. search needs)
-    (λ c. search needs)
-    (λ c. search needs)
-    (λ c. search needs)
-    (λ c. search needs)
-    (λ c. search needs)
-    (λ c. search needs)
-    (λ c. search needs)
-    (λ c. search needs)
-    (λ c. search needs)
-    (λ c. search needs)
     (λ c. rw (c .enum-told .given .1))
     (λ c. rw (c .enum-told2 .given .1))
-    (λ c. rw (c .enum-told3 .given .1))
-    (λ c. rw (c .enum-told4 .given .1))
-    (λ c. rw (c .enum-told5 .given .1))
-    (λ c. rw (c .enum-told6 .given .1))
-    (λ c. rw (c .enum-told7 .given .1))
-    (λ c. rw (c .enum-told8 .given .1))
-    (λ c. rw (c .enum-told9 .given .1))
-    (λ c. rw (c .enum-told10 .given .1))
-    (λ c. rw (c .enum-told11 .given .1))
-    (λ c. rw (c .enum-told12 .given .1))
-    (λ c. rw (c .enum-told13 .given .1))
-    (λ c. rw (c .enum-told14 .given .1))
-    (λ c. rw (c .enum-told15 .given .1)))
+    (λ c. of-functions (λ f. wantedOf f 3) wanted.NoForm (Len ∷ Asc ∷ Chr ∷ Left ∷ Right ∷ Space ∷ String ∷ Str ∷ Hex ∷ Val ∷ Abs ∷ Sgn ∷ Fre ∷ []) refl (c .before .args .function) (c .match .keys3)))

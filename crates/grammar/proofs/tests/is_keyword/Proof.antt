@@ -1,5 +1,6 @@
--- Each arm is a clause of the definition.
+-- Each arm is a clause of the definition, and the last is the others.
 use borrow.Author.Needs.{needs}
+use Rattle.grammar.proofs.Others.{no-keyword}
 use Rattle.grammar.proofs.tests.is_keyword.Statement.{statement}
 use Rattle.grammar.proofs.tests.is_keyword.Tie as tie
 
@@ -8,28 +9,7 @@ is-keyword-spec =
     tie.close
     (tie.spec
     (λ c. search needs)
-    (λ c. search needs)
     (λ c κs. search needs)
     (λ c κs. search needs)
-    (λ c. search needs)
-    (λ c. search needs)
-    (λ c. search needs)
-    (λ c. search needs)
-    (λ c. search needs)
-    (λ c. search needs)
-    (λ c. search needs)
-    (λ c. search needs)
-    (λ c. search needs)
-    (λ c. search needs)
-    (λ c. rw (c .enum-told .given .1))
     (λ c. rw (c .before .before .before .token .given .1, ← (c .before .word-rank .ensures), ← (c .word-rank2 .ensures)))
-    (λ c. rw (c .enum-told2 .given .1))
-    (λ c. rw (c .enum-told3 .given .1))
-    (λ c. rw (c .enum-told4 .given .1))
-    (λ c. rw (c .enum-told5 .given .1))
-    (λ c. rw (c .enum-told6 .given .1))
-    (λ c. rw (c .enum-told7 .given .1))
-    (λ c. rw (c .enum-told8 .given .1))
-    (λ c. rw (c .enum-told9 .given .1))
-    (λ c. rw (c .enum-told10 .given .1))
-    (λ c. rw (c .enum-told11 .given .1)))
+    (λ c. rw (no-keyword (c .before .args .word) (c .before .args .token) (c .match .keys2))))

@@ -1,5 +1,6 @@
--- Each arm is a clause of the definition.
+-- Each arm is a clause of the definition, and the last is the others.
 use borrow.Author.Needs.{needs}
+use Rattle.grammar.proofs.Others.{no-sign-operator}
 use Rattle.grammar.proofs.tests.sign_operator.Statement.{statement}
 use Rattle.grammar.proofs.tests.sign_operator.Tie as tie
 
@@ -9,17 +10,6 @@ sign-operator-spec =
     (tie.spec
     (λ c. search needs)
     (λ c. search needs)
-    (λ c. search needs)
-    (λ c. search needs)
-    (λ c. search needs)
-    (λ c. search needs)
-    (λ c. search needs)
-    (λ c. search needs)
-    (λ c. search needs)
-    (λ c. search needs)
-    (λ c. search needs)
-    (λ c. search needs)
-    (λ c. search needs)
-    (λ c. search needs)
-    (λ c. rw (c .enum-told7 .given .1))
-    (λ c. rw (c .enum-told8 .given .1)))
+    (λ c. rw (c .enum-told .given .1))
+    (λ c. rw (c .enum-told2 .given .1))
+    (λ c. rw (no-sign-operator (c .before .args .sign) (c .match .keys3))))
