@@ -3,7 +3,6 @@ use mathlib.Core.Path.{_≡_, refl, _∙_, ap}
 use mathlib.Core.List.{List}
 use Prim.Native.Nat.{ℕ, zero, suc, _+_, _≤_, _<_}
 use native.Mathlib.Omega.{arith}
-use lib.Dec.{leb}
 use Rattle.words.specs.Names.{nameBytes, tellingOf}
 use Rattle.words.specs.Tokens.{tokenAt}
 use Rattle.words.specs.declared.places.Place.{Place}
@@ -15,7 +14,7 @@ use Rattle.words.specs.declared.symbols.Token.the-variants.{EndOfLine, Keyword,
 use Rattle.words.proofs.Choices.{by-test}
 use Rattle.grammar.specs.Tests.{choose, isSymbol}
 use Rattle.grammar.specs.Trees.{Formula, number, variable, text, minus, complement, twoSided, Arguments, none, also}
-use Rattle.grammar.specs.Formulas.{levelOf, notLevel, minusLevel, tightest, tightOperator, Reading, bad, good, mapped, after, closed, called, quotedBytes, bySign, byOperator, enough, formulaAt, climbAt, operandAt, argumentsAt, formulaOf}
+use Rattle.grammar.specs.Formulas.{notLevel, tightest, rightLevel, minusStands, notStands, tightOperator, Reading, bad, good, mapped, after, closed, called, quotedBytes, bySign, byOperator, enough, formulaAt, climbAt, operandAt, argumentsAt, formulaOf}
 use Rattle.expressions.specs.Answers.{weight, formulaIn, climbOf, operandOf, argumentsOf}
 use Rattle.expressions.proofs.Weights.{symbol-reads, operator-reads, after-lighter, weight-enough}
 use Rattle.expressions.proofs.Grammar.{by-found, Lighter, formula-lightens, operand-lightens}
@@ -61,12 +60,12 @@ mutual
       by-found (tightOperator level (u .token))
       (λ op e.
       let g = after-lighter s u (operator-reads level (u .token) e) in
-      let y = formulaAt m s (levelOf op + 1) (after s u) in
-      let l = formula-rest m s (levelOf op + 1) (after s u) in
+      let y = formulaAt m s (rightLevel op) (after s u) in
+      let l = formula-rest m s (rightLevel op) (after s u) in
       let j = rest-mapped s (twoSided op f) y in
       rw e
       (ap (λ x. climbAt n s level (mapped (twoSided op f) x))
-      (formula-same n m s (levelOf op + 1) (after s u) (omega arith) (omega arith))
+      (formula-same n m s (rightLevel op) (after s u) (omega arith) (omega arith))
       ∙ climb-same n m s level (mapped (twoSided op f) y) (omega arith) (omega arith)))
       (λ e. rw e)
 
@@ -140,8 +139,8 @@ module _ (s : List ℕ) where
   operandBy level (Symbol sign) u =
       bySign sign
       (λ _. closed s (formulaIn s 0 u))
-      (λ _. choose (leb level minusLevel) (λ _. mapped minus (operandOf s tightest u)) (λ _. bad))
-  operandBy level Not u = choose (leb level notLevel) (λ _. mapped complement (formulaIn s notLevel u)) (λ _. bad)
+      (λ _. choose (minusStands level) (λ _. mapped minus (operandOf s tightest u)) (λ _. bad))
+  operandBy level Not u = choose (notStands level) (λ _. mapped complement (formulaIn s notLevel u)) (λ _. bad)
   operandBy level (Call f) u =
       choose (isSymbol Open (u .token)) (λ _. argumentsOf s f none (formulaIn s 0 (after s u))) (λ _. bad)
   operandBy level EndOfLine u = bad
@@ -188,7 +187,7 @@ module _ (s : List ℕ) where
   pub climb-unrolled : (level : ℕ) (f : Formula) (t : Scanned)
       → climbOf s level (good f t)
       ≡ byOperator (tightOperator level (t .token))
-      (λ op. climbOf s level (mapped (twoSided op f) (formulaIn s (levelOf op + 1) (after s t))))
+      (λ op. climbOf s level (mapped (twoSided op f) (formulaIn s (rightLevel op) (after s t))))
       (good f t)
   unfolding formulaAt formulaIn climbOf
   climb-unrolled level f t =

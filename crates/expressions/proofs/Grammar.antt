@@ -4,7 +4,6 @@ use mathlib.Core.Bool.{true}
 use mathlib.Core.List.{List}
 use Prim.Native.Nat.{ℕ, zero, suc, _+_, _≤_, _<_}
 use native.Mathlib.Omega.{arith}
-use lib.Dec.{leb}
 use Rattle.whole.specs.declared.arithmetic.Operator.{Operator}
 use Rattle.words.specs.Tokens.{reads}
 use Rattle.words.specs.declared.places.Place.{Place}
@@ -39,7 +38,7 @@ use Rattle.words.proofs.Choices.{by-test}
 use Rattle.grammar.specs.Tests.{isSymbol}
 use Rattle.grammar.specs.Trees.{Formula, minus, complement, twoSided, Arguments, none, also}
 use Rattle.grammar.specs.Functions.{takes}
-use Rattle.grammar.specs.Formulas.{levelOf, notLevel, minusLevel, tightest, tightOperator, Reading, bad, good, mapped, after, closed, countOf, called, formulaAt, climbAt, operandAt, argumentsAt, enough, formulaOf}
+use Rattle.grammar.specs.Formulas.{notLevel, tightest, rightLevel, minusStands, notStands, tightOperator, Reading, bad, good, mapped, after, closed, countOf, called, formulaAt, climbAt, operandAt, argumentsAt, enough, formulaOf}
 use Rattle.expressions.specs.Answers.{weight}
 use Rattle.grammar.specs.declared.tests.OperatorFound.{OperatorFound}
 use Rattle.grammar.specs.declared.tests.OperatorFound.the-variants.{Is, None}
@@ -95,10 +94,10 @@ mutual
       by-found (tightOperator level (u .token))
       (λ op e.
       let h = after-lighter s u (operator-reads level (u .token) e) in
-      let y = formulaAt n s (levelOf op + 1) (after s u) in
+      let y = formulaAt n s (rightLevel op) (after s u) in
       rw e (climb-lightens n s level w (mapped (twoSided op f) y)
       (mapped-lighter s w (twoSided op f) y
-      (lighter-still s (weight s (after s u)) w y (omega arith) (formula-lightens n s (levelOf op + 1) (after s u))))))
+      (lighter-still s (weight s (after s u)) w y (omega arith) (formula-lightens n s (rightLevel op) (after s u))))))
       (λ e. rw e l)
 
   pub operand-lightens : (n : ℕ) (s : List ℕ) (level : ℕ) (token : Token) (next : Place)
@@ -125,7 +124,7 @@ mutual
       let u = after s t in
       let h = after-lighter s t refl in
       let y = operandAt n s tightest (u .token) (u .next) in
-      by-test (leb level minusLevel)
+      by-test (minusStands level)
       (λ e. rw e (mapped-lighter s (weight s t) minus y
       (lighter-still s (weight s u) (weight s t) y (omega arith) (operand-lightens n s tightest (u .token) (u .next)))))
       (λ e. rw e tt)
@@ -133,7 +132,7 @@ mutual
       let t : Scanned = record { token = Not; next = next } in
       let h = after-lighter s t refl in
       let y = formulaAt n s notLevel (after s t) in
-      by-test (leb level notLevel)
+      by-test (notStands level)
       (λ e. rw e (mapped-lighter s (weight s t) complement y
       (lighter-still s (weight s (after s t)) (weight s t) y (omega arith) (formula-lightens n s notLevel (after s t)))))
       (λ e. rw e tt)

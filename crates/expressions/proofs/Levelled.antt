@@ -3,7 +3,7 @@
 use mathlib.Core.Path.{_≡_}
 use mathlib.Core.Bool.{true}
 use mathlib.Core.List.{List}
-use Prim.Native.Nat.{ℕ, zero, suc, _+_, _≤_, _<_}
+use Prim.Native.Nat.{ℕ, zero, suc, _≤_, _<_}
 use native.Mathlib.Numerals.{add-one}
 use native.Mathlib.Omega.{arith}
 use borrow.Author.Tests.{leb-true, leb-false}
@@ -42,11 +42,11 @@ use Rattle.words.proofs.Choices.{by-test}
 use Rattle.grammar.specs.Tests.{isSymbol}
 use Rattle.grammar.specs.Trees.{Formula, number, variable, text, inside, minus, complement, twoSided, call, Arguments, none, also}
 use Rattle.grammar.specs.Functions.{takes}
-use Rattle.grammar.specs.Formulas.{levelOf, notLevel, minusLevel, tightest, operatorOf, tightEnough, tightOperator, Reading, bad, good, mapped, after, closed, countOf, called, formulaAt, climbAt, operandAt, argumentsAt}
+use Rattle.grammar.specs.Formulas.{levelOf, notLevel, minusLevel, tightest, rightLevel, minusStands, notStands, operatorOf, tightEnough, tightOperator, Reading, bad, good, mapped, after, closed, countOf, called, formulaAt, climbAt, operandAt, argumentsAt}
 use Rattle.grammar.specs.declared.tests.OperatorFound.{OperatorFound}
 use Rattle.grammar.specs.declared.tests.OperatorFound.the-variants.{Is, None}
 use Rattle.expressions.proofs.Grammar.{by-found}
-use Rattle.expressions.proofs.Steps.{level-small}
+use Rattle.grammar.proofs.Bounds.{level-small}
 
 unfoldable mutual
   -- a formula that can stand, with no parentheses around it, where one of a level is read
@@ -104,12 +104,12 @@ complement-partly k (good f u) h w =
     ((h, w .0), λ op e. (omega (arith, looser notLevel (operatorOf (u .token)) op (w .1) e), w .0))
 
 joined-partly : (k : ℕ) (op : Operator) (f : Formula) (x : Reading) → k ≤ levelOf op → Levelled (levelOf op) f
-    → Full (levelOf op + 1) x → Partly k (mapped (twoSided op f) x)
+    → Full (rightLevel op) x → Partly k (mapped (twoSided op f) x)
 unfolding Levelled
 joined-partly k op f bad h l w = tt
 joined-partly k op f (good g u) h l w =
     let r : Levelled (suc (levelOf op)) g = rw add-one at (w .0) in
-    ((h, l, r), λ next e. (omega (arith, looser (levelOf op + 1) (operatorOf (u .token)) next (w .1) e), l, r))
+    ((h, l, r), λ next e. (omega (arith, looser (rightLevel op) (operatorOf (u .token)) next (w .1) e), l, r))
 
 closed-partly : (k : ℕ) (s : List ℕ) (x : Reading) → Full 0 x → Partly k (closed s x)
 unfolding Levelled
@@ -138,9 +138,9 @@ mutual
       by-found (tightOperator level (u .token))
       (λ op e.
       let o = tight level (operatorOf (u .token)) op e in
-      let y = formulaAt n s (levelOf op + 1) (after s u) in
+      let y = formulaAt n s (rightLevel op) (after s u) in
       rw e (climb-full n s level (mapped (twoSided op f) y)
-      (joined-partly level op f y (o .1) (w .1 op (o .0)) (formula-full n s (levelOf op + 1) (after s u)))))
+      (joined-partly level op f y (o .1) (w .1 op (o .0)) (formula-full n s (rightLevel op) (after s u)))))
       (λ e. rw e (w .0, e))
 
   operand-partly : (n : ℕ) (s : List ℕ) (level : ℕ) (token : Token) (next : Place) → Partly level (operandAt n s level token next)
@@ -159,12 +159,12 @@ mutual
   operand-partly (suc n) s level (Symbol Equal) next = tt
   operand-partly (suc n) s level (Symbol Minus) next =
       let u = tokenAt s next in
-      by-test (leb level minusLevel)
+      by-test (minusStands level)
       (λ e. rw e (minus-partly level (operandAt n s tightest (u .token) (u .next)) (leb-true level minusLevel e)
       (operand-partly n s tightest (u .token) (u .next))))
       (λ e. rw e tt)
   operand-partly (suc n) s level Not next =
-      by-test (leb level notLevel)
+      by-test (notStands level)
       (λ e. rw e (complement-partly level (formulaAt n s notLevel (tokenAt s next)) (leb-true level notLevel e)
       (formula-full n s notLevel (tokenAt s next))))
       (λ e. rw e tt)

@@ -5,11 +5,9 @@ use mathlib.Core.Bool.{true, false}
 use mathlib.Core.List.{List, [], _∷_}
 use Prim.Native.Nat.{ℕ, zero, suc, _+_, _≤_, _<_}
 use native.Mathlib.Omega.{arith}
-use borrow.Author.Tests.{le-leb, lt-leb}
 use denote.Enum.Declared.{tagOf}
 use types.Run.{OneOf, miss}
 use Rattle.whole.specs.declared.arithmetic.Operator.{Operator}
-use Rattle.whole.specs.declared.arithmetic.Operator.the-variants as operator
 use Rattle.words.specs.Tokens.{reads}
 use Rattle.words.specs.declared.names.Name.{Name}
 use Rattle.words.specs.declared.places.Place.{Place}
@@ -31,7 +29,7 @@ use Rattle.words.specs.declared.symbols.Token.{Token}
 use Rattle.words.specs.declared.symbols.Token.the-variants as token
 use Rattle.grammar.specs.Tests.{isSymbol}
 use Rattle.grammar.specs.Trees.{Formula, twoSided, Arguments, also, none}
-use Rattle.grammar.specs.Formulas.{levelOf, notLevel, minusLevel, tightest, tightOperator, Reading, bad, good, bySign, mapped, after, formulaAt, climbAt, operandAt, argumentsAt, enough, formulaOf}
+use Rattle.grammar.specs.Formulas.{notLevel, tightest, rightLevel, minusStands, notStands, tightOperator, Reading, bad, good, bySign, mapped, after, formulaAt, climbAt, operandAt, argumentsAt, enough, formulaOf}
 use Rattle.expressions.specs.Types.{ofKind, sortOf, depthOf}
 use Rattle.expressions.specs.Answers.{weight, cappedDepth, answerOf, frontedRead, joinedRead, closedRead, Kept, callAt, listedAt}
 use Rattle.expressions.specs.declared.calls.Sorts.{Sorts}
@@ -119,25 +117,6 @@ formula-climbs s level t left r m c =
     by-fuel (λ n. r ≡ answerOf (formulaAt n s level t)) (weight s t + 2)
     (λ n l. c (operandAt n s level (t .token) (t .next)) (m n (omega arith)) n (omega arith))
 
--- an operator's level, and one more, is a small number
-pub level-small : (op : Operator) → levelOf op ≤ 10
-level-small operator.Imp = omega arith
-level-small operator.Eqv = omega arith
-level-small operator.Xor = omega arith
-level-small operator.Or = omega arith
-level-small operator.And = omega arith
-level-small operator.Equal = omega arith
-level-small operator.Unequal = omega arith
-level-small operator.Less = omega arith
-level-small operator.Greater = omega arith
-level-small operator.AtMost = omega arith
-level-small operator.AtLeast = omega arith
-level-small operator.Add = omega arith
-level-small operator.Subtract = omega arith
-level-small operator.Modulo = omega arith
-level-small operator.Divide = omega arith
-level-small operator.Multiply = omega arith
-
 pub climb-bad : (s : List ℕ) (level : ℕ) → ClimbMet s level Bad Bad
 unfolding formulaAt
 climb-bad s level x e = by-fuel (λ n. Bad ≡ answerOf (climbAt n s level x)) 0 (λ n l. rw (not-read x e refl))
@@ -152,10 +131,10 @@ module _ (s : List ℕ) (level : ℕ) (u : Scanned) (k : Sort) (d : ℕ) where
 
   -- one operator more, with its right side
   module _ (op : Operator) (o : Is op ≡ tightOperator level (u .token)) (y : FormulaRead)
-      (m : FormulaMet s (levelOf op + 1) (after s u) y) where
+      (m : FormulaMet s (rightLevel op) (after s u) y) where
     pub climb-lighter : heft s (joinedRead op k d y) + 4 ≤ weight s u
     climb-lighter =
-        rw (joined-heft s op k d y) (after-heft s (levelOf op + 1) u (operator-reads level (u .token) (sym o)) m)
+        rw (joined-heft s op k d y) (after-heft s (rightLevel op) u (operator-reads level (u .token) (sym o)) m)
 
     pub climb-goes : (r : FormulaRead) → ClimbMet s level (joinedRead op k d y) r → ClimbMet s level (Good u k d) r
     unfolding formulaAt
@@ -165,9 +144,9 @@ module _ (s : List ℕ) (level : ℕ) (u : Scanned) (k : Sort) (d : ℕ) where
         let g = after-lighter s u (operator-reads level (u .token) (sym o)) in
         by-fuel (λ n. r ≡ answerOf (climbAt n s level x)) (weight s u)
         (λ n l. rw (a .is) (rw (← o)
-        (c (mapped (twoSided op (a .f)) (formulaAt n s (levelOf op + 1) (after s u)))
+        (c (mapped (twoSided op (a .f)) (formulaAt n s (rightLevel op) (after s u)))
         (ap (joinedRead op k d) (m n (omega arith))
-        ∙ joined-answer op k d (a .f) (formulaAt n s (levelOf op + 1) (after s u)) (a .sort) (a .deep))
+        ∙ joined-answer op k d (a .f) (formulaAt n s (rightLevel op) (after s u)) (a .sort) (a .deep))
         n
         (omega arith))))
 
@@ -243,31 +222,31 @@ module _ (s : List ℕ) (level : ℕ) (t : Scanned) where
       by-fuel (Operand (closedRead s y)) (weight s t + 1)
       (λ n l. rw e (ap (closedRead s) (m n (omega arith)) ∙ closed-answer s (formulaAt n s 0 (after s t))))
 
-  pub operand-negates : (y : FormulaRead) → t .token ≡ token.Symbol Minus → level ≤ minusLevel
+  pub operand-negates : (y : FormulaRead) → t .token ≡ token.Symbol Minus → true ≡ minusStands level
       → OperandMet s tightest (after s t) y → OperandMet s level t (frontedRead y)
   unfolding formulaAt
   operand-negates y e g m =
       let h = after-lighter s t (rw e) in
       by-fuel (Operand (frontedRead y)) (weight s t + 1)
-      (λ n l. rw (e, le-leb level minusLevel g)
+      (λ n l. rw (e, ← g)
       (ap frontedRead (m n (omega arith)) ∙ minus-answer (operandAt n s tightest (after s t .token) (after s t .next))))
 
-  pub operand-too-tight : t .token ≡ token.Symbol Minus → minusLevel < level → OperandMet s level t Bad
+  pub operand-too-tight : t .token ≡ token.Symbol Minus → false ≡ minusStands level → OperandMet s level t Bad
   unfolding formulaAt
-  operand-too-tight e g = by-fuel (Operand Bad) (weight s t + 1) (λ n l. rw (e, lt-leb level minusLevel g))
+  operand-too-tight e g = by-fuel (Operand Bad) (weight s t + 1) (λ n l. rw (e, ← g))
 
-  pub operand-complements : (y : FormulaRead) → t .token ≡ token.Not → level ≤ notLevel → FormulaMet s notLevel (after s t) y
+  pub operand-complements : (y : FormulaRead) → t .token ≡ token.Not → true ≡ notStands level → FormulaMet s notLevel (after s t) y
       → OperandMet s level t (frontedRead y)
   unfolding formulaAt
   operand-complements y e g m =
       let h = after-lighter s t (rw e) in
       by-fuel (Operand (frontedRead y)) (weight s t + 1)
-      (λ n l. rw (e, le-leb level notLevel g)
+      (λ n l. rw (e, ← g)
       (ap frontedRead (m n (omega arith)) ∙ complement-answer (formulaAt n s notLevel (after s t))))
 
-  pub operand-no-complement : t .token ≡ token.Not → notLevel < level → OperandMet s level t Bad
+  pub operand-no-complement : t .token ≡ token.Not → false ≡ notStands level → OperandMet s level t Bad
   unfolding formulaAt
-  operand-no-complement e g = by-fuel (Operand Bad) (weight s t + 1) (λ n l. rw (e, lt-leb level notLevel g))
+  operand-no-complement e g = by-fuel (Operand Bad) (weight s t + 1) (λ n l. rw (e, ← g))
 
   pub operand-calls : (f : Function) (r : FormulaRead) → t .token ≡ token.Call f → CallMet s f (after s t) r → OperandMet s level t r
   unfolding formulaAt

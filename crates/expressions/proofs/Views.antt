@@ -2,9 +2,8 @@
 use mathlib.Core.Path.{_≡_, refl, sym, _∙_}
 use mathlib.Core.Bool.{Bool, true, false}
 use mathlib.Core.List.{List}
-use Prim.Native.Nat.{ℕ, _+_}
+use Prim.Native.Nat.{ℕ}
 use native.Mathlib.Omega.{arith}
-use lib.Dec.{leb}
 use Rattle.whole.specs.declared.arithmetic.Operator.{Operator}
 use Rattle.words.specs.declared.symbols.Function.{Function}
 use Rattle.words.specs.declared.symbols.Scanned.{Scanned}
@@ -15,7 +14,7 @@ use Rattle.grammar.specs.Tests.{choose, isSymbol}
 use Rattle.grammar.specs.Trees.{Formula, inside, minus, complement, twoSided, call, Arguments, none, also, last, more}
 use Rattle.grammar.specs.Functions.{takes}
 use Rattle.grammar.specs.Formulas as formulas
-use Rattle.grammar.specs.Formulas.{levelOf, notLevel, minusLevel, tightest, tightOperator, Reading, good, mapped, after, closed, countOf, called}
+use Rattle.grammar.specs.Formulas.{notLevel, tightest, rightLevel, minusStands, notStands, tightOperator, Reading, good, mapped, after, closed, countOf, called}
 use Rattle.grammar.specs.declared.tests.OperatorFound.the-variants.{Is, None}
 use Rattle.expressions.specs.Answers.{formulaIn, climbOf, operandOf, argumentsOf}
 use Rattle.expressions.proofs.Fuel.{operand-is, formula-unrolled, climb-unrolled, arguments-unrolled, climb-bad, arguments-bad}
@@ -91,9 +90,9 @@ module _ (s : List ℕ) where
   -- an operator follows, and its right side
   pub climb-goes : (level : ℕ) (f : Formula) (t : Scanned) {op : Operator} {g : Formula} {u : Scanned}
       → tightOperator level (t .token) ≡ Is op → climbOf s level (good f t) ≡ good g u
-      → Climbed level (mapped (twoSided op f) (formulaIn s (levelOf op + 1) (after s t))) g u
+      → Climbed level (mapped (twoSided op f) (formulaIn s (rightLevel op) (after s t))) g u
   climb-goes level f t {op} o e =
-      climb-view level (mapped (twoSided op f) (formulaIn s (levelOf op + 1) (after s t)))
+      climb-view level (mapped (twoSided op f) (formulaIn s (rightLevel op) (after s t)))
       (rw (climb-unrolled s level f t, o) at e)
 
   -- one more argument, and what the list makes of it
@@ -132,14 +131,14 @@ module _ (s : List ℕ) where
     pub opened-view : t .token ≡ Symbol Open → Closed s (formulaIn s 0 (after s t)) f u
     opened-view w = closed-view s (formulaIn s 0 (after s t)) (sym (operand-is s level t w) ∙ e)
 
-    pub negated-view : t .token ≡ Symbol Minus → (leb level minusLevel ≡ true) × Made minus (operandOf s tightest (after s t)) f u
+    pub negated-view : t .token ≡ Symbol Minus → (minusStands level ≡ true) × Made minus (operandOf s tightest (after s t)) f u
     negated-view w =
-        let h = so (leb level minusLevel) (λ _. mapped minus (operandOf s tightest (after s t))) (sym (operand-is s level t w) ∙ e) in
+        let h = so (minusStands level) (λ _. mapped minus (operandOf s tightest (after s t))) (sym (operand-is s level t w) ∙ e) in
         (h .0, made minus (operandOf s tightest (after s t)) (h .1))
 
-    pub complemented-view : t .token ≡ Not → (leb level notLevel ≡ true) × Made complement (formulaIn s notLevel (after s t)) f u
+    pub complemented-view : t .token ≡ Not → (notStands level ≡ true) × Made complement (formulaIn s notLevel (after s t)) f u
     complemented-view w =
-        let h = so (leb level notLevel) (λ _. mapped complement (formulaIn s notLevel (after s t))) (sym (operand-is s level t w) ∙ e) in
+        let h = so (notStands level) (λ _. mapped complement (formulaIn s notLevel (after s t))) (sym (operand-is s level t w) ∙ e) in
         (h .0, made complement (formulaIn s notLevel (after s t)) (h .1))
 
     pub call-view : (g : Function) → t .token ≡ Call g

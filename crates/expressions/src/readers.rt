@@ -15,9 +15,14 @@ use crate::sorts::Sort;
 use crate::sorts::joined_sort;
 use crate::sorts::of_kind;
 use crate::sorts::whole_only;
+use grammar::LOOSEST;
+use grammar::NOT_LEVEL;
 use grammar::OperatorFound;
+use grammar::TIGHTEST;
 use grammar::is_symbol;
-use grammar::level_of;
+use grammar::minus_stands;
+use grammar::not_stands;
+use grammar::right_level;
 use grammar::tight_operator;
 use whole::Operator;
 use words::Function;
@@ -41,15 +46,6 @@ pub enum FormulaRead {
 impl FormulaRead {
     pub const DEEPEST: u8 = 8;
 }
-
-// The levels at which no operator, NOT and the minus sign stand.
-const LOOSEST: u8 = 0;
-
-const NOT: u8 = 5;
-
-const MINUS: u8 = 11;
-
-const TIGHTEST: u8 = 12;
 
 // The arguments that were read.
 struct Taken {
@@ -167,7 +163,7 @@ fn formula(line: &[u8], ahead: Scanned, level: u8) -> FormulaRead
                     OperatorFound::None => return left,
                     OperatorFound::Is(operator) => {
                         let first = token_at(line, next);
-                        let right = formula(line, first, level_of(operator) + 1);
+                        let right = formula(line, first, right_level(operator));
                         left = joined(operator, sort, deepest, right);
                     }
                 }
@@ -198,7 +194,7 @@ fn operand(line: &[u8], ahead: Scanned, level: u8) -> FormulaRead
                 let first = token_at(line, next);
                 closed(line, formula(line, first, LOOSEST))
             }
-            Sign::Minus => if level <= MINUS {
+            Sign::Minus => if minus_stands(level) {
                 let first = token_at(line, next);
                 fronted(operand(line, first, TIGHTEST))
             } else {
@@ -206,9 +202,9 @@ fn operand(line: &[u8], ahead: Scanned, level: u8) -> FormulaRead
             },
             _ => FormulaRead::Bad,
         },
-        Token::Not => if level <= NOT {
+        Token::Not => if not_stands(level) {
             let first = token_at(line, next);
-            fronted(formula(line, first, NOT))
+            fronted(formula(line, first, NOT_LEVEL))
         } else {
             FormulaRead::Bad
         },

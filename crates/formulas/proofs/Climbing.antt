@@ -14,7 +14,7 @@ use Rattle.words.specs.declared.symbols.Scanned.{Scanned}
 use Rattle.words.proofs.Choices.{by-test}
 use Rattle.space.proofs.Parts.{front-less}
 use Rattle.grammar.specs.Trees.{Formula, twoSided}
-use Rattle.grammar.specs.Formulas.{levelOf, tightOperator, good, after, enough}
+use Rattle.grammar.specs.Formulas.{rightLevel, tightOperator, good, after, enough}
 use Rattle.expressions.specs.Answers.{weight, formulaIn, climbOf, operandOf}
 use Rattle.grammar.specs.declared.tests.OperatorFound.{OperatorFound}
 use Rattle.grammar.specs.declared.tests.OperatorFound.the-variants.{Is, None}
@@ -197,13 +197,13 @@ module _ {line names words labels lengths : List ℕ} {level used w : ℕ} {f : 
   record Right (op : Operator) : Type 0 where
     side : Formula
     then : Scanned
-    reads : formulaIn line (levelOf op + 1) (after line (c .at)) ≡ good side then
+    reads : formulaIn line (rightLevel op) (after line (c .at)) ≡ good side then
     climbs : climbOf line level (good (twoSided op (c .of) side) then) ≡ good f u
 
   right-of : {op : Operator} → tightOperator level (c .at .token) ≡ Is op → Right op
   right-of {op} o =
       let v = climb-goes line level (c .of) (c .at) o (c .climbs) in
-      let m = made (twoSided op (c .of)) (formulaIn line (levelOf op + 1) (after line (c .at))) (v .from) in
+      let m = made (twoSided op (c .of)) (formulaIn line (rightLevel op) (after line (c .at))) (v .from) in
       record { side = m .of; then = v .at; reads = m .from; climbs = rw (m .is) at (v .climbs) }
 
   -- an operator of another type
@@ -237,9 +237,9 @@ module _ {line names words labels lengths : List ℕ} {level used w : ℕ} {f : 
     pub right-lighter : weight line first + 8 ≤ w
     right-lighter = omega (arith, lighter-still, c .lighter)
 
-    module _ {k n : ℕ} (lv : k ≡ levelOf op) (len : n ≡ textLength left) where
-      reads-there : formulaIn line (k + 1) first ≡ good (side-of .side) (side-of .then)
-      reads-there = ap (λ i. formulaIn line (i + 1) first) lv ∙ ap (formulaIn line (levelOf op + 1)) begins ∙ side-of .reads
+    module _ {k n : ℕ} (lv : k ≡ rightLevel op) (len : n ≡ textLength left) where
+      reads-there : formulaIn line k first ≡ good (side-of .side) (side-of .then)
+      reads-there = ap (λ i. formulaIn line i first) lv ∙ ap (formulaIn line (rightLevel op)) begins ∙ side-of .reads
 
       -- what working it out begins with
       pub right-ready : Ready line lengths now (used + n)
@@ -250,11 +250,11 @@ module _ {line names words labels lengths : List ℕ} {level used w : ℕ} {f : 
         short = c .ready .short;
       }
 
-      pub right-asks : Ready line lengths now (used + n) × (Scans line first × Reads (formulaIn line (k + 1) first))
+      pub right-asks : Ready line lengths now (used + n) × (Scans line first × Reads (formulaIn line k first))
       right-asks = (right-ready, (record { from = next; is = b }, record { of = side-of .side; next = side-of .then; is = reads-there }))
 
       module _ (right : Worked) {end : List ℕ}
-          (rights : (g : Formula) (v : Scanned) → formulaIn line (k + 1) first ≡ good g v
+          (rights : (g : Formula) (v : Scanned) → formulaIn line k first ≡ good g v
           → Evaluated names words labels lengths g v now (used + n) right end) where
         right-done : Evaluated names words labels lengths (side-of .side) (side-of .then) now (used + textLength left) right end
         right-done = rw len at (rights (side-of .side) (side-of .then) reads-there)
@@ -270,7 +270,7 @@ module _ {line names words labels lengths : List ℕ} {level used w : ℕ} {f : 
               sides-stand op end used (omega (arith, c .done .framed .fits, j .framed .long)) r (side-of .then) left right (j .goes) m
 
           then-lighter : weight line (side-of .then) + 4 ≤ weight line first
-          then-lighter = formula-less line (k + 1) first reads-there
+          then-lighter = formula-less line k first reads-there
 
           -- both sides are the next left one
           pub climbing-goes : Climbing line names words labels lengths level used w f u before r end

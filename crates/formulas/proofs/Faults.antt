@@ -2,7 +2,7 @@
 use mathlib.Core.Path.{_≡_, refl}
 use mathlib.Core.Bool.{true}
 use mathlib.Core.List.{List}
-use Prim.Native.Nat.{ℕ, zero, suc, _+_, _≤_, _<_}
+use Prim.Native.Nat.{ℕ, zero, suc, _≤_, _<_}
 use native.Mathlib.Omega.{arith}
 use Rattle.whole.specs.declared.arithmetic.Operator.{Operator}
 use Rattle.whole.specs.declared.errors.Error.{Error}
@@ -13,7 +13,7 @@ use Rattle.words.proofs.Choices.{by-test}
 use Rattle.grammar.specs.Tests.{isSymbol}
 use Rattle.grammar.specs.Trees.{Formula, twoSided, call, Arguments, also}
 use Rattle.grammar.specs.Functions.{takes}
-use Rattle.grammar.specs.Formulas.{levelOf, tightOperator, Reading, bad, good, mapped, after, countOf, called, enough, formulaAt, climbAt, argumentsAt}
+use Rattle.grammar.specs.Formulas.{rightLevel, tightOperator, Reading, bad, good, mapped, after, countOf, called, enough, formulaAt, climbAt, argumentsAt}
 use Rattle.expressions.specs.Answers.{climbOf, argumentsOf}
 use Rattle.grammar.specs.declared.functions.Want.{Want}
 use Rattle.expressions.proofs.Grammar.{by-found}
@@ -44,7 +44,7 @@ module _ (vars : Variables) (room : Room) (e : Error) (left : Room) where
   climb-comes (suc n) s level (good g t) h =
       by-found (tightOperator level (t .token))
       (λ op o.
-      let y = formulaAt n s (levelOf op + 1) (after s t) in
+      let y = formulaAt n s (rightLevel op) (after s t) in
       rw o (climb-comes n s level (mapped (twoSided op g) y) (sides-fault op g y h)))
       (λ o. rw o h)
 

@@ -20,8 +20,10 @@ use expressions::formula_at;
 use functions::Taken;
 use functions::called;
 use functions::take_argument;
+use grammar::LOOSEST;
+use grammar::NOT_LEVEL;
 use grammar::is_symbol;
-use grammar::level_of;
+use grammar::right_level;
 use operators::Turn;
 use operators::joined;
 use operators::turn_of;
@@ -35,11 +37,6 @@ use words::Scanned;
 use words::Sign;
 use words::Token;
 use words::token_at;
-
-// The levels at which no operator and NOT stand.
-const LOOSEST: u8 = 0;
-
-const NOT: u8 = 5;
 
 // The formula of a level: an operand, and as long as an operator of that level or a tighter one follows, what it makes of both sides.
 fn formula(
@@ -69,7 +66,7 @@ fn formula(
                 let right = formula(
                     line,
                     first,
-                    level_of(operator) + 1,
+                    right_level(operator),
                     names,
                     words,
                     labels,
@@ -148,7 +145,7 @@ fn operand(
         Token::Not => complemented(formula(
             line,
             after,
-            NOT,
+            NOT_LEVEL,
             names,
             words,
             labels,

@@ -75,6 +75,17 @@ minusLevel = 11
 abbrev pub tightest : ℕ
 tightest = 12
 
+-- two-sided operators group to the left: what stands on the right of one is of the next tighter level
+abbrev pub rightLevel : Operator → ℕ
+rightLevel op = levelOf op + 1
+
+-- whether a minus sign, or NOT, may begin a formula of a level
+abbrev pub minusStands : ℕ → Bool
+minusStands level = leb level minusLevel
+
+abbrev pub notStands : ℕ → Bool
+notStands level = leb level notLevel
+
 -- the signs `=` and `-` are operators where one may stand
 abbrev pub signOperator : Sign → OperatorFound
 signOperator Open = None
@@ -172,7 +183,7 @@ unfoldable mutual
   climbAt (suc n) s level bad = bad
   climbAt (suc n) s level (good f t) =
       byOperator (tightOperator level (t .token))
-      (λ op. climbAt n s level (mapped (twoSided op f) (formulaAt n s (levelOf op + 1) (after s t))))
+      (λ op. climbAt n s level (mapped (twoSided op f) (formulaAt n s (rightLevel op) (after s t))))
       (good f t)
 
   -- an operand: parentheses, names, numbers, texts and functions, one minus sign before such, or NOT where the level lets it stand
@@ -185,11 +196,11 @@ unfoldable mutual
   operandAt (suc n) s level (Symbol sign) next =
       bySign sign
       (λ _. closed s (formulaAt n s 0 (tokenAt s next)))
-      (λ _. choose (leb level minusLevel)
+      (λ _. choose (minusStands level)
       (λ _. mapped minus (operandAt n s tightest (tokenAt s next .token) (tokenAt s next .next)))
       (λ _. bad))
   operandAt (suc n) s level Not next =
-      choose (leb level notLevel) (λ _. mapped complement (formulaAt n s notLevel (tokenAt s next))) (λ _. bad)
+      choose (notStands level) (λ _. mapped complement (formulaAt n s notLevel (tokenAt s next))) (λ _. bad)
   operandAt (suc n) s level (Call f) next =
       choose (isSymbol Open (tokenAt s next .token))
       (λ _. argumentsAt n s f none (formulaAt n s 0 (after s (tokenAt s next))))

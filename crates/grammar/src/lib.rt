@@ -1,5 +1,6 @@
 // What the readers ask of tokens, the operators' levels, and what functions take and give.
 mod functions;
+mod levels;
 mod tests;
 
 pub use functions::Want;
@@ -8,12 +9,18 @@ pub use functions::gives;
 pub use functions::wants_one;
 pub use functions::wants_three;
 pub use functions::wants_two;
+pub use levels::LOOSEST;
+pub use levels::NOT_LEVEL;
+pub use levels::TIGHTEST;
+pub use levels::level_of;
+pub use levels::minus_stands;
+pub use levels::not_stands;
+pub use levels::right_level;
 pub use tests::NamedLine;
 pub use tests::OperatorFound;
 pub use tests::ends_line;
 pub use tests::ends_statement;
 pub use tests::is_keyword;
 pub use tests::is_symbol;
-pub use tests::level_of;
 pub use tests::line_of;
 pub use tests::tight_operator;

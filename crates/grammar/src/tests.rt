@@ -1,8 +1,9 @@
 // Tests of a token.
 ghost use mathlib.Core.Path.{_≡_};
 ghost use Rattle.grammar.specs.Tests.{signRank, wordRank, isSymbol, isKeyword, endsStatement, endsLine};
-ghost use Rattle.grammar.specs.Formulas.{levelOf, signOperator, operatorOf, tightOperator};
+ghost use Rattle.grammar.specs.Formulas.{signOperator, operatorOf, tightOperator};
 ghost use Rattle.grammar.specs.Answers.{lineOf};
+use crate::levels::level_of;
 use whole::Operator;
 use words::LineNumber;
 use words::Sign;
@@ -112,30 +113,6 @@ pub fn line_of(token: Token) -> NamedLine
         Token::Number(number) => NamedLine::Names(LineNumber(number)),
         Token::LineOnly(number) => NamedLine::Names(number),
         _ => NamedLine::NoLine,
-    }
-}
-
-// How tight an operator binds, loosest first.
-pub fn level_of(operator: Operator) -> u8
-    ensures { λ r. ⌜ r ≡ levelOf operator ⌝ }
-{
-    match operator {
-        Operator::Imp => 0,
-        Operator::Eqv => 1,
-        Operator::Xor => 2,
-        Operator::Or => 3,
-        Operator::And => 4,
-        Operator::Equal => 6,
-        Operator::Unequal => 6,
-        Operator::Less => 6,
-        Operator::Greater => 6,
-        Operator::AtMost => 6,
-        Operator::AtLeast => 6,
-        Operator::Add => 7,
-        Operator::Subtract => 7,
-        Operator::Modulo => 8,
-        Operator::Divide => 9,
-        Operator::Multiply => 10,
     }
 }
 

@@ -34,5 +34,14 @@ line-of κs a p z z′ ws ws′ e e′ = (same e e′, refl)
 pub level-of : Unique grammar.level_of.Kinds.ps grammar.level_of.Kinds.r grammar.level_of.Reads.Pre grammar.level_of.Reads.Post
 level-of κs a p z z′ ws ws′ e e′ = (same e e′, refl)
 
+pub right-level : Unique grammar.right_level.Kinds.ps grammar.right_level.Kinds.r grammar.right_level.Reads.Pre grammar.right_level.Reads.Post
+right-level κs a p z z′ ws ws′ e e′ = (same e e′, refl)
+
+pub minus-stands : Unique grammar.minus_stands.Kinds.ps grammar.minus_stands.Kinds.r grammar.minus_stands.Reads.Pre grammar.minus_stands.Reads.Post
+minus-stands κs a p z z′ ws ws′ e e′ = (same e e′, refl)
+
+pub not-stands : Unique grammar.not_stands.Kinds.ps grammar.not_stands.Kinds.r grammar.not_stands.Reads.Pre grammar.not_stands.Reads.Post
+not-stands κs a p z z′ ws ws′ e e′ = (same e e′, refl)
+
 pub tight-operator : Unique grammar.tight_operator.Kinds.ps grammar.tight_operator.Kinds.r grammar.tight_operator.Reads.Pre grammar.tight_operator.Reads.Post
 tight-operator κs a p z z′ ws ws′ e e′ = (same e e′, refl)

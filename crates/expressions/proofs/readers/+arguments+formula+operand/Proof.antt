@@ -11,10 +11,12 @@ use Rattle.words.proofs.token_at.Reads as token-at-reads
 use Rattle.expressions.specs.Answers.{weight}
 use Rattle.expressions.specs.declared.readers.FormulaRead.{FormulaRead}
 use Rattle.expressions.proofs.Weights.{symbol-reads, operator-reads, after-lighter}
-use Rattle.expressions.proofs.Steps.{heft, ClimbMet, ListMet, after-heft, operand-heft, level-small, formula-climbs, climb-bad, climb-ends, climb-lighter, climb-goes, operand-number, operand-hexadecimal, operand-named, operand-quoted, operand-opens, operand-negates, operand-too-tight, operand-complements, operand-no-complement, operand-calls, operand-other, operand-no-sign, call-unopened, call-lists, list-bad, list-ends, list-goes}
+use Rattle.expressions.proofs.Steps.{heft, ClimbMet, ListMet, after-heft, operand-heft, formula-climbs, climb-bad, climb-ends, climb-lighter, climb-goes, operand-number, operand-hexadecimal, operand-named, operand-quoted, operand-opens, operand-negates, operand-too-tight, operand-complements, operand-no-complement, operand-calls, operand-other, operand-no-sign, call-unopened, call-lists, list-bad, list-ends, list-goes}
 use Rattle.expressions.proofs.sorts.of_kind.Reads as of-kind-reads
 use Rattle.grammar.proofs.is_symbol.Reads as is-symbol-reads
-use Rattle.grammar.proofs.level_of.Reads as level-of-reads
+use Rattle.grammar.proofs.minus_stands.Reads as minus-stands-reads
+use Rattle.grammar.proofs.not_stands.Reads as not-stands-reads
+use Rattle.grammar.proofs.right_level.Reads as right-level-reads
 use Rattle.grammar.proofs.tight_operator.Reads as tight-operator-reads
 use Rattle.expressions.proofs.readers.called.Reads as called-reads
 use Rattle.expressions.proofs.readers.closed.Reads as closed-reads
@@ -194,8 +196,8 @@ formula-claims t = (
   tight-operator-reads.Learnt,
   token-at-reads.Asked,
   token-at-reads.Learnt,
-  level-of-reads.Asked,
-  level-of-reads.Learnt,
+  right-level-reads.Asked,
+  right-level-reads.Learnt,
   formula-below t,
   formula.Post,
   joined-reads.Asked,
@@ -240,7 +242,7 @@ formula-loop-less t c =
     let x = one .left .given .0 in
     let op = c .before .before .before .before .before .operator .given in
     let o = sym (op .1) ∙ c .before .before .before .before .before .before .before .tight-operator .ensures in
-    let m = rw (c .before .before .before .token-at .ensures, c .before .before .level-of .ensures) at (c .before .formula .ensures) in
+    let m = rw (c .before .before .before .token-at .ensures, c .before .before .right-level .ensures) at (c .before .formula .ensures) in
     let h = climb-lighter (p .line .now) (p .level) (x .0) (x .1 .0) (x .1 .1 .0) (op .0 .0) o (c .before .formula .result) m in
     rw (c .joined .ensures, one .left .given .1) (omega arith)
 
@@ -253,7 +255,7 @@ formula-loop-again t c =
     let x = one .left .given .0 in
     let op = c .before .before .before .before .before .operator .given in
     let o = sym (op .1) ∙ c .before .before .before .before .before .before .before .tight-operator .ensures in
-    let m = rw (c .before .before .before .token-at .ensures, c .before .before .level-of .ensures) at (c .before .formula .ensures) in
+    let m = rw (c .before .before .before .token-at .ensures, c .before .before .right-level .ensures) at (c .before .formula .ensures) in
     let h = climb-lighter s (p .level) (x .0) (x .1 .0) (x .1 .1 .0) (op .0 .0) o (c .before .formula .result) m in
     let i = rw (one .left .given .1) at (turn .loop .inv .1) in
     rw (c .joined .ensures) (
@@ -276,10 +278,14 @@ operand-claims t = (
   formula.Post,
   closed-reads.Asked,
   closed-reads.Learnt,
+  minus-stands-reads.Asked,
+  minus-stands-reads.Learnt,
   operand-below t,
   operand.Post,
   fronted-reads.Asked,
   fronted-reads.Learnt,
+  not-stands-reads.Asked,
+  not-stands-reads.Learnt,
   arguments-below t,
   arguments.Post,
 )
@@ -293,15 +299,15 @@ operand-formula-requires t c κs =
 
 operand-operand-requires : (t : ℕ) → operand-lts.Need-operand-requires (operand-claims t) (operand-at t) operand.Post
 operand-operand-requires t c κs =
-    let p = c .before .before .before .before .before .before .before .before .before .args in
-    let e = c .before .before .before .before .before .token2 .given .1 ∙ ap Symbol (c .before .before .enum-told5 .given .1) in
+    let p = c .before .before .before .before .before .before .before .before .before .before .args in
+    let e = c .before .before .before .before .before .before .token2 .given .1 ∙ ap Symbol (c .before .before .before .enum-told5 .given .1) in
     let h = after-lighter (p .line .now) (p .ahead) (rw e) in
     rw (c .token-at2 .ensures) (omega arith, tt)
 
 operand-formula-requires-2 : (t : ℕ) → operand-lts.Need-formula-requires-2 (operand-claims t) (operand-at t) operand.Post
 operand-formula-requires-2 t c κs =
-    let p = c .before .before .before .before .before .before .args in
-    let h = after-lighter (p .line .now) (p .ahead) (rw (c .before .before .enum-told6 .given .1)) in
+    let p = c .before .before .before .before .before .before .before .args in
+    let h = after-lighter (p .line .now) (p .ahead) (rw (c .before .before .before .enum-told6 .given .1)) in
     rw (c .token-at3 .ensures) (omega arith, tt)
 
 operand-arguments-requires : (t : ℕ) → operand-lts.Need-arguments-requires (operand-claims t) (operand-at t) operand.Post
@@ -343,15 +349,15 @@ operand-returns-5 t c =
 
 operand-returns-6 : (t : ℕ) → operand-lts.Need-returns-6 (operand-claims t) (operand-at t) operand.Post
 operand-returns-6 t c =
-    let p = c .before .before .before .before .before .before .before .before .before .before .before .args in
-    let e = c .before .before .before .before .before .before .before .token2 .given .1 ∙ ap Symbol (c .before .before .before .before .enum-told5 .given .1) in
+    let p = c .before .before .before .before .before .before .before .before .before .before .before .before .args in
+    let e = c .before .before .before .before .before .before .before .before .token2 .given .1 ∙ ap Symbol (c .before .before .before .before .before .enum-told5 .given .1) in
     let m = rw (c .before .before .token-at2 .ensures) at (c .before .operand .ensures) in
-    rw (c .fronted .ensures) (operand-negates (p .line .now) (p .level) (p .ahead) (c .before .operand .result) e (c .before .before .before .if1 .taken) m)
+    rw (c .fronted .ensures) (operand-negates (p .line .now) (p .level) (p .ahead) (c .before .operand .result) e (sym (c .before .before .before .if1 .taken) ∙ c .before .before .before .before .minus-stands .ensures) m)
 
 operand-returns-7 : (t : ℕ) → operand-lts.Need-returns-7 (operand-claims t) (operand-at t) operand.Post
 operand-returns-7 t c =
-    let p = c .before .before .before .before .before .before .before .before .args in
-    operand-too-tight (p .line .now) (p .level) (p .ahead) (c .before .before .before .before .token2 .given .1 ∙ ap Symbol (c .before .enum-told5 .given .1)) (c .if1 .left)
+    let p = c .before .before .before .before .before .before .before .before .before .args in
+    operand-too-tight (p .line .now) (p .level) (p .ahead) (c .before .before .before .before .before .token2 .given .1 ∙ ap Symbol (c .before .before .enum-told5 .given .1)) (sym (c .if1 .left) ∙ c .before .minus-stands .ensures)
 
 operand-returns-8 : (t : ℕ) → operand-lts.Need-returns-8 (operand-claims t) (operand-at t) operand.Post
 operand-returns-8 t c =
@@ -361,15 +367,15 @@ operand-returns-8 t c =
 
 operand-returns-9 : (t : ℕ) → operand-lts.Need-returns-9 (operand-claims t) (operand-at t) operand.Post
 operand-returns-9 t c =
-    let p = c .before .before .before .before .before .before .before .before .args in
+    let p = c .before .before .before .before .before .before .before .before .before .args in
     let m = rw (c .before .before .token-at3 .ensures) at (c .before .formula2 .ensures) in
     rw (c .fronted2 .ensures)
-    (operand-complements (p .line .now) (p .level) (p .ahead) (c .before .formula2 .result) (c .before .before .before .before .enum-told6 .given .1) (c .before .before .before .if2 .taken) m)
+    (operand-complements (p .line .now) (p .level) (p .ahead) (c .before .formula2 .result) (c .before .before .before .before .before .enum-told6 .given .1) (sym (c .before .before .before .if2 .taken) ∙ c .before .before .before .before .not-stands .ensures) m)
 
 operand-returns-10 : (t : ℕ) → operand-lts.Need-returns-10 (operand-claims t) (operand-at t) operand.Post
 operand-returns-10 t c =
-    let p = c .before .before .before .before .before .args in
-    operand-no-complement (p .line .now) (p .level) (p .ahead) (c .before .enum-told6 .given .1) (c .if2 .left)
+    let p = c .before .before .before .before .before .before .args in
+    operand-no-complement (p .line .now) (p .level) (p .ahead) (c .before .before .enum-told6 .given .1) (sym (c .if2 .left) ∙ c .before .not-stands .ensures)
 
 operand-returns-11 : (t : ℕ) → operand-lts.Need-returns-11 (operand-claims t) (operand-at t) operand.Post
 operand-returns-11 t c =
@@ -423,7 +429,6 @@ pub +arguments+formula+operand-spec : {M : Type 1} → statement M
     (λ c. search needs)
     (λ c κs. search needs)
     (λ c κs. search needs)
-    (λ c. omega (arith, level-small (c .before .before .before .operator .given .0 .0)))
     (formula-formula-requires t)
     (λ c κs. search needs)
     (formula-loop-less t)
@@ -447,9 +452,11 @@ pub +arguments+formula+operand-spec : {M : Type 1} → statement M
     (λ c κs. search needs)
     (λ c. search needs)
     (λ c κs. search needs)
+    (λ c κs. search needs)
     (operand-operand-requires t)
     (λ c κs. search needs)
     (λ c. search needs)
+    (λ c κs. search needs)
     (λ c κs. search needs)
     (operand-formula-requires-2 t)
     (λ c κs. search needs)

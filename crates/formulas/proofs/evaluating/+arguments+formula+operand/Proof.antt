@@ -12,8 +12,8 @@ use Rattle.words.proofs.token_at.Reads as token-at-reads
 use Rattle.grammar.specs.Trees.{Formula, none}
 use Rattle.grammar.specs.Formulas.{good}
 use Rattle.expressions.specs.Answers.{weight, formulaIn, argumentsOf}
-use Rattle.expressions.proofs.Steps.{level-small, operand-other, operand-no-sign}
-use Rattle.grammar.proofs.level_of.Reads as level-of-reads
+use Rattle.expressions.proofs.Steps.{operand-other, operand-no-sign}
+use Rattle.grammar.proofs.right_level.Reads as right-level-reads
 use Rattle.formulas.proofs.Climbing.{
   heft,
   formula-operand,
@@ -220,8 +220,8 @@ formula-claims t = (
   turn-of-reads.Learnt,
   token-at-reads.Asked,
   token-at-reads.Learnt,
-  level-of-reads.Asked,
-  level-of-reads.Learnt,
+  right-level-reads.Asked,
+  right-level-reads.Learnt,
   text-length-reads.Asked,
   text-length-reads.Learnt,
   formula-below t,
@@ -257,10 +257,10 @@ formula-operand-requires t c κs =
     let r = k .pre .1 in
     (omega (arith, k .pre .0), (r .0, (r .1 .0, formula-operand (k .args .line .now) (k .args .level) (k .args .ahead) (r .1 .1))))
 
-formula-add-formula-2 : (t : ℕ) → formula-lts.Need-add-formula-2 (formula-claims t) (formula-at t) formula.Post formula-Inv-loop formula-μ-loop
-formula-add-formula-2 t c =
+formula-add-formula : (t : ℕ) → formula-lts.Need-add-formula (formula-claims t) (formula-at t) formula.Post formula-Inv-loop formula-μ-loop
+formula-add-formula t c =
     let r = right-ready (formula-here t (c .before .before .before .before .before .before .before .before)) (c .before .before .before .before .before .before .before .turn-of .ensures) (c .before .before .before .before .before .operator .given .1) (c .before .before .before .token-at .ensures)
-    (c .before .before .level-of .ensures) (c .text-length .ensures) in
+    (c .before .before .right-level .ensures) (c .text-length .ensures) in
     omega (arith, r .within, r .small)
 
 formula-formula-requires : (t : ℕ) → formula-lts.Need-formula-requires (formula-claims t) (formula-at t) formula.Post formula-Inv-loop formula-μ-loop
@@ -269,23 +269,23 @@ formula-formula-requires t c κs =
     let h = c .before .before .before .before .before .before .before .turn-of .ensures in
     let e = c .before .before .before .before .before .operator .given .1 in
     let b = c .before .before .before .token-at .ensures in
-    (omega (arith, right-lighter here h e b, c .before .before .before .before .before .before .before .before .before .before .before .before .before .before .before .pre .0), right-asks here h e b (c .before .before .level-of .ensures) (c .text-length .ensures))
+    (omega (arith, right-lighter here h e b, c .before .before .before .before .before .before .before .before .before .before .before .before .before .before .before .pre .0), right-asks here h e b (c .before .before .right-level .ensures) (c .text-length .ensures))
 
 formula-joined-requires : (t : ℕ) → formula-lts.Need-joined-requires (formula-claims t) (formula-at t) formula.Post formula-Inv-loop formula-μ-loop
 formula-joined-requires t c κs =
     right-fits (formula-here t (c .before .before .before .before .before .before .before .before .before .before .before .before)) (c .before .before .before .before .before .before .before .before .before .before .before .turn-of .ensures) (c .before .before .before .before .before .before .before .before .before .operator .given .1) (c .before .before .before .before .before .before .before .token-at .ensures)
-    (c .before .before .before .before .before .before .level-of .ensures) (c .before .before .before .before .text-length .ensures) (c .before .before .before .formula .result) (c .before .before .before .formula .ensures)
+    (c .before .before .before .before .before .before .right-level .ensures) (c .before .before .before .before .text-length .ensures) (c .before .before .before .formula .result) (c .before .before .before .formula .ensures)
 
 formula-loop-less : (t : ℕ) → formula-lts.Need-loop-less (formula-claims t) (formula-at t) formula.Post formula-Inv-loop formula-μ-loop
 formula-loop-less t c =
     climbing-lightens (formula-here t (c .before .before .before .before .before .before .before .before .before .before .before .before .before)) (c .before .before .before .before .before .before .before .before .before .before .before .before .turn-of .ensures) (c .before .before .before .before .before .before .before .before .before .before .operator .given .1) (c .before .before .before .before .before .before .before .before .token-at .ensures)
-    (c .before .before .before .before .before .before .before .level-of .ensures) (c .before .before .before .before .before .text-length .ensures) (c .before .before .before .before .formula .result) (c .before .before .before .before .formula .ensures)
+    (c .before .before .before .before .before .before .before .right-level .ensures) (c .before .before .before .before .before .text-length .ensures) (c .before .before .before .before .formula .result) (c .before .before .before .before .formula .ensures)
     (c .joined .result) (c .joined .ensures)
 
 formula-loop-again : (t : ℕ) → formula-lts.Need-loop-again (formula-claims t) (formula-at t) formula.Post formula-Inv-loop formula-μ-loop
 formula-loop-again t c w before f u l =
     climbing-goes (c .before .before .before .before .before .before .before .before .before .before .before .before .before .loop .inv w before f u l) (c .before .before .before .before .before .before .before .before .before .before .before .before .turn-of .ensures) (c .before .before .before .before .before .before .before .before .before .before .operator .given .1) (c .before .before .before .before .before .before .before .before .token-at .ensures)
-    (c .before .before .before .before .before .before .before .level-of .ensures) (c .before .before .before .before .before .text-length .ensures) (c .before .before .before .before .formula .result) (c .before .before .before .before .formula .ensures)
+    (c .before .before .before .before .before .before .before .right-level .ensures) (c .before .before .before .before .before .text-length .ensures) (c .before .before .before .before .formula .result) (c .before .before .before .before .formula .ensures)
     (c .joined .result) (c .joined .ensures)
 
 -- ---- an operand
@@ -471,9 +471,8 @@ pub +arguments+formula+operand-spec : {M : Type 1} → statement M
     (λ c. search needs)
     (λ c κs. search needs)
     (λ c κs. search needs)
-    (λ c. omega (arith, level-small (c .before .before .before .operator .given .0 .0)))
     (λ c κs. search needs)
-    (formula-add-formula-2 t)
+    (formula-add-formula t)
     (formula-formula-requires t)
     (formula-joined-requires t)
     (formula-loop-less t)
