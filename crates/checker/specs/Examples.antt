@@ -10,7 +10,7 @@ use Rattle.words.specs.Spellings.{sameBytes, meaning}
 use Rattle.words.specs.Classes.{capitalOf, isLetter, isHex, hexDigit, signs, pairs, classOf}
 use Rattle.words.specs.Vocabulary.{reserved}
 use Rattle.words.specs.Names.{tellingOf}
-use Rattle.words.specs.Tokens.{markOf, wordToken, numberToken, hexFrom, hexToken, textToken, signToken, tokenAt}
+use Rattle.scanner.specs.Tokens.{markOf, wordToken, numberToken, hexFrom, hexToken, textToken, signToken, tokenAt}
 use Rattle.loader.specs.Lines.{linesFrom, numberOf}
 use Rattle.loader.specs.Loading.{isPlain, numbered, judged, loadLines, loadOf}
 use Rattle.loader.specs.declared.refusals.Refusal.the-variants.{NotRising}

@@ -27,6 +27,7 @@ use machine::Next;
 use machine::Record;
 use machine::Turned;
 use machine::passed;
+use scanner::token_at;
 use turns::after;
 use turns::fails;
 use turns::goes_on;
@@ -47,7 +48,6 @@ use words::Scanned;
 use words::Telling;
 use words::Word;
 use words::telling_of;
-use words::token_at;
 
 // An older loop of the variable is dropped with all above it.
 fn dropped_to(machine: Machine, found: Found) -> Machine

@@ -21,7 +21,7 @@ use Rattle.words.specs.declared.symbols.Sign.the-variants.{Semicolon}
 use Rattle.words.specs.declared.symbols.Token.{Token}
 use Rattle.words.specs.declared.symbols.Token.the-variants.{Named, Quoted}
 use Rattle.words.proofs.Choices.{by-test}
-use Rattle.words.proofs.Ends.{scanned-ends}
+use Rattle.scanner.proofs.Ends.{scanned-ends}
 use Rattle.space.specs.Moves.{copied}
 use Rattle.space.proofs.Frames.{copied-length, copied-below, copied-bytes, copied-past}
 use Rattle.loader.specs.Lines.{extentOr, endingOf, extentAt}

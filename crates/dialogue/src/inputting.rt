@@ -16,6 +16,7 @@ use machine::Machine;
 use machine::Turned;
 use machine::take_line;
 use machine::write;
+use scanner::token_at;
 use space::Offset;
 use space::copy_in;
 use turns::fails;
@@ -28,7 +29,6 @@ use words::Place;
 use words::Scanned;
 use words::Token;
 use words::telling_of;
-use words::token_at;
 
 // A line that was taken makes a string; its room is asked for before the variable's type is looked at.
 fn fill(

@@ -22,6 +22,7 @@ use machine::Printer;
 use machine::Turned;
 use machine::write;
 use machine::write_comma;
+use scanner::token_at;
 use turns::fails;
 use turns::goes_on;
 use turns::value;
@@ -32,7 +33,6 @@ use words::Place;
 use words::Scanned;
 use words::Sign;
 use words::Token;
-use words::token_at;
 
 const LINE_END: [u8; 2] = [13, 10];
 

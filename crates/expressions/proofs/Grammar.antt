@@ -5,7 +5,6 @@ use mathlib.Core.List.{List}
 use Prim.Native.Nat.{ℕ, zero, suc, _+_, _≤_, _<_}
 use native.Mathlib.Omega.{arith}
 use Rattle.whole.specs.declared.arithmetic.Operator.{Operator}
-use Rattle.words.specs.Tokens.{reads}
 use Rattle.words.specs.declared.places.Place.{Place}
 use Rattle.words.specs.declared.symbols.Function.{Function}
 use Rattle.words.specs.declared.symbols.Scanned.{Scanned}
@@ -35,6 +34,7 @@ use Rattle.words.specs.declared.symbols.Token.the-variants.{
   Unreadable,
 }
 use Rattle.words.proofs.Choices.{by-test}
+use Rattle.scanner.specs.Tokens.{reads}
 use Rattle.grammar.specs.Tests.{isSymbol}
 use Rattle.grammar.specs.Trees.{Formula, minus, complement, twoSided, Arguments, none, also}
 use Rattle.grammar.specs.Functions.{takes}

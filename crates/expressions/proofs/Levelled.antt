@@ -9,7 +9,6 @@ use native.Mathlib.Omega.{arith}
 use borrow.Author.Tests.{leb-true, leb-false}
 use lib.Dec.{leb}
 use Rattle.whole.specs.declared.arithmetic.Operator.{Operator}
-use Rattle.words.specs.Tokens.{tokenAt}
 use Rattle.words.specs.declared.places.Place.{Place}
 use Rattle.words.specs.declared.symbols.Function.{Function}
 use Rattle.words.specs.declared.symbols.Scanned.{Scanned}
@@ -39,6 +38,7 @@ use Rattle.words.specs.declared.symbols.Token.the-variants.{
   Unreadable,
 }
 use Rattle.words.proofs.Choices.{by-test}
+use Rattle.scanner.specs.Tokens.{tokenAt}
 use Rattle.grammar.specs.Tests.{isSymbol}
 use Rattle.grammar.specs.Trees.{Formula, number, variable, text, inside, minus, complement, twoSided, call, Arguments, none, also}
 use Rattle.grammar.specs.Functions.{takes}

@@ -8,7 +8,6 @@ use native.Mathlib.Omega.{arith}
 use denote.Enum.Declared.{tagOf}
 use types.Run.{OneOf, miss}
 use Rattle.whole.specs.declared.arithmetic.Operator.{Operator}
-use Rattle.words.specs.Tokens.{reads}
 use Rattle.words.specs.declared.names.Name.{Name}
 use Rattle.words.specs.declared.places.Place.{Place}
 use Rattle.words.specs.declared.symbols.Function.{Function}
@@ -27,6 +26,7 @@ use Rattle.words.specs.declared.symbols.Sign.the-variants.{
 }
 use Rattle.words.specs.declared.symbols.Token.{Token}
 use Rattle.words.specs.declared.symbols.Token.the-variants as token
+use Rattle.scanner.specs.Tokens.{reads}
 use Rattle.grammar.specs.Tests.{isSymbol}
 use Rattle.grammar.specs.Trees.{Formula, twoSided, Arguments, also, none}
 use Rattle.grammar.specs.Formulas.{notLevel, tightest, rightLevel, minusStands, notStands, tightOperator, Reading, bad, good, bySign, mapped, after, formulaAt, climbAt, operandAt, argumentsAt, enough, formulaOf}

@@ -6,7 +6,6 @@ use Prim.Native.Nat.{ℕ, _+_, _*_, _≤_, _<_}
 use native.Mathlib.Omega.{arith}
 use lib.ListN.{length}
 use Rattle.whole.specs.declared.arithmetic.Operator.{Operator}
-use Rattle.words.specs.Tokens.{reads, tokenAt}
 use Rattle.words.specs.declared.places.Place.{Place}
 use Rattle.words.specs.declared.symbols.Scanned.{Scanned}
 use Rattle.words.specs.declared.symbols.Sign.{Sign}
@@ -27,7 +26,8 @@ use Rattle.words.specs.declared.symbols.Token.the-variants.{
 }
 use Rattle.words.specs.declared.symbols.Word.{Word}
 use Rattle.words.proofs.Choices.{by-test}
-use Rattle.words.proofs.Ends.{token-ends}
+use Rattle.scanner.specs.Tokens.{reads, tokenAt}
+use Rattle.scanner.proofs.Ends.{token-ends}
 use Rattle.grammar.specs.Tests.{isSymbol, isKeyword}
 use Rattle.grammar.specs.Formulas.{tightOperator, after, enough}
 use Rattle.expressions.specs.Answers.{weight}

@@ -8,7 +8,7 @@ use lib.ListN.{length}
 use Rattle.words.specs.declared.symbols.Function.{Function}
 use Rattle.words.specs.declared.symbols.Scanned.{Scanned}
 use Rattle.words.specs.declared.symbols.Sign.the-variants.{Open, Close}
-use Rattle.words.specs.Tokens.{reads, tokenAt}
+use Rattle.scanner.specs.Tokens.{reads, tokenAt}
 use Rattle.whole.specs.declared.arithmetic.Operator.{Operator}
 use Rattle.grammar.specs.Tests.{choose, isSymbol}
 use Rattle.grammar.specs.Trees.{Arguments, none}

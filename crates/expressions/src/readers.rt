@@ -2,7 +2,7 @@
 // fewer. Each takes the token that it begins with and hands on the one that follows, so that no token is scanned twice.
 ghost use mathlib.Core.Path.{_≡_};
 ghost use Prim.Native.Nat.{ℕ, _+_, _<_, max};
-ghost use Rattle.words.specs.Tokens.{tokenAt};
+ghost use Rattle.scanner.specs.Tokens.{tokenAt};
 ghost use Rattle.grammar.specs.Trees.{Formula, Arguments, also};
 ghost use Rattle.expressions.specs.Types.{sortOf, depthOf};
 ghost use Rattle.grammar.specs.Formulas.{formulaAt, operandAt, formulaOf};
@@ -24,13 +24,13 @@ use grammar::minus_stands;
 use grammar::not_stands;
 use grammar::right_level;
 use grammar::tight_operator;
+use scanner::token_at;
 use whole::Operator;
 use words::Function;
 use words::Place;
 use words::Scanned;
 use words::Sign;
 use words::Token;
-use words::token_at;
 
 // A formula does not read, or it does: the token that follows it, its type, and how deep its parentheses nest, where more than
 // eight are nine.

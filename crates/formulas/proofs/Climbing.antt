@@ -8,10 +8,10 @@ use lib.ListN.{length}
 use Rattle.whole.specs.declared.arithmetic.Operator.{Operator}
 use Rattle.whole.specs.declared.errors.Error.{Error}
 use Rattle.whole.specs.declared.errors.Error.the-variants.{TypeMismatch}
-use Rattle.words.specs.Tokens.{tokenAt}
 use Rattle.words.specs.declared.places.Place.{Place}
 use Rattle.words.specs.declared.symbols.Scanned.{Scanned}
 use Rattle.words.proofs.Choices.{by-test}
+use Rattle.scanner.specs.Tokens.{tokenAt}
 use Rattle.space.proofs.Parts.{front-less}
 use Rattle.grammar.specs.Trees.{Formula, twoSided}
 use Rattle.grammar.specs.Formulas.{rightLevel, tightOperator, good, after, enough}

@@ -9,7 +9,6 @@ use Rattle.whole.specs.Whole.{negated, flipped}
 use Rattle.whole.specs.declared.arithmetic.Answer.{Answer}
 use Rattle.whole.specs.declared.arithmetic.Answer.the-variants.{Whole, Fault}
 use Rattle.words.specs.Names.{nameBytes, tellingOf}
-use Rattle.words.specs.Tokens.{reads, tokenAt}
 use Rattle.words.specs.declared.names.Name.{Name}
 use Rattle.words.specs.declared.symbols.Function.{Function}
 use Rattle.words.specs.declared.symbols.Quotation.{Quotation}
@@ -17,7 +16,8 @@ use Rattle.words.specs.declared.symbols.Scanned.{Scanned}
 use Rattle.words.specs.declared.symbols.Sign.{Sign}
 use Rattle.words.specs.declared.symbols.Sign.the-variants.{Open, Minus}
 use Rattle.words.specs.declared.symbols.Token.the-variants as token
-use Rattle.words.proofs.Ends.{scanned-ends}
+use Rattle.scanner.specs.Tokens.{reads, tokenAt}
+use Rattle.scanner.proofs.Ends.{scanned-ends}
 use Rattle.grammar.specs.Trees.{Formula, number, variable, text, minus, complement, none}
 use Rattle.grammar.specs.Formulas.{notLevel, tightest, good, after, quotedBytes}
 use Rattle.expressions.specs.Answers.{weight, formulaIn, operandOf, argumentsOf}

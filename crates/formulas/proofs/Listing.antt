@@ -8,12 +8,12 @@ use lib.Dec.{eqb}
 use lib.ListN.{length, take, drop}
 use lib.Seq.{drop-drop}
 use Rattle.whole.specs.declared.errors.Error.{Error}
-use Rattle.words.specs.Tokens.{tokenAt}
 use Rattle.words.specs.declared.places.Place.{Place}
 use Rattle.words.specs.declared.symbols.Function.{Function}
 use Rattle.words.specs.declared.symbols.Function.the-variants.{Instr}
 use Rattle.words.specs.declared.symbols.Scanned.{Scanned}
 use Rattle.words.specs.declared.symbols.Sign.the-variants.{Comma}
+use Rattle.scanner.specs.Tokens.{tokenAt}
 use Rattle.space.proofs.Parts.{front-less, part-below}
 use Rattle.grammar.specs.Trees.{Formula, call, Arguments, none, also}
 use Rattle.grammar.specs.Functions.{takes, wants}

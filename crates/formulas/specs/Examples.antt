@@ -14,7 +14,7 @@ use Rattle.words.specs.Classes.{capitalOf, isLetter, isHex, hexDigit, signs, pa
 use Rattle.words.specs.Vocabulary.{reserved}
 use Rattle.words.specs.Names.{tellingOf}
 use Rattle.words.specs.Places.{place}
-use Rattle.words.specs.Tokens.{
+use Rattle.scanner.specs.Tokens.{
   markOf,
   wordToken,
   numberToken,

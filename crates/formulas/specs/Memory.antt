@@ -7,8 +7,8 @@ use Rattle.variables.specs.Strings.{Room}
 use Rattle.variables.specs.Variables.{Variables}
 use Rattle.whole.specs.declared.errors.Error.the-variants.{TypeMismatch}
 use Rattle.words.specs.declared.symbols.Scanned.{Scanned}
-use Rattle.words.specs.Tokens.{tokenAt}
 use Rattle.words.specs.declared.places.Place.{Place}
+use Rattle.scanner.specs.Tokens.{tokenAt}
 use Rattle.grammar.specs.Trees.{Formula}
 use Rattle.grammar.specs.Formulas.{Reading, good}
 use Rattle.expressions.specs.Answers.{operandOf}

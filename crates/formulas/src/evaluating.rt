@@ -27,6 +27,7 @@ use grammar::right_level;
 use operators::Turn;
 use operators::joined;
 use operators::turn_of;
+use scanner::token_at;
 use strings::Given;
 use strings::given_length;
 use variables::Worked;
@@ -36,7 +37,6 @@ use words::Function;
 use words::Scanned;
 use words::Sign;
 use words::Token;
-use words::token_at;
 
 // The formula of a level: an operand, and as long as an operator of that level or a tighter one follows, what it makes of both sides.
 fn formula(

@@ -11,6 +11,7 @@ ghost use Rattle.operators.specs.Values.{variableValue};
 ghost use Rattle.variables.specs.Memory.{sumOf, wordAt, bytesAt, SlotBelow, answeredAs, Looked, Made};
 ghost use Rattle.formulas.specs.Memory.{wholeAs, notWhole, closedAs, Ready};
 ghost use Rattle.variables.specs.declared.values.Worked.the-variants as worked;
+use scanner::token_at;
 use space::Offset;
 use space::copy_in;
 use space::move_bytes;
@@ -29,7 +30,6 @@ use words::Name;
 use words::Quotation;
 use words::Scanned;
 use words::telling_of;
-use words::token_at;
 
 // A quoted text is copied from the line.
 pub(crate) fn quoted(

@@ -9,7 +9,6 @@ use lib.ListN.{length, take, drop}
 use Rattle.whole.specs.declared.arithmetic.Operator.{Operator}
 use Rattle.whole.specs.declared.arithmetic.Operator.the-variants as operator
 use Rattle.words.specs.Names.{nameBytes, tellingOf}
-use Rattle.words.specs.Tokens.{tokenAt}
 use Rattle.words.specs.declared.places.Place.{Place}
 use Rattle.words.specs.declared.symbols.Function.{Function}
 use Rattle.words.specs.declared.symbols.Quotation.{Quotation}
@@ -40,6 +39,7 @@ use Rattle.words.specs.declared.symbols.Sign.the-variants.{
   Equal,
   Minus,
 }
+use Rattle.scanner.specs.Tokens.{tokenAt}
 use Rattle.grammar.specs.Tests.{choose, isSymbol}
 use Rattle.grammar.specs.Trees.{Formula, number, variable, text, inside, minus, complement, twoSided, call, Arguments, none, also}
 use Rattle.grammar.specs.Functions.{takes}

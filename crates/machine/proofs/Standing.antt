@@ -10,7 +10,6 @@ use lib.Seq.{take-add, drop-at, drop-drop, length-take-le}
 use Rattle.whole.specs.Digits.{leadingDigits, leadingValue}
 use Rattle.whole.proofs.Numbers.{less}
 use Rattle.words.specs.Places.{place, lineNumber}
-use Rattle.words.specs.Tokens.{tokenAt}
 use Rattle.words.specs.declared.places.LineNumber.{LineNumber}
 use Rattle.words.specs.declared.symbols.Scanned.{Scanned}
 use Rattle.words.specs.declared.symbols.Token.{Token}
@@ -28,6 +27,7 @@ use Rattle.words.specs.declared.symbols.Token.the-variants.{
   Symbol,
   Unreadable,
 }
+use Rattle.scanner.specs.Tokens.{tokenAt}
 use Rattle.grammar.specs.Trees.{Part}
 use Rattle.statements.specs.Statements.{bad, byToken, begunAt, badPart, goodPart}
 use Rattle.statements.specs.Answers.{partOf}

@@ -9,7 +9,6 @@ use lib.Dec.{leb}
 use lib.ListN.{getD, take}
 use Rattle.words.specs.Names.{nameBytes, tellingOf}
 use Rattle.words.specs.Places.{place}
-use Rattle.words.specs.Tokens.{tokenAt}
 use Rattle.words.specs.declared.names.Kind.{Kind}
 use Rattle.words.specs.declared.names.Kind.the-variants as kind
 use Rattle.words.specs.declared.names.Name.{Name}
@@ -17,6 +16,7 @@ use Rattle.words.specs.declared.names.Telling.{Telling}
 use Rattle.words.specs.declared.symbols.Token.{Token}
 use Rattle.words.specs.declared.symbols.Token.the-variants as token
 use Rattle.words.proofs.Choices.{by-test}
+use Rattle.scanner.specs.Tokens.{tokenAt}
 use Rattle.grammar.specs.Tests.{onName}
 use Rattle.variables.specs.Memory.{slotIn, sumOf}
 use Rattle.variables.specs.declared.tables.Slot.{Slot}

@@ -3,6 +3,7 @@
 use mathlib.Core.Path.{_≡_, sym, _∙_}
 pub mod Whole
 pub mod Words
+pub mod Scanner
 pub mod Loader
 pub mod Grammar
 pub mod Expressions

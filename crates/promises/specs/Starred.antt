@@ -15,7 +15,7 @@ use Rattle.words.specs.Classes.{capitalOf, isLetter, isHex, hexDigit, signs, pa
 use Rattle.words.specs.Vocabulary.{reserved}
 use Rattle.words.specs.Names.{tellingOf}
 use Rattle.words.specs.Places.{lineNumber}
-use Rattle.words.specs.Tokens.{markOf, wordToken, numberToken, hexFrom, hexToken, textToken, signToken, tokenAt}
+use Rattle.scanner.specs.Tokens.{markOf, wordToken, numberToken, hexFrom, hexToken, textToken, signToken, tokenAt}
 use Rattle.loader.specs.Lines.{linesFrom, numberOf, fromNumber}
 use Rattle.loader.specs.Loading.{isPlain, numbered, judged, loadLines, loadOf}
 use Rattle.grammar.specs.Functions.{formFor, anyFor}

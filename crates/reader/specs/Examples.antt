@@ -11,8 +11,8 @@ use Rattle.words.specs.Spellings.{sameBytes, meaning}
 use Rattle.words.specs.Classes.{capitalOf, isLetter, isHex, hexDigit, signs, pairs, classOf}
 use Rattle.words.specs.Vocabulary.{reserved}
 use Rattle.words.specs.Names.{tellingOf}
-use Rattle.words.specs.Tokens.{markOf, wordToken, numberToken, hexFrom, hexToken, textToken, signToken, tokenAt, _upto_}
 use Rattle.words.specs.declared.symbols.Token.the-variants.{EndOfLine}
+use Rattle.scanner.specs.Tokens.{markOf, wordToken, numberToken, hexFrom, hexToken, textToken, signToken, tokenAt, _upto_}
 use Rattle.grammar.specs.Trees.{Formula, number, twoSided}
 use Rattle.grammar.specs.Functions.{formFor, anyFor}
 use Rattle.grammar.specs.Formulas.{Reading, good, countOf, formulaAt, climbAt, operandAt, argumentsAt, formulaOf}

@@ -9,13 +9,13 @@ use types.Run.{OneOf, miss}
 use lib.ListN.{length, getD, take}
 use Rattle.words.specs.Names.{nameBytes, tellingOf}
 use Rattle.words.specs.Places.{place}
-use Rattle.words.specs.Tokens.{tokenAt}
 use Rattle.words.specs.declared.names.Kind.{Kind}
 use Rattle.words.specs.declared.names.Name.{Name}
 use Rattle.words.specs.declared.names.Telling.{Telling}
 use Rattle.words.specs.declared.symbols.Scanned.{Scanned}
 use Rattle.words.specs.declared.symbols.Token.{Token}
 use Rattle.words.specs.declared.symbols.Token.the-variants as token
+use Rattle.scanner.specs.Tokens.{tokenAt}
 use Rattle.grammar.specs.Tests.{onName}
 use Rattle.variables.specs.Memory.{sumOf}
 use Rattle.variables.specs.declared.tables.Slot.{Slot}

@@ -7,12 +7,12 @@ use lib.Dec.{leb, eqb}
 use lib.ListN.{length, getD, take}
 use Rattle.words.specs.Names.{nameBytes, tellingOf}
 use Rattle.words.specs.Places.{place}
-use Rattle.words.specs.Tokens.{tokenAt}
 use Rattle.words.specs.declared.names.Kind.{Kind}
 use Rattle.words.specs.declared.names.Kind.the-variants as kind
 use Rattle.words.specs.declared.names.Name.{Name}
 use Rattle.words.specs.declared.names.Telling.{Telling}
 use Rattle.words.specs.declared.symbols.Scanned.{Scanned}
+use Rattle.scanner.specs.Tokens.{tokenAt}
 use Rattle.grammar.specs.Tests.{onName}
 use Rattle.variables.specs.Variables.{wordOf}
 use Rattle.variables.specs.Memory.{namesIn, numbersIn, slotIn, sumOf}

@@ -4,6 +4,7 @@ ghost use lib.ListN.{length};
 ghost use Rattle.variables.specs.Memory.{namesIn, numbersIn, slotIn};
 ghost use Rattle.variables.specs.Variables.{wordOf};
 ghost use Rattle.runner.specs.Asking.{stringAsked, askOf};
+use scanner::token_at;
 use space::Offset;
 use variables::Numbers;
 use variables::Slot;
@@ -16,7 +17,6 @@ use words::Place;
 use words::Telling;
 use words::Token;
 use words::telling_of;
-use words::token_at;
 
 // A whole number, or a text by its part of the space; or 111.
 pub enum Asked {

@@ -5,12 +5,12 @@ use mathlib.Core.List.{List, []}
 use Prim.Native.Nat.{ℕ, zero, suc, _≤_}
 use native.Mathlib.Omega.{arith}
 use Rattle.words.specs.Places.{place}
-use Rattle.words.specs.Tokens.{reads, tokenAt}
 use Rattle.words.specs.declared.symbols.Scanned.{Scanned}
 use Rattle.words.specs.declared.symbols.Sign.the-variants.{Comma, Semicolon, Equal}
 use Rattle.words.specs.declared.symbols.Word.{Word}
 use Rattle.words.specs.declared.symbols.Word.the-variants.{Let, Then, Goto, To, Step, Input}
 use Rattle.words.proofs.Choices.{by-test}
+use Rattle.scanner.specs.Tokens.{reads, tokenAt}
 use Rattle.grammar.specs.Tests.{isSymbol, isKeyword, endsStatement}
 use Rattle.grammar.specs.Trees.{Formula, Variable, Item, comma, semicolon, shown, Statement, empty, assign, print, ifThen, ifElse, goto, gosub, return, for, next, nextOf, lineInput, end, stop, remark}
 use Rattle.grammar.specs.Formulas as formulas

@@ -3,7 +3,6 @@ use mathlib.Core.Path.{_≡_, refl, sym, _∙_}
 use mathlib.Core.Bool.{Bool, true, false, not}
 use borrow.Author.Tests.{not-true, not-false}
 use Rattle.words.specs.Places.{lineNumber}
-use Rattle.words.specs.Tokens.{reads}
 use Rattle.words.specs.declared.names.Kind.{Kind}
 use Rattle.words.specs.declared.names.Kind.the-variants as kind
 use Rattle.words.specs.declared.names.Name.{Name}
@@ -25,6 +24,7 @@ use Rattle.words.specs.declared.symbols.Token.the-variants.{
   Symbol,
   Unreadable,
 }
+use Rattle.scanner.specs.Tokens.{reads}
 use Rattle.grammar.specs.Tests.{onName, onText, onLine}
 use Rattle.grammar.specs.Trees.{goto, gosub}
 use Rattle.expressions.specs.Types.{ofKind}

@@ -6,11 +6,11 @@ use mathlib.Core.List.{List, [], _∷_, _++_, append-nil}
 use Prim.Native.Nat.{ℕ, _+_}
 use native.Mathlib.Omega.{arith}
 use Rattle.words.specs.Places.{place}
-use Rattle.words.specs.Tokens.{tokenAt}
 use Rattle.words.specs.declared.symbols.Scanned.{Scanned}
 use Rattle.words.specs.declared.symbols.Sign.the-variants.{Comma, Semicolon, Colon}
 use Rattle.words.specs.declared.symbols.Word.the-variants.{Else}
 use Rattle.words.proofs.Choices.{by-test}
+use Rattle.scanner.specs.Tokens.{tokenAt}
 use Rattle.grammar.specs.Tests.{choose, isSymbol, isKeyword, endsStatement, endsLine}
 use Rattle.grammar.specs.Trees.{Formula, Item, comma, semicolon, shown, Statement, ifThen, ifElse, Part, last, more}
 use Rattle.grammar.specs.Formulas as formulas

@@ -3,7 +3,7 @@ ghost use mathlib.Core.Path.{_≡_};
 ghost use mathlib.Core.Bool.{true, _&&_};
 ghost use mathlib.Core.List.{List};
 ghost use Prim.Native.Nat.{ℕ};
-ghost use Rattle.words.specs.Tokens.{tokenAt};
+ghost use Rattle.scanner.specs.Tokens.{tokenAt};
 ghost use Rattle.grammar.specs.Tests.{choose, isKeyword, onName, onLine};
 ghost use Rattle.grammar.specs.Trees.{Formula, Variable, goto, next, nextOf};
 ghost use Rattle.grammar.specs.Formulas.{Reading, after, formulaOf};
@@ -26,6 +26,7 @@ use grammar::ends_statement;
 use grammar::is_keyword;
 use grammar::is_symbol;
 use grammar::line_of;
+use scanner::token_at;
 use words::Kind;
 use words::Name;
 use words::Place;
@@ -33,7 +34,6 @@ use words::Scanned;
 use words::Sign;
 use words::Token;
 use words::Word;
-use words::token_at;
 
 // What is known of a statement by itself: the token that follows it, how deep its formulas nest, whether its types are right, and
 // the line that it names.

@@ -8,7 +8,6 @@ use lib.ListN.{length, set}
 use denote.Enum.Declared.{tagOf}
 use types.Run.{OneOf, miss}
 use Rattle.words.specs.Places.{place}
-use Rattle.words.specs.Tokens.{tokenAt}
 use Rattle.whole.specs.declared.errors.Error.{Error}
 use Rattle.whole.specs.declared.errors.Error.the-variants.{TypeMismatch}
 use Rattle.words.specs.declared.names.Kind.the-variants as kind
@@ -59,6 +58,7 @@ use Rattle.words.specs.declared.symbols.Word.the-variants.{
   Restore,
 }
 use Rattle.words.proofs.Choices.{by-test}
+use Rattle.scanner.specs.Tokens.{tokenAt}
 use Rattle.grammar.specs.Tests.{isSymbol, isKeyword, endsStatement}
 use Rattle.grammar.specs.Trees as tree
 use Rattle.grammar.specs.Trees.{Part, last, more}

@@ -4,7 +4,6 @@ use mathlib.Core.Bool.{true}
 use mathlib.Core.List.{List, [], _∷_}
 use Prim.Native.Nat.{ℕ}
 use types.Run.{OneOf, miss}
-use Rattle.words.specs.Tokens.{tokenAt}
 use Rattle.words.specs.declared.names.Name.{Name}
 use Rattle.words.specs.declared.places.Place.{Place}
 use Rattle.words.specs.declared.symbols.Scanned.{Scanned}
@@ -50,6 +49,7 @@ use Rattle.words.specs.declared.symbols.Word.the-variants.{
   Read,
   Restore,
 }
+use Rattle.scanner.specs.Tokens.{tokenAt}
 use Rattle.grammar.specs.Tests.{isKeyword, onName}
 use Rattle.grammar.specs.Trees.{Statement, next, nextOf, Part, last, more}
 use Rattle.grammar.specs.Formulas.{after}

@@ -27,6 +27,7 @@ use machine::Next;
 use machine::Record;
 use machine::Sought;
 use machine::Turned;
+use scanner::token_at;
 use turns::assign;
 use turns::fails;
 use turns::goes_on;
@@ -39,7 +40,6 @@ use words::Sign;
 use words::Token;
 use words::Word;
 use words::telling_of;
-use words::token_at;
 
 // The record that the statement at a place asks for.
 pub fn sought_record(line: &[u8], at: Place) -> Sought

@@ -1,5 +1,5 @@
--- The classes of bytes, the signs, and the runs of bytes that words, numbers and texts are made of.
-use mathlib.Core.Bool.{Bool, true, false, cond, not, _&&_, _||_}
+-- The classes of bytes, and the signs.
+use mathlib.Core.Bool.{Bool, cond, _&&_, _||_}
 use mathlib.Core.List.{List, [], _∷_}
 use Prim.Native.Nat.{ℕ, _+_, _-_}
 use Prim.Native.Char.{code}
@@ -9,8 +9,6 @@ use Rattle.whole.specs.Digits.{isDigit}
 use Rattle.words.specs.Spellings.{Spelt, _means_, meaning}
 use Rattle.words.specs.declared.classes.ByteClass.{ByteClass}
 use Rattle.words.specs.declared.classes.ByteClass.the-variants as class
-use Rattle.words.specs.declared.classes.Run.{Run}
-use Rattle.words.specs.declared.classes.Run.the-variants as run
 use Rattle.words.specs.declared.classes.SignFound.{SignFound}
 use Rattle.words.specs.declared.classes.SignFound.the-variants.{Is, None}
 use Rattle.whole.specs.declared.arithmetic.Operator.the-variants.{
@@ -97,21 +95,3 @@ classOf b =
     (cond (isDigit b) class.Digit
     (cond (is " " b) class.Blank
     (cond (is "\"" b) class.Quote (ofSign (signOf b)))))
-
--- ---- runs
-
--- a word is a run of letters and digits
-abbrev pub ofWord : ByteClass → Bool
-ofWord class.Letter = true
-ofWord class.Digit = true
-ofWord class.Blank = false
-ofWord class.Sign = false
-ofWord class.Quote = false
-ofWord class.Other = false
-
--- whether a byte belongs to a run: of blanks, a word's, a hexadecimal number's, a quoted text's
-abbrev pub passes : Run → ℕ → Bool
-passes run.Blank b = is " " b
-passes run.Word b = ofWord (classOf b)
-passes run.Hex b = isHex b
-passes run.Unquoted b = not (is "\"" b)

@@ -4,5 +4,4 @@ pub mod Classes
 pub mod Vocabulary
 pub mod Packed
 pub mod Names
-pub mod Tokens
 pub mod Examples

@@ -1,9 +1,7 @@
-// The classes of bytes, the signs, and runs of bytes that belong together.
+// The classes of bytes, and the signs.
 ghost use mathlib.Core.Path.{_≡_};
-ghost use Prim.Native.Nat.{_+_};
-ghost use lib.ListN.{length, getD, drop};
-ghost use Rattle.whole.specs.Bytes.{leading};
-ghost use Rattle.words.specs.Classes.{capitalOf, isLetter, signOf, classOf, isHex, passes};
+ghost use lib.ListN.{getD};
+ghost use Rattle.words.specs.Classes.{capitalOf, isLetter, signOf, classOf};
 use crate::symbols::Sign;
 use crate::symbols::Token;
 use whole::Operator;
@@ -23,14 +21,6 @@ pub enum ByteClass {
 pub enum SignFound {
     Is(Token),
     None,
-}
-
-// The runs of bytes that a token is made of, and the blanks before it.
-pub enum Run {
-    Blank,
-    Word,
-    Hex,
-    Unquoted,
 }
 
 // The byte at a place; 0 past the line's end.
@@ -58,16 +48,6 @@ fn is_letter(byte: u8) -> bool
 {
     let letter = capital(byte);
     b'A' <= letter && letter <= b'Z'
-}
-
-fn is_hex(byte: u8) -> bool
-    ensures { λ r. ⌜ r ≡ isHex byte ⌝ }
-{
-    if is_digit(byte) {
-        return true;
-    }
-    let letter = capital(byte);
-    b'A' <= letter && letter <= b'F'
 }
 
 // The sign that a byte is by itself.
@@ -113,34 +93,4 @@ pub fn class_of(byte: u8) -> ByteClass
         SignFound::Is(_) => ByteClass::Sign,
         SignFound::None => ByteClass::Other,
     }
-}
-
-// Whether a byte belongs to a run.
-fn in_run(run: Run, byte: u8) -> bool
-    ensures { λ r. ⌜ r ≡ passes run byte ⌝ }
-{
-    match run {
-        Run::Blank => byte == b' ',
-        Run::Word => match class_of(byte) {
-            ByteClass::Letter => true,
-            ByteClass::Digit => true,
-            _ => false,
-        },
-        Run::Hex => is_hex(byte),
-        Run::Unquoted => byte != b'"',
-    }
-}
-
-// The place where the run that stands at a place ends.
-pub fn run_end(line: &[u8], at: usize, run: Run) -> usize
-    ensures { λ r. ⌜ r ≡ at + length (leading (passes run) (drop at (now (line .entry)))) ⌝ }
-{
-    let mut end = at;
-    while end < line.len() {
-        if !in_run(run, line[end]) {
-            return end;
-        }
-        end += 1;
-    }
-    end
 }

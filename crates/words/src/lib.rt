@@ -1,14 +1,16 @@
-// The words of a line: the classes of bytes, the reserved words, names, and the token at a place.
+// What can stand in a line: the classes of bytes, the signs, the reserved words, names, and the kinds of tokens.
 mod classes;
 mod names;
 mod places;
 mod symbols;
-mod tokens;
 mod vocabulary;
 
 pub use classes::ByteClass;
+pub use classes::SignFound;
+pub use classes::byte_at;
 pub use classes::capital;
 pub use classes::class_of;
+pub use classes::sign_of;
 pub use names::Kind;
 pub use names::Name;
 pub use names::Telling;
@@ -22,4 +24,5 @@ pub use symbols::Scanned;
 pub use symbols::Sign;
 pub use symbols::Token;
 pub use symbols::Word;
-pub use tokens::token_at;
+pub use vocabulary::WordFound;
+pub use vocabulary::word_of;

@@ -4,8 +4,14 @@ use Rattle.words.proofs as words
 use Rattle.promises.specs.Calls.{Unique}
 use Rattle.promises.proofs.Unique.{same}
 
+pub byte-at : Unique words.byte_at.Kinds.ps words.byte_at.Kinds.r words.byte_at.Reads.Pre words.byte_at.Reads.Post
+byte-at κs a p z z′ ws ws′ e e′ = (same e e′, refl)
+
 pub capital : Unique words.capital.Kinds.ps words.capital.Kinds.r words.capital.Reads.Pre words.capital.Reads.Post
 capital κs a p z z′ ws ws′ e e′ = (same e e′, refl)
+
+pub sign-of : Unique words.sign_of.Kinds.ps words.sign_of.Kinds.r words.sign_of.Reads.Pre words.sign_of.Reads.Post
+sign-of κs a p z z′ ws ws′ e e′ = (same e e′, refl)
 
 pub class-of : Unique words.class_of.Kinds.ps words.class_of.Kinds.r words.class_of.Reads.Pre words.class_of.Reads.Post
 class-of κs a p z z′ ws ws′ e e′ = (same e e′, refl)
@@ -16,5 +22,5 @@ telling-of κs a p z z′ ws ws′ e e′ = (same e e′, refl)
 pub same-name : Unique words.same_name.Kinds.ps words.same_name.Kinds.r words.same_name.Reads.Pre words.same_name.Reads.Post
 same-name κs a p z z′ ws ws′ e e′ = (same e e′, refl)
 
-pub token-at : Unique words.token_at.Kinds.ps words.token_at.Kinds.r words.token_at.Reads.Pre words.token_at.Reads.Post
-token-at κs a p z z′ ws ws′ e e′ = (same e e′, refl)
+pub word-of : Unique words.word_of.Kinds.ps words.word_of.Kinds.r words.word_of.Reads.Pre words.word_of.Reads.Post
+word-of κs a p z z′ ws ws′ e e′ = (same e e′, refl)

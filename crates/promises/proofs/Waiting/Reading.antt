@@ -7,11 +7,11 @@ use native.Mathlib.Omega.{arith}
 use borrow.Author.Tests.{ltb-false}
 use lib.Dec.{ltb}
 use Rattle.words.specs.Places.{place}
-use Rattle.words.specs.Tokens.{tokenAt}
 use Rattle.words.specs.declared.symbols.Scanned.{Scanned}
 use Rattle.words.specs.declared.symbols.Sign.the-variants.{Comma, Semicolon, Colon}
 use Rattle.words.specs.declared.symbols.Word.the-variants.{Else, Step}
 use Rattle.words.proofs.Choices.{by-test}
+use Rattle.scanner.specs.Tokens.{tokenAt}
 use Rattle.grammar.specs.Tests.{isSymbol, isKeyword, endsStatement, endsLine}
 use Rattle.grammar.specs.Trees.{Formula, number, Item, comma, semicolon, shown, Statement, empty, assign, print, ifThen, ifElse, goto, gosub, return, for, next, nextOf, lineInput, end, stop, remark, Part, last, more}
 use Rattle.grammar.specs.Formulas as formulas

@@ -6,7 +6,7 @@ use Rattle.dialogue.proofs.inputting.line_input.Tie as tie
 use Rattle.dialogue.proofs.inputting.line_input.Reads as reads
 use Rattle.dialogue.proofs.inputting.line_input.Lts as lts
 use Rattle.dialogue.proofs.inputting.prompt.Reads as prompt-reads
-use Rattle.words.proofs.token_at.Reads as token-at-reads
+use Rattle.scanner.proofs.token_at.Reads as token-at-reads
 
 enum-known-token : tie.Need-enum-known-token
 enum-known-token c = search needs

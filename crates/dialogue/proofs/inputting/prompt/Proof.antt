@@ -14,7 +14,7 @@ use Rattle.machine.proofs.write.Reads as write-reads
 use Rattle.dialogue.proofs.inputting.take_in.Reads as take-in-reads
 use Rattle.dialogue.proofs.outputting.with_printer.Reads as with-printer-reads
 use Rattle.turns.proofs.fails.Reads as fails-reads
-use Rattle.words.proofs.token_at.Reads as token-at-reads
+use Rattle.scanner.proofs.token_at.Reads as token-at-reads
 
 write-requires : tie.Need-write-requires
 write-requires c κs = search needs

@@ -7,7 +7,7 @@ use borrow.Author.Tests.{not-true, not-false}
 use borrow.Fn.Kinds.{In}
 use borrow.Fn.PlainCycle.{Measures, is, falls, and}
 use Rattle.words.specs.declared.symbols.Token.the-variants.{Symbol}
-use Rattle.words.proofs.token_at.Reads as token-at-reads
+use Rattle.scanner.proofs.token_at.Reads as token-at-reads
 use Rattle.expressions.specs.Answers.{weight}
 use Rattle.expressions.specs.declared.readers.FormulaRead.{FormulaRead}
 use Rattle.expressions.proofs.Weights.{symbol-reads, operator-reads, after-lighter}

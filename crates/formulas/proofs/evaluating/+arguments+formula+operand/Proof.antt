@@ -8,7 +8,7 @@ use borrow.Author.Needs.{needs}
 use borrow.Fn.Kinds.{In}
 use borrow.Fn.PlainCycle.{Measures, is, falls, and}
 use Rattle.words.specs.declared.symbols.Scanned.{Scanned}
-use Rattle.words.proofs.token_at.Reads as token-at-reads
+use Rattle.scanner.proofs.token_at.Reads as token-at-reads
 use Rattle.grammar.specs.Trees.{Formula, none}
 use Rattle.grammar.specs.Formulas.{good}
 use Rattle.expressions.specs.Answers.{weight, formulaIn, argumentsOf}

@@ -19,7 +19,7 @@ use Rattle.steps.proofs.doing.next_loop.Reads as next-loop-reads
 use Rattle.steps.proofs.doing.set.Reads as set-reads
 use Rattle.turns.proofs.goes_on.Reads as goes-on-reads
 use Rattle.turns.proofs.turned_to.Reads as turned-to-reads
-use Rattle.words.proofs.token_at.Reads as token-at-reads
+use Rattle.scanner.proofs.token_at.Reads as token-at-reads
 
 token-at-requires : tie.Need-token-at-requires
 token-at-requires c κs = search needs

@@ -9,7 +9,7 @@ use Rattle.steps.proofs.doing.call.Lts as lts
 use Rattle.grammar.proofs.line_of.Reads as line-of-reads
 use Rattle.control.proofs.gosub.Reads as gosub-reads
 use Rattle.turns.proofs.fails.Reads as fails-reads
-use Rattle.words.proofs.token_at.Reads as token-at-reads
+use Rattle.scanner.proofs.token_at.Reads as token-at-reads
 
 line-of-requires : tie.Need-line-of-requires
 line-of-requires c κs = search needs

@@ -8,7 +8,7 @@ use Rattle.steps.proofs.doing.count.Reads as reads
 use Rattle.steps.proofs.doing.count.Lts as lts
 use Rattle.control.proofs.for_loop.Reads as for-loop-reads
 use Rattle.turns.proofs.fails.Reads as fails-reads
-use Rattle.words.proofs.token_at.Reads as token-at-reads
+use Rattle.scanner.proofs.token_at.Reads as token-at-reads
 
 token-at-requires : tie.Need-token-at-requires
 token-at-requires c κs = search needs

@@ -11,7 +11,7 @@ use Rattle.steps.proofs.doing.by_word.Reads as by-word-reads
 use Rattle.steps.proofs.doing.jump.Reads as jump-reads
 use Rattle.steps.proofs.doing.set.Reads as set-reads
 use Rattle.turns.proofs.goes_on.Reads as goes-on-reads
-use Rattle.words.proofs.token_at.Reads as token-at-reads
+use Rattle.scanner.proofs.token_at.Reads as token-at-reads
 
 token-at-requires : tie.Need-token-at-requires
 token-at-requires c κs = search needs

@@ -10,7 +10,7 @@ use Rattle.steps.proofs.doing.next_loop.Reads as reads
 use Rattle.steps.proofs.doing.next_loop.Lts as lts
 use Rattle.control.proofs.next_turn.Reads as next-turn-reads
 use Rattle.turns.proofs.fails.Reads as fails-reads
-use Rattle.words.proofs.token_at.Reads as token-at-reads
+use Rattle.scanner.proofs.token_at.Reads as token-at-reads
 
 enum-known-token : tie.Need-enum-known-token
 enum-known-token c = search needs

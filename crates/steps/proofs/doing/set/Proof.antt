@@ -11,7 +11,7 @@ use Rattle.steps.proofs.doing.set.Reads as reads
 use Rattle.steps.proofs.doing.set.Lts as lts
 use Rattle.turns.proofs.assign.Reads as assign-reads
 use Rattle.turns.proofs.fails.Reads as fails-reads
-use Rattle.words.proofs.token_at.Reads as token-at-reads
+use Rattle.scanner.proofs.token_at.Reads as token-at-reads
 
 token-at-requires : tie.Need-token-at-requires
 token-at-requires c κs = search needs

@@ -6,7 +6,7 @@ use Rattle.steps.proofs.doing.sought_record.Tie as tie
 use Rattle.steps.proofs.doing.sought_record.Reads as reads
 use Rattle.steps.proofs.doing.sought_record.Lts as lts
 use Rattle.steps.proofs.doing.named_loop.Reads as named-loop-reads
-use Rattle.words.proofs.token_at.Reads as token-at-reads
+use Rattle.scanner.proofs.token_at.Reads as token-at-reads
 
 token-at-requires : tie.Need-token-at-requires
 token-at-requires c κs = search needs

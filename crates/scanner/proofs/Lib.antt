@@ -1,0 +1,4 @@
+pub mod Marks
+pub mod Hexadecimals
+pub mod Beginnings
+pub mod Ends

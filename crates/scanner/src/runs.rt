@@ -1,0 +1,59 @@
+// Runs of bytes that belong together.
+ghost use mathlib.Core.Path.{_≡_};
+ghost use Prim.Native.Nat.{_+_};
+ghost use lib.ListN.{length, drop};
+ghost use Rattle.whole.specs.Bytes.{leading};
+ghost use Rattle.words.specs.Classes.{isHex};
+ghost use Rattle.scanner.specs.Runs.{passes};
+use whole::is_digit;
+use words::ByteClass;
+use words::capital;
+use words::class_of;
+
+// The runs of bytes that a token is made of, and the blanks before it.
+pub enum Run {
+    Blank,
+    Word,
+    Hex,
+    Unquoted,
+}
+
+fn is_hex(byte: u8) -> bool
+    ensures { λ r. ⌜ r ≡ isHex byte ⌝ }
+{
+    if is_digit(byte) {
+        return true;
+    }
+    let letter = capital(byte);
+    b'A' <= letter && letter <= b'F'
+}
+
+// Whether a byte belongs to a run.
+fn in_run(run: Run, byte: u8) -> bool
+    ensures { λ r. ⌜ r ≡ passes run byte ⌝ }
+{
+    match run {
+        Run::Blank => byte == b' ',
+        Run::Word => match class_of(byte) {
+            ByteClass::Letter => true,
+            ByteClass::Digit => true,
+            _ => false,
+        },
+        Run::Hex => is_hex(byte),
+        Run::Unquoted => byte != b'"',
+    }
+}
+
+// The place where the run that stands at a place ends.
+pub fn run_end(line: &[u8], at: usize, run: Run) -> usize
+    ensures { λ r. ⌜ r ≡ at + length (leading (passes run) (drop at (now (line .entry)))) ⌝ }
+{
+    let mut end = at;
+    while end < line.len() {
+        if !in_run(run, line[end]) {
+            return end;
+        }
+        end += 1;
+    }
+    end
+}
