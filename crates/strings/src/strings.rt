@@ -11,7 +11,7 @@ ghost use Rattle.words.specs.declared.symbols.Function.the-variants.{Chr, Left,
 ghost use Rattle.grammar.specs.Functions.{gives};
 ghost use Rattle.variables.specs.Strings.{produced};
 ghost use Rattle.strings.specs.Functions.{bytes, within, ranged, called};
-ghost use Rattle.strings.specs.Memory.{argumentLength, argumentWord, firstOf, secondOf, thirdOf, areThree, givenLength, Placed, TextOf};
+ghost use Rattle.strings.specs.Memory.{argumentWord, thirdOf, areThree, givenLength, Placed, TextOf};
 use crate::arguments::Argument;
 use crate::arguments::Given;
 use crate::arguments::are_three;
