@@ -12,9 +12,9 @@ use Rattle.variables.specs.declared.tables.Tables.{Tables}
 use Rattle.runner.specs.Run.{Ran, isRefused, tablesOf, answerOf, spaceAfter, roomAfter}
 use Rattle.runner.specs.declared.running.Ran as code
 use Rattle.host.specs.Answers.{answerIn}
-use Rattle.host.specs.Blocks.{tablesIn, blockOf, Held}
+use Rattle.blocks.specs.Blocks.{tablesIn, blockOf, Held}
 use Rattle.host.specs.Calls.{HasRun}
-use Rattle.host.proofs.RoundTrip.{round-trip}
+use Rattle.blocks.proofs.RoundTrip.{round-trip}
 
 -- ---- there are at most 64 names in 128 bytes
 

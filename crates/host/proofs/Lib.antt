@@ -1,4 +1,1 @@
-pub mod Words
-pub mod Parts
-pub mod RoundTrip
 pub mod Kept

@@ -1,8 +1,6 @@
 -- Worked examples, computed by the checker.
 use mathlib.Core.Path.{_≡_, refl}
-use mathlib.Core.List.{List, [], _∷_}
-use Prim.Native.Nat.{ℕ}
-use lib.ListN.{length, replicate}
+use mathlib.Core.List.{[], _∷_}
 use Rattle.whole.specs.Whole.{num}
 use Rattle.whole.specs.declared.errors.Error.the-variants.{TypeMismatch}
 use Rattle.loader.specs.declared.refusals.Refusal.the-variants.{ForeignByte}
@@ -14,29 +12,6 @@ use Rattle.runner.specs.declared.running.Outcome.{Outcome}
 use Rattle.runner.specs.declared.running.Outcome.the-variants.{Stopped, Refused}
 use Rattle.runner.specs.declared.asking.Asked.the-variants as asked
 use Rattle.host.specs.Answers.{answerIn, verdictIn, extendedOf, foundIn}
-use Rattle.host.specs.Blocks.{wordsFrom, wordBytes, tablesIn, blockOf}
-
--- ---- blocks
-
--- a block of zeros holds no variables
-none : tablesIn (replicate 450 0) ≡ emptyTables
-unfolding wordsFrom
-none = refl
-
-none-written : blockOf emptyTables ≡ replicate 450 0
-unfolding blockOf wordBytes
-none-written = refl
-
--- a word has its low byte first
-words-read : wordsFrom 3 (1 ∷ 0 ∷ 0 ∷ 1 ∷ 255 ∷ 255 ∷ []) ≡ 1 ∷ 256 ∷ 65535 ∷ []
-unfolding wordsFrom
-words-read = refl
-
-words-written : wordBytes (1 ∷ 256 ∷ 65535 ∷ []) ≡ 1 ∷ 0 ∷ 0 ∷ 1 ∷ 255 ∷ 255 ∷ []
-unfolding wordBytes
-words-written = refl
-
--- ---- answers
 
 -- a run with an outcome, after 7 steps, 18 bytes written and 5 taken
 ran : Outcome → Ran

@@ -1,6 +1,5 @@
 // What a host that is not written in Rattle calls: include/quernhem.h has the declarations in C.
 mod answers;
-mod blocks;
 mod calls;
 
 pub use calls::quernhem_ask;

@@ -4,10 +4,10 @@ use Prim.Native.Nat.{_+_, _*_, _-_, _≤_, _<_}
 use native.Mathlib.Omega.{arith}
 use lib.ListN.{length, take, length-set}
 use lib.Seq.{take-all}
-use Rattle.host.specs.Blocks.{wordsFrom}
-use Rattle.host.proofs.Words.{word-read}
-use Rattle.host.proofs.blocks.words_of.Statement.{statement}
-use Rattle.host.proofs.blocks.words_of.Tie as tie
+use Rattle.blocks.specs.Blocks.{wordsFrom}
+use Rattle.blocks.proofs.Words.{word-read}
+use Rattle.blocks.proofs.blocks.words_of.Statement.{statement}
+use Rattle.blocks.proofs.blocks.words_of.Tie as tie
 
 abbrev Inv-loop : tie.InvT-loop
 Inv-loop bytes words₀ i₀ words i = (i ≤ 64) × (length words ≡ 64) × (take i words ≡ wordsFrom i bytes)

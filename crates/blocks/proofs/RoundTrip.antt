@@ -7,8 +7,8 @@ use native.Mathlib.Omega.{arith}
 use lib.ListN.{length, getD, take, drop}
 use lib.Seq.{take-at, drop-at, drop-drop, getD-drop}
 use Rattle.variables.specs.declared.tables.Tables.{Tables}
-use Rattle.host.specs.Blocks.{wordsFrom, wordBytes, tablesIn, blockOf, Held}
-use Rattle.host.proofs.Words.{word-bytes-length, words-back}
+use Rattle.blocks.specs.Blocks.{wordsFrom, wordBytes, tablesIn, blockOf, Held}
+use Rattle.blocks.proofs.Words.{word-bytes-length, words-back}
 
 -- what stands after a part that ends there
 behind : (block a rest : List ℕ) (from n : ℕ) → drop from block ≡ a ++ rest → length a ≡ n → drop (from + n) block ≡ rest

@@ -2,12 +2,10 @@
 -- variables' names, and their lengths; how many there are of each kind. A block of any bytes means some tables, so asking has an answer
 -- for each; zeros mean the empty ones.
 use mathlib.Core.Path.{_≡_}
-use mathlib.Core.Bool.{cond}
 use mathlib.Core.List.{List, [], _∷_, _++_}
 use Prim.Native.Nat.{ℕ, zero, suc, _+_, _*_, _/_, _%_, _<_}
 use lib.ListN.{length, getD, take, drop}
 use Rattle.variables.specs.declared.tables.Tables.{Tables}
-use Rattle.runner.specs.Run.{Ran, isRefused, tablesOf}
 
 -- so many words of two bytes each
 unfoldable pub wordsFrom : ℕ → List ℕ → List ℕ
@@ -44,7 +42,3 @@ pub record Held (t : Tables) : Type 0 where
   pub stringNames : length (t .strings .names) ≡ 128
   pub lengths : length (t .strings .lengths) ≡ 64
   pub fewStrings : t .strings .count < 256
-
--- the block after a run: the variables that it has made; a refusal leaves the block as it was
-abbrev pub blockAfter : Ran → List ℕ → List ℕ
-blockAfter r block = cond (isRefused (r .ending)) block (blockOf (tablesOf (r .machine .variables)))

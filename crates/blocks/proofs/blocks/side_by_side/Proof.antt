@@ -2,9 +2,9 @@
 use mathlib.Core.Path.{refl}
 use lib.ListN.{replicate}
 use borrow.Author.Needs.{needs}
-use Rattle.host.proofs.Parts.{laid-out}
-use Rattle.host.proofs.blocks.side_by_side.Statement.{statement}
-use Rattle.host.proofs.blocks.side_by_side.Tie as tie
+use Rattle.blocks.proofs.Parts.{laid-out}
+use Rattle.blocks.proofs.blocks.side_by_side.Statement.{statement}
+use Rattle.blocks.proofs.blocks.side_by_side.Tie as tie
 
 -- each of a to e is where one copy was made, the last first
 returns : tie.Need-returns

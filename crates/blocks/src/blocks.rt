@@ -3,7 +3,7 @@ ghost use mathlib.Core.Path.{_≡_};
 ghost use mathlib.Core.List.{_++_};
 ghost use Prim.Native.Nat.{_+_, _*_, _/_, _%_, _≤_, _<_};
 ghost use lib.ListN.{length, take, drop};
-ghost use Rattle.host.specs.Blocks.{wordsFrom, wordBytes, tablesIn, blockOf};
+ghost use Rattle.blocks.specs.Blocks.{wordsFrom, wordBytes, tablesIn, blockOf};
 use space::Offset;
 use space::copy_in;
 use variables::Numbers;
@@ -117,7 +117,7 @@ fn bytes_of(words: [u16; 64]) -> [u8; 128]
 }
 
 // The tables that a block means, whatever bytes it has.
-pub(crate) fn tables_in(block: &Block) -> Tables
+pub fn tables_in(block: &Block) -> Tables
     ensures { λ r. ⌜ r ≡ tablesIn (now (block .entry)) ⌝ }
 {
     let number_names = bytes_at(block, NUMBER_NAMES);
@@ -159,7 +159,7 @@ fn side_by_side(
 }
 
 // The block that holds some tables.
-pub(crate) fn block_of(tables: Tables) -> Block
+pub fn block_of(tables: Tables) -> Block
     ensures { λ r. ⌜ r ≡ blockOf tables ⌝ }
 {
     let numbers = tables.numbers;

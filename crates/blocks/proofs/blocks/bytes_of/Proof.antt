@@ -4,11 +4,11 @@ use Prim.Native.Nat.{_+_, _*_, _-_, _≤_, _<_}
 use native.Mathlib.Omega.{arith}
 use lib.ListN.{length, take, length-set}
 use lib.Seq.{take-all}
-use Rattle.host.specs.Blocks.{wordBytes}
+use Rattle.blocks.specs.Blocks.{wordBytes}
 use borrow.Author.Needs.{needs}
-use Rattle.host.proofs.Words.{word-written}
-use Rattle.host.proofs.blocks.bytes_of.Statement.{statement}
-use Rattle.host.proofs.blocks.bytes_of.Tie as tie
+use Rattle.blocks.proofs.Words.{word-written}
+use Rattle.blocks.proofs.blocks.bytes_of.Statement.{statement}
+use Rattle.blocks.proofs.blocks.bytes_of.Tie as tie
 
 abbrev Inv-loop : tie.InvT-loop
 Inv-loop words bytes₀ i₀ bytes i = (i ≤ 64) × (length words ≡ 64) × (length bytes ≡ 128) × (take (2 * i) bytes ≡ wordBytes (take i words))

@@ -3,17 +3,17 @@ use mathlib.Core.Path.{_≡_, ap, _∙_}
 use Prim.Native.Nat.{_+_, _-_, _≤_}
 use native.Mathlib.Omega.{arith}
 use borrow.Author.Needs.{needs}
-use Rattle.host.proofs.Parts.{part-copied}
-use Rattle.host.proofs.blocks.bytes_at.Statement.{statement}
-use Rattle.host.proofs.blocks.bytes_at.Tie as tie
+use Rattle.blocks.proofs.Parts.{part-copied}
+use Rattle.blocks.proofs.blocks.lengths_at.Statement.{statement}
+use Rattle.blocks.proofs.blocks.lengths_at.Tie as tie
 
 returns : tie.Need-returns
 returns c =
     let s = c .before .before .before .before .before in
-    c .before .copy-in .ensures ∙ part-copied (s .args .block .now) (s .args .from) 128 (s .pre)
+    c .before .copy-in .ensures ∙ part-copied (s .args .block .now) (s .args .from) 64 (s .pre)
 
-pub bytes-at-spec : {M : Type 1} → statement M
-bytes-at-spec =
+pub lengths-at-spec : {M : Type 1} → statement M
+lengths-at-spec =
     tie.close
     (tie.spec
     (λ c. search needs)

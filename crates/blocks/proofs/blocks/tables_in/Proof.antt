@@ -1,7 +1,7 @@
 -- Each part of the tables from its place in the block.
 use borrow.Author.Needs.{needs}
-use Rattle.host.proofs.blocks.tables_in.Statement.{statement}
-use Rattle.host.proofs.blocks.tables_in.Tie as tie
+use Rattle.blocks.proofs.blocks.tables_in.Statement.{statement}
+use Rattle.blocks.proofs.blocks.tables_in.Tie as tie
 
 -- w is where the words are known, and l where the lengths are
 returns : tie.Need-returns

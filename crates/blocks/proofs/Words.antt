@@ -7,7 +7,7 @@ use native.Mathlib.Numerals.{add-one}
 use native.Mathlib.Omega.{arith}
 use lib.ListN.{length, getD, set, take, drop, length-set}
 use lib.Seq.{take-suc, take-suc-set, append-snoc, getD-drop}
-use Rattle.host.specs.Blocks.{wordsFrom, wordBytes}
+use Rattle.blocks.specs.Blocks.{wordsFrom, wordBytes}
 
 -- ---- words read
 

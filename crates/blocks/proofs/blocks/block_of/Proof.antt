@@ -1,9 +1,9 @@
 -- The parts of the tables, the words and the counts as bytes.
 use mathlib.Core.Path.{_∙_}
 use borrow.Author.Needs.{needs}
-use Rattle.host.specs.Blocks.{blockOf}
-use Rattle.host.proofs.blocks.block_of.Statement.{statement}
-use Rattle.host.proofs.blocks.block_of.Tie as tie
+use Rattle.blocks.specs.Blocks.{blockOf}
+use Rattle.blocks.proofs.blocks.block_of.Statement.{statement}
+use Rattle.blocks.proofs.blocks.block_of.Tie as tie
 
 -- n is where the counts are known
 returns : tie.Need-returns
