@@ -3,8 +3,6 @@ use mathlib.Core.Path.{_≡_, refl, sym, _∙_}
 use mathlib.Core.Bool.{Bool, true, false, not}
 use borrow.Author.Tests.{not-true, not-false}
 use Rattle.words.specs.Places.{lineNumber}
-use Rattle.words.specs.declared.names.Kind.{Kind}
-use Rattle.words.specs.declared.names.Kind.the-variants as kind
 use Rattle.words.specs.declared.names.Name.{Name}
 use Rattle.words.specs.declared.places.LineNumber.{LineNumber}
 use Rattle.words.specs.declared.symbols.Quotation.{Quotation}
@@ -27,12 +25,9 @@ use Rattle.words.specs.declared.symbols.Token.the-variants.{
 use Rattle.scanner.specs.Tokens.{reads}
 use Rattle.grammar.specs.Tests.{onName, onText, onLine}
 use Rattle.grammar.specs.Trees.{goto, gosub}
-use Rattle.expressions.specs.Types.{ofKind}
 use Rattle.statements.specs.Statements.{Begun, bad, done}
-use Rattle.expressions.specs.Types.{isWhole, isOf}
 use Rattle.grammar.specs.Answers.{lineOf}
 use Rattle.statements.specs.Answers.{nameOf, isQuoted, begunAnswer}
-use Rattle.expressions.specs.declared.sorts.Sort.the-variants as sort
 use Rattle.grammar.specs.declared.tests.NamedLine.{NamedLine}
 use Rattle.grammar.specs.declared.tests.NamedLine.the-variants.{Names, NoLine}
 use Rattle.statements.specs.declared.reading.NameFound.{NameFound}
@@ -123,8 +118,3 @@ jump-same t u =
     by-line (λ b. begunAnswer (onLine t (λ l. done (goto l) u) bad) ≡ begunAnswer b) t (λ l. done (gosub l) u) bad
     (λ l f a. sym (numbered t (λ l. done (goto l) u) bad refl f refl))
     (λ f. sym (unnumbered t (λ l. done (goto l) u) bad refl f refl))
-
--- whether a name is a whole number's
-pub whole-kind : (k : Kind) → isWhole (ofKind k) ≡ isOf k sort.Whole
-whole-kind kind.Whole = refl
-whole-kind kind.Text = refl

@@ -1,6 +1,7 @@
 pub mod Beginning
 pub mod Findings
 pub mod Fuel
+pub mod Others
 pub mod Parts
 pub mod Printing
 pub mod Readings

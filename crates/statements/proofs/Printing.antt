@@ -1,11 +1,14 @@
 -- The items of a PRINT: the code's loop goes from one to the next.
 use mathlib.Core.Path.{_≡_, refl, sym, ap, _∙_}
-use mathlib.Core.Bool.{Bool, true, false, _&&_, and-true, and-assoc}
+use mathlib.Core.Bool.{Bool, true, false, false≢true, _&&_, _||_, and-true, and-assoc}
 use mathlib.Core.List.{List, []}
 use Prim.Native.Nat.{ℕ, suc, max}
 use native.Mathlib.Nat.{zero-max, max-zero}
 use Rattle.words.specs.declared.symbols.Scanned.{Scanned}
 use Rattle.words.specs.declared.symbols.Sign.the-variants.{Comma, Semicolon}
+use Rattle.words.specs.declared.symbols.Token.{Token}
+use Rattle.words.proofs.Choices.{by-test}
+use Rattle.scanner.specs.Tokens.{reads}
 use Rattle.grammar.specs.Tests.{isSymbol, endsStatement}
 use Rattle.grammar.specs.Trees.{Formula, comma, semicolon, shown}
 use Rattle.grammar.specs.Formulas as formulas
@@ -19,6 +22,7 @@ use Rattle.statements.specs.Answers.{formedRead, begunAnswer}
 use Rattle.statements.specs.declared.reading.StatementRead.{StatementRead}
 use Rattle.statements.specs.declared.reading.StatementRead.the-variants as statement
 use Rattle.statements.proofs.Fuel.{turn}
+use Rattle.expressions.proofs.Weights.{reads-if}
 use Rattle.expressions.proofs.Answering.{capped-max, max-assoc}
 
 -- ---- the answer, where items of some depth and of some types or none were read before
@@ -60,40 +64,51 @@ with-none d k t = rw (max-zero d, and-true k)
 
 -- ---- the turns of the code's loop
 
+pub separator-reads : (t : Token) → isSeparator t ≡ true → reads t ≡ true
+separator-reads t e = reads-if (λ t. isSeparator t ≡ true) (λ e. false≢true e) (λ e. false≢true e) t e
+
+neither : (a b : Bool) → (a || b) ≡ false → (a ≡ false) × (b ≡ false)
+neither true b e = absurd (false≢true (sym e))
+neither false b e = (refl, e)
+
 module _ (s : List ℕ) (t : Scanned) (d : ℕ) (k : Bool) {r : StatementRead} (so-far : r ≡ continued d k (itemsAt (enough s) s t)) where
   here : r ≡ continued d k (itemsAt (suc (enough s)) s t)
   here = so-far ∙ ap (continued d k) (turn s t)
 
-  pub print-comma : isSymbol Comma (t .token) ≡ true → r ≡ continued d k (itemsAt (enough s) s (after s t))
+  pub print-separator : isSeparator (t .token) ≡ true → r ≡ continued d k (itemsAt (enough s) s (after s t))
   unfolding itemsAt
-  print-comma e = rw e at here ∙ with-comma d k (itemsAt (enough s) s (after s t))
+  print-separator e =
+      by-test (isSymbol Comma (t .token))
+      (λ a. rw a at here ∙ with-comma d k (itemsAt (enough s) s (after s t)))
+      (λ a. let b = rw a at e in rw (a, b) at here ∙ with-semicolon d k (itemsAt (enough s) s (after s t)))
 
-  module _ (no-comma : isSymbol Comma (t .token) ≡ false) where
-    pub print-semicolon : isSymbol Semicolon (t .token) ≡ true → r ≡ continued d k (itemsAt (enough s) s (after s t))
+  module _ (no-separator : isSeparator (t .token) ≡ false) where
+    no-comma : isSymbol Comma (t .token) ≡ false
+    no-comma = neither (isSymbol Comma (t .token)) (isSymbol Semicolon (t .token)) no-separator .0
+
+    no-semicolon : isSymbol Semicolon (t .token) ≡ false
+    no-semicolon = neither (isSymbol Comma (t .token)) (isSymbol Semicolon (t .token)) no-separator .1
+
+    pub print-ends : endsStatement (t .token) ≡ true → r ≡ formedRead t d k
     unfolding itemsAt
-    print-semicolon e = rw (no-comma, e) at here ∙ with-semicolon d k (itemsAt (enough s) s (after s t))
+    print-ends e = rw (no-comma, no-semicolon, e) at here ∙ with-none d k t
 
-    module _ (no-semicolon : isSymbol Semicolon (t .token) ≡ false) where
-      pub print-ends : endsStatement (t .token) ≡ true → r ≡ formedRead t d k
+    module _ (goes-on : endsStatement (t .token) ≡ false) where
+      pub print-bad : formulaOf s t ≡ formulas.bad → r ≡ statement.Bad
       unfolding itemsAt
-      print-ends e = rw (no-comma, no-semicolon, e) at here ∙ with-none d k t
+      print-bad e = rw (no-comma, no-semicolon, goes-on, e) at here
 
-      module _ (goes-on : endsStatement (t .token) ≡ false) where
-        pub print-bad : formulaOf s t ≡ formulas.bad → r ≡ statement.Bad
+      module _ {f : Formula} {u : Scanned} (is : formulaOf s t ≡ formulas.good f u)
+          {e : ℕ} {l : Bool} (deep : e ≡ max d (cappedDepth (depthOf f))) (some : l ≡ (k && isSome (sortOf f))) where
+        pub print-last : isSeparator (u .token) ≡ false → r ≡ formedRead u e l
         unfolding itemsAt
-        print-bad e = rw (no-comma, no-semicolon, goes-on, e) at here
+        print-last last =
+            rw (deep, some)
+            (rw (no-comma, no-semicolon, goes-on, is, last) at here
+            ∙ with-shown d k f (items [] u) ∙ with-none (max d (cappedDepth (depthOf f))) (k && isSome (sortOf f)) u)
 
-        module _ {f : Formula} {u : Scanned} (is : formulaOf s t ≡ formulas.good f u)
-            {e : ℕ} {l : Bool} (deep : e ≡ max d (cappedDepth (depthOf f))) (some : l ≡ (k && isSome (sortOf f))) where
-          pub print-last : isSeparator (u .token) ≡ false → r ≡ formedRead u e l
-          unfolding itemsAt
-          print-last last =
-              rw (deep, some)
-              (rw (no-comma, no-semicolon, goes-on, is, last) at here
-              ∙ with-shown d k f (items [] u) ∙ with-none (max d (cappedDepth (depthOf f))) (k && isSome (sortOf f)) u)
-
-          pub print-more : isSeparator (u .token) ≡ true → r ≡ continued e l (itemsAt (enough s) s u)
-          unfolding itemsAt
-          print-more more =
-              rw (deep, some)
-              (rw (no-comma, no-semicolon, goes-on, is, more) at here ∙ with-shown d k f (itemsAt (enough s) s u))
+        pub print-more : isSeparator (u .token) ≡ true → r ≡ continued e l (itemsAt (enough s) s u)
+        unfolding itemsAt
+        print-more more =
+            rw (deep, some)
+            (rw (no-comma, no-semicolon, goes-on, is, more) at here ∙ with-shown d k f (itemsAt (enough s) s u))

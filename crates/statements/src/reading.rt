@@ -3,12 +3,11 @@ ghost use mathlib.Core.Path.{_≡_};
 ghost use mathlib.Core.Bool.{true, _&&_};
 ghost use mathlib.Core.List.{List};
 ghost use Prim.Native.Nat.{ℕ};
-ghost use Rattle.scanner.specs.Tokens.{tokenAt};
-ghost use Rattle.grammar.specs.Tests.{choose, isKeyword, onName, onLine};
+ghost use Rattle.grammar.specs.Tests.{choose, isSymbol, isKeyword, endsStatement, onName, onLine};
 ghost use Rattle.grammar.specs.Trees.{Formula, Variable, goto, next, nextOf};
-ghost use Rattle.grammar.specs.Formulas.{Reading, after, formulaOf};
+ghost use Rattle.grammar.specs.Formulas.{Reading, good, after, formulaOf};
 ghost use Rattle.expressions.specs.Types.{sortOf, depthOf};
-ghost use Rattle.statements.specs.Statements.{bad, done, onFormula, variableOf, assignAt, isSeparator, printAt, ifAt, stepAt, limitAt, forAt, targetAt, inputAt, byWord, byMark, numberAt, begunAt};
+ghost use Rattle.statements.specs.Statements.{bad, done, choice, onFormula, variableOf, assignAt, isSeparator, printAt, ifAt, stepAt, limitAt, forAt, targetAt, inputAt, byWord, byMark, numberAt, begunAt};
 ghost use Rattle.expressions.specs.Types.{isWhole, isOf};
 ghost use Rattle.statements.specs.Parts.{isNumber};
 ghost use Rattle.expressions.specs.Answers.{cappedDepth};
@@ -20,7 +19,6 @@ use expressions::is_of;
 use expressions::is_some;
 use expressions::is_whole;
 use expressions::larger;
-use expressions::of_kind;
 use grammar::NamedLine;
 use grammar::ends_statement;
 use grammar::is_keyword;
@@ -57,43 +55,46 @@ pub enum NameFound {
     None,
 }
 
-fn name_of(token: Token) -> NameFound
-    ensures { λ r. ⌜ r ≡ nameOf token ⌝ }
+fn name_at(ahead: Scanned) -> NameFound
+    ensures { λ r. ⌜ r ≡ nameOf (ahead .token) ⌝ }
 {
+    let token = ahead.token;
     match token {
-        Token::EndOfLine => NameFound::None,
-        Token::Keyword(_) => NameFound::None,
-        Token::Not => NameFound::None,
-        Token::Infix(_) => NameFound::None,
-        Token::Call(_) => NameFound::None,
         Token::Named(name) => NameFound::Is(name),
-        Token::Number(_) => NameFound::None,
-        Token::Hexadecimal(_) => NameFound::None,
-        Token::LineOnly(_) => NameFound::None,
-        Token::Quoted(_) => NameFound::None,
-        Token::Symbol(_) => NameFound::None,
-        Token::Unreadable => NameFound::None,
+        _ => NameFound::None,
     }
 }
 
-// Whether a token is a quoted text.
-fn is_quoted(token: Token) -> bool
-    ensures { λ r. ⌜ r ≡ isQuoted token ⌝ }
+// Whether a quoted text stands there.
+fn text_stands(ahead: Scanned) -> bool
+    ensures { λ r. ⌜ r ≡ isQuoted (ahead .token) ⌝ }
 {
+    let token = ahead.token;
     match token {
-        Token::EndOfLine => false,
-        Token::Keyword(_) => false,
-        Token::Not => false,
-        Token::Infix(_) => false,
-        Token::Call(_) => false,
-        Token::Named(_) => false,
-        Token::Number(_) => false,
-        Token::Hexadecimal(_) => false,
-        Token::LineOnly(_) => false,
         Token::Quoted(_) => true,
-        Token::Symbol(_) => false,
-        Token::Unreadable => false,
+        _ => false,
     }
+}
+
+fn sign_stands(sign: Sign, ahead: Scanned) -> bool
+    ensures { λ r. ⌜ r ≡ isSymbol sign (ahead .token) ⌝ }
+{
+    let token = ahead.token;
+    is_symbol(sign, token)
+}
+
+fn word_stands(word: Word, ahead: Scanned) -> bool
+    ensures { λ r. ⌜ r ≡ isKeyword word (ahead .token) ⌝ }
+{
+    let token = ahead.token;
+    is_keyword(word, token)
+}
+
+// The token after one.
+fn token_after(line: &[u8], ahead: Scanned) -> Scanned
+    ensures { λ r. ⌜ r ≡ after (now (line .entry)) ahead ⌝ }
+{
+    token_at(line, ahead.next)
 }
 
 // Whether both hold.
@@ -127,12 +128,11 @@ fn jump(line: &[u8], ahead: Scanned) -> StatementRead
     ensures { λ r. ⌜ r ≡ begunAnswer (onLine (ahead .token) (λ l. done (goto l) (after (now (line .entry)) ahead)) bad) ⌝ }
 {
     let token = ahead.token;
-    let next = ahead.next;
     let names = line_of(token);
     match names {
         NamedLine::NoLine => StatementRead::Bad,
         NamedLine::Names(_) => StatementRead::Done(Own {
-            ahead: token_at(line, next),
+            ahead: token_after(line, ahead),
             deepest: 0,
             typed: true,
             names,
@@ -144,12 +144,10 @@ fn jump(line: &[u8], ahead: Scanned) -> StatementRead
 fn assignment_to(line: &[u8], ahead: Scanned) -> StatementRead
     ensures { λ r. ⌜ r ≡ begunAnswer (onName (ahead .token) (λ v. assignAt (now (line .entry)) (variableOf (now (line .entry)) v) (after (now (line .entry)) ahead)) bad) ⌝ }
 {
-    let token = ahead.token;
-    let next = ahead.next;
-    match name_of(token) {
+    match name_at(ahead) {
         NameFound::Is(name) => {
             let kind = name.kind;
-            assignment(line, kind, token_at(line, next))
+            assignment(line, kind, token_after(line, ahead))
         }
         NameFound::None => StatementRead::Bad,
     }
@@ -159,12 +157,10 @@ fn assignment_to(line: &[u8], ahead: Scanned) -> StatementRead
 fn assignment(line: &[u8], kind: Kind, ahead: Scanned) -> StatementRead
     ensures { λ r. ⌜ ((v : Variable) → v .kind ≡ kind → r ≡ begunAnswer (assignAt (now (line .entry)) v ahead)) ⌝ }
 {
-    let token = ahead.token;
-    let next = ahead.next;
-    if !is_symbol(Sign::Equal, token) {
+    if !sign_stands(Sign::Equal, ahead) {
         return StatementRead::Bad;
     }
-    match formula_at(line, token_at(line, next)) {
+    match formula_at(line, token_after(line, ahead)) {
         FormulaRead::Bad => StatementRead::Bad,
         FormulaRead::Good {
             ahead,
@@ -182,13 +178,9 @@ fn print(line: &[u8], ahead: Scanned) -> StatementRead
     let mut depth = 0;
     let mut typed = true;
     loop {
-        let token = here.token;
-        let next = here.next;
-        if is_symbol(Sign::Comma, token) {
-            here = token_at(line, next);
-        } else if is_symbol(Sign::Semicolon, token) {
-            here = token_at(line, next);
-        } else if ends_statement(token) {
+        if separates(here) {
+            here = token_after(line, here);
+        } else if ends(here) {
             return formed(here, depth, typed);
         } else {
             match formula_at(line, here) {
@@ -200,8 +192,7 @@ fn print(line: &[u8], ahead: Scanned) -> StatementRead
                 } => {
                     depth = larger(depth, deepest);
                     typed = both(typed, is_some(sort));
-                    let token = ahead.token;
-                    if !separates(token) {
+                    if !separates(ahead) {
                         return formed(ahead, depth, typed);
                     }
                     here = ahead;
@@ -211,13 +202,20 @@ fn print(line: &[u8], ahead: Scanned) -> StatementRead
     }
 }
 
-fn separates(token: Token) -> bool
-    ensures { λ r. ⌜ r ≡ isSeparator token ⌝ }
+fn ends(ahead: Scanned) -> bool
+    ensures { λ r. ⌜ r ≡ endsStatement (ahead .token) ⌝ }
 {
-    if is_symbol(Sign::Comma, token) {
+    let token = ahead.token;
+    ends_statement(token)
+}
+
+fn separates(ahead: Scanned) -> bool
+    ensures { λ r. ⌜ r ≡ isSeparator (ahead .token) ⌝ }
+{
+    if sign_stands(Sign::Comma, ahead) {
         return true;
     }
-    is_symbol(Sign::Semicolon, token)
+    sign_stands(Sign::Semicolon, ahead)
 }
 
 // IF e THEN, or IF e GOTO n, from the condition on.
@@ -231,27 +229,34 @@ fn condition(line: &[u8], ahead: Scanned) -> StatementRead
             sort,
             deepest,
         } => {
-            let choice = Own {
+            if !part_begins(line, ahead) {
+                return StatementRead::Bad;
+            }
+            StatementRead::Choice(Own {
                 ahead,
                 deepest,
                 typed: is_whole(sort),
                 names: NamedLine::NoLine,
-            };
-            let token = ahead.token;
-            let next = ahead.next;
-            if is_keyword(Word::Then, token) {
-                return StatementRead::Choice(choice);
-            }
-            if !is_keyword(Word::Goto, token) {
-                return StatementRead::Bad;
-            }
-            let after = token_at(line, next);
-            let target = after.token;
-            match line_of(target) {
-                NamedLine::NoLine => StatementRead::Bad,
-                NamedLine::Names(_) => StatementRead::Choice(choice),
-            }
+            })
         }
+    }
+}
+
+// THEN, or GOTO and a line number.
+fn part_begins(line: &[u8], ahead: Scanned) -> bool
+    ensures { λ r. ⌜ ((c : Formula) → ifAt (now (line .entry)) (good c ahead) ≡ choose r (λ _. choice c ahead) (λ _. bad)) ⌝ }
+{
+    if word_stands(Word::Then, ahead) {
+        return true;
+    }
+    if !word_stands(Word::Goto, ahead) {
+        return false;
+    }
+    let target = token_after(line, ahead);
+    let token = target.token;
+    match line_of(token) {
+        NamedLine::NoLine => false,
+        NamedLine::Names(_) => true,
     }
 }
 
@@ -266,10 +271,10 @@ pub enum Bound {
 }
 
 // The formula after a token, and whether it and what stood before it are whole numbers.
-fn bounded(line: &[u8], next: Place, depth: u8, typed: bool) -> Bound
-    ensures { λ r. ⌜ r ≡ boundOf (formulaOf (now (line .entry)) (tokenAt (now (line .entry)) next)) depth typed ⌝ }
+fn bounded(line: &[u8], ahead: Scanned, depth: u8, typed: bool) -> Bound
+    ensures { λ r. ⌜ r ≡ boundOf (formulaOf (now (line .entry)) (after (now (line .entry)) ahead)) depth typed ⌝ }
 {
-    match formula_at(line, token_at(line, next)) {
+    match formula_at(line, token_after(line, ahead)) {
         FormulaRead::Bad => Bound::Bad,
         FormulaRead::Good {
             ahead,
@@ -287,18 +292,14 @@ fn bounded(line: &[u8], next: Place, depth: u8, typed: bool) -> Bound
 fn loop_head(line: &[u8], ahead: Scanned) -> StatementRead
     ensures { λ r. ⌜ r ≡ begunAnswer (onName (ahead .token) (λ v. forAt (now (line .entry)) (variableOf (now (line .entry)) v) (after (now (line .entry)) ahead)) bad) ⌝ }
 {
-    let token = ahead.token;
-    let next = ahead.next;
-    match name_of(token) {
+    match name_at(ahead) {
         NameFound::Is(name) => {
             let kind = name.kind;
-            let equals = token_at(line, next);
-            let sign = equals.token;
-            let start = equals.next;
-            if !is_symbol(Sign::Equal, sign) {
+            let equals = token_after(line, ahead);
+            if !sign_stands(Sign::Equal, equals) {
                 return StatementRead::Bad;
             }
-            limit(line, bounded(line, start, 0, is_whole(of_kind(kind))))
+            limit(line, bounded(line, equals, 0, is_of(kind, Sort::Whole)))
         }
         NameFound::None => StatementRead::Bad,
     }
@@ -318,12 +319,10 @@ fn limit(line: &[u8], start: Bound) -> StatementRead
             deepest,
             typed,
         } => {
-            let token = ahead.token;
-            let next = ahead.next;
-            if !is_keyword(Word::To, token) {
+            if !word_stands(Word::To, ahead) {
                 return StatementRead::Bad;
             }
-            step(line, bounded(line, next, deepest, typed))
+            step(line, bounded(line, ahead, deepest, typed))
         }
     }
 }
@@ -343,12 +342,10 @@ fn step(line: &[u8], limit: Bound) -> StatementRead
             deepest,
             typed,
         } => {
-            let token = ahead.token;
-            let next = ahead.next;
-            if !is_keyword(Word::Step, token) {
+            if !word_stands(Word::Step, ahead) {
                 return formed(ahead, deepest, typed);
             }
-            match bounded(line, next, deepest, typed) {
+            match bounded(line, ahead, deepest, typed) {
                 Bound::Bad => StatementRead::Bad,
                 Bound::Good {
                     ahead,
@@ -366,12 +363,10 @@ fn loop_end(line: &[u8], ahead: Scanned) -> StatementRead
         r ≡ begunAnswer (onName (ahead .token) (λ v. done (nextOf (variableOf (now (line .entry)) v)) (after (now (line .entry)) ahead)) (done next ahead))
         ⌝ }
 {
-    let token = ahead.token;
-    let next = ahead.next;
-    match name_of(token) {
+    match name_at(ahead) {
         NameFound::Is(name) => {
             let kind = name.kind;
-            formed(token_at(line, next), 0, is_whole(of_kind(kind)))
+            formed(token_after(line, ahead), 0, is_of(kind, Sort::Whole))
         }
         NameFound::None => plain(ahead),
     }
@@ -381,47 +376,30 @@ fn loop_end(line: &[u8], ahead: Scanned) -> StatementRead
 fn line_input(line: &[u8], ahead: Scanned) -> StatementRead
     ensures { λ r. ⌜ r ≡ begunAnswer (choose (isKeyword Word.Input (ahead .token)) (λ _. inputAt (now (line .entry)) (after (now (line .entry)) ahead)) (λ _. bad)) ⌝ }
 {
-    let token = ahead.token;
-    let next = ahead.next;
-    if !is_keyword(Word::Input, token) {
+    if !word_stands(Word::Input, ahead) {
         return StatementRead::Bad;
     }
-    let after = token_at(line, next);
-    let first = after.token;
-    let second = after.next;
-    if !is_quoted(first) {
-        return target(line, after);
+    let asked = token_after(line, ahead);
+    if !text_stands(asked) {
+        return target(line, asked);
     }
-    let semicolon = token_at(line, second);
-    let sign = semicolon.token;
-    let third = semicolon.next;
-    if !is_symbol(Sign::Semicolon, sign) {
+    let semicolon = token_after(line, asked);
+    if !sign_stands(Sign::Semicolon, semicolon) {
         return StatementRead::Bad;
     }
-    target(line, token_at(line, third))
+    target(line, token_after(line, semicolon))
 }
 
 // The variable that LINE INPUT fills.
 fn target(line: &[u8], ahead: Scanned) -> StatementRead
     ensures { λ r. ⌜ ((text : List ℕ) → r ≡ begunAnswer (targetAt (now (line .entry)) text ahead)) ⌝ }
 {
-    let token = ahead.token;
-    let next = ahead.next;
-    match name_of(token) {
+    match name_at(ahead) {
         NameFound::Is(name) => {
             let kind = name.kind;
-            formed(token_at(line, next), 0, is_text(kind))
+            formed(token_after(line, ahead), 0, is_of(kind, Sort::Text))
         }
         NameFound::None => StatementRead::Bad,
-    }
-}
-
-fn is_text(kind: Kind) -> bool
-    ensures { λ r. ⌜ r ≡ isOf kind Sort.Text ⌝ }
-{
-    match kind {
-        Kind::Whole => false,
-        Kind::Text => true,
     }
 }
 
@@ -429,30 +407,18 @@ fn is_text(kind: Kind) -> bool
 fn by_word(line: &[u8], word: Word, ahead: Scanned) -> StatementRead
     ensures { λ r. ⌜ r ≡ begunAnswer (byWord (now (line .entry)) word ahead) ⌝ }
 {
-    let next = token_at(line, ahead.next);
+    let next = token_after(line, ahead);
     match word {
         Word::Let => assignment_to(line, next),
         Word::Print => print(line, next),
         Word::If => condition(line, next),
-        Word::Then => StatementRead::Bad,
         Word::Else => plain(ahead),
-        Word::Goto => jump(line, next),
-        Word::Gosub => jump(line, next),
-        Word::Return => plain(next),
+        Word::Goto | Word::Gosub => jump(line, next),
         Word::For => loop_head(line, next),
-        Word::To => StatementRead::Bad,
-        Word::Step => StatementRead::Bad,
         Word::Next => loop_end(line, next),
         Word::Line => line_input(line, next),
-        Word::Input => StatementRead::Bad,
-        Word::End => plain(next),
-        Word::Stop => plain(next),
-        Word::Rem => plain(next),
-        Word::While => StatementRead::Bad,
-        Word::Wend => StatementRead::Bad,
-        Word::Data => StatementRead::Bad,
-        Word::Read => StatementRead::Bad,
-        Word::Restore => StatementRead::Bad,
+        Word::Return | Word::End | Word::Stop | Word::Rem => plain(next),
+        _ => StatementRead::Bad,
     }
 }
 
@@ -460,16 +426,10 @@ fn by_word(line: &[u8], word: Word, ahead: Scanned) -> StatementRead
 fn by_mark(line: &[u8], sign: Sign, ahead: Scanned) -> StatementRead
     ensures { λ r. ⌜ r ≡ begunAnswer (byMark (now (line .entry)) sign ahead) ⌝ }
 {
-    let next = ahead.next;
     match sign {
-        Sign::Open => StatementRead::Bad,
-        Sign::Close => StatementRead::Bad,
-        Sign::Comma => StatementRead::Bad,
-        Sign::Semicolon => StatementRead::Bad,
         Sign::Colon => plain(ahead),
-        Sign::Question => print(line, token_at(line, next)),
-        Sign::Equal => StatementRead::Bad,
-        Sign::Minus => StatementRead::Bad,
+        Sign::Question => print(line, token_after(line, ahead)),
+        _ => StatementRead::Bad,
     }
 }
 
@@ -482,19 +442,13 @@ pub fn statement_at(line: &[u8], at: Place, first: bool) -> StatementRead
     match token {
         Token::EndOfLine => plain(ahead),
         Token::Keyword(word) => by_word(line, word, ahead),
-        Token::Not => StatementRead::Bad,
-        Token::Infix(_) => StatementRead::Bad,
-        Token::Call(_) => StatementRead::Bad,
         Token::Named(_) => assignment_to(line, ahead),
-        Token::Number(_) => numbered(line, first, ahead),
-        Token::Hexadecimal(_) => StatementRead::Bad,
-        Token::LineOnly(_) => numbered(line, first, ahead),
-        Token::Quoted(_) => StatementRead::Bad,
         Token::Symbol(sign) => by_mark(line, sign, ahead),
-        Token::Unreadable => StatementRead::Bad,
+        _ => numbered(line, first, ahead),
     }
 }
 
+// What begins in no other way is a line number, where that may stand, or does not read.
 fn numbered(line: &[u8], first: bool, ahead: Scanned) -> StatementRead
     ensures { λ r. ⌜ r ≡ begunAnswer (numberAt (now (line .entry)) first (ahead .token) ahead) ⌝ }
 {

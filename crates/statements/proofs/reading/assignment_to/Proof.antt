@@ -16,14 +16,14 @@ go s t v = assignAt s (variableOf s v) (after s t)
 
 returns : tie.Need-returns
 returns c =
-    let a = c .before .before .before .before .before .before .before .before .args in
-    named (a .ahead .token) (go (a .line .now) (a .ahead)) bad (c .before .before .before .before .before .name-of .ensures) (c .before .before .before .name .given .1)
-    (rw (← (c .before .token-at .ensures)) (c .assignment .ensures _ refl))
+    let a = c .before .before .before .before .before .before .before .args in
+    named (a .ahead .token) (go (a .line .now) (a .ahead)) bad (c .before .before .before .before .before .name-at .ensures) (c .before .before .before .name .given .1)
+    (rw (← (c .before .token-after .ensures)) (c .assignment .ensures _ refl))
 
 returns-2 : tie.Need-returns-2
 returns-2 c =
-    let a = c .before .before .before .before .before .args in
-    unnamed (a .ahead .token) (go (a .line .now) (a .ahead)) bad (c .before .before .name-of .ensures) (c .enum-told .given .1) refl
+    let a = c .before .before .before .before .args in
+    unnamed (a .ahead .token) (go (a .line .now) (a .ahead)) bad (c .before .before .name-at .ensures) (c .enum-told .given .1) refl
 
 pub assignment-to-spec : {M : Type 1} → statement M
 assignment-to-spec =

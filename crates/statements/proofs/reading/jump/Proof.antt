@@ -16,17 +16,11 @@ use Rattle.statements.proofs.reading.jump.Tie as tie
 abbrev go : List ℕ → Scanned → LineNumber → Begun
 go s t l = done (goto l) (after s t)
 
-returns : tie.Need-returns
-returns c =
-    let a = c .before .before .before .before .before .args in
-    unnumbered (a .ahead .token) (go (a .line .now) (a .ahead)) bad (c .before .before .line-of .ensures) (c .enum-told .given .1) refl
-
 returns-2 : tie.Need-returns-2
 unfolding deepest
 returns-2 c =
-    let a = c .before .before .before .before .before .before .args in
-    numbered (a .ahead .token) (go (a .line .now) (a .ahead)) bad (c .before .before .before .line-of .ensures) (c .before .enum-told2 .given .1)
-    (rw (c .token-at .ensures, c .before .enum-told2 .given .1))
+    numbered (c .before .before .before .before .before .args .ahead .token) (go (c .before .before .before .before .before .args .line .now) (c .before .before .before .before .before .args .ahead)) bad (c .before .before .before .line-of .ensures) (c .before .enum-told2 .given .1)
+    (rw (c .token-after .ensures, c .before .enum-told2 .given .1))
 
 pub jump-spec : {M : Type 1} → statement M
 jump-spec =
@@ -36,5 +30,5 @@ jump-spec =
     (λ c. search needs)
     (λ c. search needs)
     (λ c κs. search needs)
-    returns
+    (λ c. unnumbered (c .before .before .before .before .args .ahead .token) (go (c .before .before .before .before .args .line .now) (c .before .before .before .before .args .ahead)) bad (c .before .before .line-of .ensures) (c .enum-told .given .1) refl)
     returns-2)

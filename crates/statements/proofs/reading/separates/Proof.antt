@@ -8,6 +8,6 @@ separates-spec =
     tie.close
     (tie.spec
     (λ c κs. search needs)
-    (λ c. rw (← (c .before .is-symbol .ensures), c .if1 .taken))
+    (λ c. rw (← (c .before .sign-stands .ensures), c .if1 .taken))
     (λ c κs. search needs)
-    (λ c. rw (← (c .before .before .is-symbol .ensures), c .before .if1 .left) (c .is-symbol2 .ensures)))
+    (λ c. rw (← (c .before .before .sign-stands .ensures), c .before .if1 .left) (c .sign-stands2 .ensures)))

@@ -1,4 +1,4 @@
--- Each arm is a clause of `byToken`.
+-- Each arm is a clause of `byToken`, and the last is the others.
 use mathlib.Core.Path.{_≡_, refl}
 use borrow.Author.Needs.{needs}
 use Rattle.words.specs.declared.symbols.Token.{Token}
@@ -6,6 +6,7 @@ use Rattle.statements.specs.Statements.{byToken, begunAt}
 use Rattle.statements.specs.Parts.{deepest}
 use Rattle.statements.specs.Answers.{begunAnswer}
 use Rattle.statements.specs.declared.reading.StatementRead.{StatementRead}
+use Rattle.statements.proofs.Others.{number-begins}
 use Rattle.statements.proofs.Readings.{by-token}
 use Rattle.statements.proofs.reading.statement_at.Statement.{statement}
 use Rattle.statements.proofs.reading.statement_at.Tie as tie
@@ -29,28 +30,12 @@ statement-at-spec =
     (λ c. search needs)
     (λ c κs. search needs)
     (λ c. search needs)
-    (λ c. search needs)
-    (λ c. search needs)
-    (λ c. search needs)
     (λ c κs. search needs)
     (λ c. search needs)
     (λ c κs. search needs)
-    (λ c. search needs)
-    (λ c. search needs)
     (λ c κs. search needs)
-    (λ c. search needs)
-    (λ c. search needs)
-    (λ c κs. search needs)
-    (λ c. search needs)
     returns
     (λ c. begins (c .before .before .before .before) (c .before .before .token .given .1) (c .by-word .ensures))
-    (λ c. begins (c .before .before) (c .enum-told2 .given .1) refl)
-    (λ c. begins (c .before .before) (c .enum-told3 .given .1) refl)
-    (λ c. begins (c .before .before) (c .enum-told4 .given .1) refl)
-    (λ c. begins (c .before .before .before) (c .before .enum-told5 .given .1) (rw (c .before .enum-told5 .given .1) at (c .assignment-to .ensures)))
-    (λ c. begins (c .before .before .before) (c .before .enum-told6 .given .1) (rw (c .before .enum-told6 .given .1) at (c .numbered .ensures)))
-    (λ c. begins (c .before .before) (c .enum-told7 .given .1) refl)
-    (λ c. begins (c .before .before .before) (c .before .enum-told8 .given .1) (rw (c .before .enum-told8 .given .1) at (c .numbered2 .ensures)))
-    (λ c. begins (c .before .before) (c .enum-told9 .given .1) refl)
+    (λ c. begins (c .before .before .before) (c .before .enum-told2 .given .1) (rw (c .before .enum-told2 .given .1) at (c .assignment-to .ensures)))
     (λ c. begins (c .before .before .before .before) (c .before .before .token2 .given .1) (c .by-mark .ensures))
-    (λ c. begins (c .before .before) (c .enum-told10 .given .1) refl))
+    (λ c. begins (c .before .before) refl (rw (number-begins (c .before .before .before .before .args .line .now) (c .before .before .before .before .args .first) (c .before .before .token-at .result .token) (c .before .before .token-at .result) (c .before .match .keys5)) (c .numbered .ensures))))

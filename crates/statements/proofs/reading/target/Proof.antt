@@ -19,14 +19,14 @@ go s text t v = done (lineInput text (variableOf s v)) (after s t)
 returns : tie.Need-returns
 unfolding deepest
 returns c = λ text.
-    let a = c .before .before .before .before .before .before .before .before .before .args in
-    named (a .ahead .token) (go (a .line .now) text (a .ahead)) bad (c .before .before .before .before .before .before .name-of .ensures) (c .before .before .before .before .name .given .1)
-    (c .formed .ensures ∙ rw (c .before .is-text .ensures, c .before .before .token-at .ensures))
+    let a = c .before .before .before .before .before .before .before .before .args in
+    named (a .ahead .token) (go (a .line .now) text (a .ahead)) bad (c .before .before .before .before .before .before .name-at .ensures) (c .before .before .before .before .name .given .1)
+    (c .formed .ensures ∙ rw (c .before .is-of .ensures, c .before .before .token-after .ensures))
 
 returns-2 : tie.Need-returns-2
 returns-2 c = λ text.
-    let a = c .before .before .before .before .before .args in
-    unnamed (a .ahead .token) (go (a .line .now) text (a .ahead)) bad (c .before .before .name-of .ensures) (c .enum-told .given .1) refl
+    let a = c .before .before .before .before .args in
+    unnamed (a .ahead .token) (go (a .line .now) text (a .ahead)) bad (c .before .before .name-at .ensures) (c .enum-told .given .1) refl
 
 pub target-spec : {M : Type 1} → statement M
 target-spec =
