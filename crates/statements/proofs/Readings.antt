@@ -5,7 +5,6 @@ use mathlib.Core.List.{List, []}
 use Prim.Native.Nat.{ℕ, max}
 use native.Mathlib.Nat.{max-zero}
 use native.Mathlib.Omega.{arith}
-use Rattle.words.specs.declared.names.Kind.{Kind}
 use Rattle.words.specs.declared.places.Place.{Place}
 use Rattle.words.specs.declared.symbols.Scanned.{Scanned}
 use Rattle.words.specs.declared.symbols.Sign.the-variants.{Semicolon}
@@ -33,10 +32,9 @@ use Rattle.statements.proofs.Findings.{by-text}
 -- ---- what each statement makes of a formula that was read
 
 module _ (f : Formula) (t : Scanned) {k : Sort} {d : ℕ} (sort : k ≡ sortOf f) (deep : d ≡ cappedDepth (depthOf f)) where
-  pub assigned : (v : Variable) {kind : Kind} {typed : Bool} → v .kind ≡ kind → typed ≡ isOf kind k
-      → formedRead t d typed ≡ begunAnswer (done (assign v f) t)
+  pub assigned : (v : Variable) {typed : Bool} → typed ≡ isOf (v .kind) k → formedRead t d typed ≡ begunAnswer (done (assign v f) t)
   unfolding deepest
-  assigned v e h = rw (max-zero (depthOf f), deep, h, ← e, sort)
+  assigned v h = rw (max-zero (depthOf f), deep, h, sort)
 
   pub chosen : {typed : Bool} → typed ≡ isWhole k
       → statement.Choice (record { ahead = t; deepest = d; typed = typed; names = NoLine }) ≡ begunAnswer (choice f t)

@@ -25,7 +25,6 @@ use grammar::is_keyword;
 use grammar::is_symbol;
 use grammar::line_of;
 use scanner::token_at;
-use words::Kind;
 use words::Name;
 use words::Place;
 use words::Scanned;
@@ -145,17 +144,14 @@ fn assignment_to(line: &[u8], ahead: Scanned) -> StatementRead
     ensures { λ r. ⌜ r ≡ begunAnswer (onName (ahead .token) (λ v. assignAt (now (line .entry)) (variableOf (now (line .entry)) v) (after (now (line .entry)) ahead)) bad) ⌝ }
 {
     match name_at(ahead) {
-        NameFound::Is(name) => {
-            let kind = name.kind;
-            assignment(line, kind, token_after(line, ahead))
-        }
+        NameFound::Is(name) => assignment(line, name, token_after(line, ahead)),
         NameFound::None => StatementRead::Bad,
     }
 }
 
 // v = e, from the equals sign on.
-fn assignment(line: &[u8], kind: Kind, ahead: Scanned) -> StatementRead
-    ensures { λ r. ⌜ ((v : Variable) → v .kind ≡ kind → r ≡ begunAnswer (assignAt (now (line .entry)) v ahead)) ⌝ }
+fn assignment(line: &[u8], name: Name, ahead: Scanned) -> StatementRead
+    ensures { λ r. ⌜ r ≡ begunAnswer (assignAt (now (line .entry)) (variableOf (now (line .entry)) name) ahead) ⌝ }
 {
     if !sign_stands(Sign::Equal, ahead) {
         return StatementRead::Bad;
@@ -166,7 +162,10 @@ fn assignment(line: &[u8], kind: Kind, ahead: Scanned) -> StatementRead
             ahead,
             sort,
             deepest,
-        } => formed(ahead, deepest, is_of(kind, sort)),
+        } => {
+            let kind = name.kind;
+            formed(ahead, deepest, is_of(kind, sort))
+        }
     }
 }
 

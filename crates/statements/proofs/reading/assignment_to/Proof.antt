@@ -18,7 +18,7 @@ returns : tie.Need-returns
 returns c =
     let a = c .before .before .before .before .before .before .before .args in
     named (a .ahead .token) (go (a .line .now) (a .ahead)) bad (c .before .before .before .before .before .name-at .ensures) (c .before .before .before .name .given .1)
-    (rw (← (c .before .token-after .ensures)) (c .assignment .ensures _ refl))
+    (rw (← (c .before .token-after .ensures)) (c .assignment .ensures))
 
 returns-2 : tie.Need-returns-2
 returns-2 c =
