@@ -75,6 +75,7 @@ fn text_stands(ahead: Scanned) -> bool
     }
 }
 
+// Whether a sign stands there, and whether a word does.
 fn sign_stands(sign: Sign, ahead: Scanned) -> bool
     ensures { λ r. ⌜ r ≡ isSymbol sign (ahead .token) ⌝ }
 {
