@@ -1,5 +1,5 @@
 -- What the code shows of one item is what the definition does with it.
-use mathlib.Core.Path.{_≡_, refl, sym, subst, _∙_}
+use mathlib.Core.Path.{_≡_, refl, sym, ap, subst, _∙_}
 use mathlib.Core.Bool.{true, false, false≢true}
 use mathlib.Core.List.{List}
 use Prim.Native.Nat.{ℕ, _+_, _-_, _%_}
@@ -98,12 +98,17 @@ module _ {m : Machine} {space room : List ℕ} (fit : Fitting (m .printer) room)
         leads = λ text rs input n same go. leads-self same;
       }
 
+-- equal answers show the same: over variables, as the terms that stand for them are dear to rewrite
+shows-as : {m : Machine} {i : Item} {u : Scanned} {space room space′ room′ room″ : List ℕ} {r s : Shown} → r ≡ s → room′ ≡ room″
+    → Shows m i u space room s space′ room″ → Shows m i u space room r space′ room′
+shows-as e f h = rw (e, f) h
+
 module _ {m : Machine} {f : Formula} {u : Scanned} {space room space′ room′ : List ℕ} {r : Shown} (settled : Settled m space)
     (fit : Fitting (m .printer) room) where
   pub shows-worked : (w : Worked) → Valued m f u space w space′ → ShowsWorked w (m .used) (m .printer) space′ room r room′
       → Shows m (shown f) u space room r space′ room′
   shows-worked (Fault e) v (a, b) =
-      rw (a, b)
+      shows-as a b
       (record {
         spaceLong = v .framed .long;
         roomLong = refl;
@@ -114,17 +119,18 @@ module _ {m : Machine} {f : Formula} {u : Scanned} {space room space′ room′ 
         leads = λ text rs input n same go. leads-worked settled v same (λ x o. written o (shownValue x) go);
       })
   shows-worked (Whole w t) v (a, b) =
-      rw (a, b, v .goes)
+      shows-as (a ∙ ap (shownAs (printedAs (m .printer) (length room) (texts.printed w))) (v .goes)) b
       (shows-bytes fit (texts.printed w) u (v .framed .long)
       (λ text rs input n same go.
       leads-on (leads-worked settled v same (λ x o. written o (shownValue x) go))
       (λ o s. leads-written s fit (texts.printed w) go)))
   shows-worked (Text len t) v (a, b) =
-      rw (a, b, v .goes)
-      (shows-bytes fit (take len (drop (m .used) space′)) u (v .framed .long)
+      let bytes = take len (drop (m .used) space′) in
+      shows-as (a ∙ ap (shownAs (printedAs (m .printer) (length room) bytes)) (v .goes)) b
+      (shows-bytes fit bytes u (v .framed .long)
       (λ text rs input n same go.
       leads-on (leads-worked settled v same (λ x o. written o (shownValue x) go))
-      (λ o s. leads-written s fit (take len (drop (m .used) space′)) go)))
+      (λ o s. leads-written s fit bytes go)))
 
 -- ---- by the token that begins it
 
