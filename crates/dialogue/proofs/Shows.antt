@@ -17,6 +17,7 @@ use Rattle.space.proofs.Bounds.{by-bound}
 use Rattle.grammar.specs.Tests.{isSymbol}
 use Rattle.grammar.specs.Trees.{Formula, Item, comma, semicolon, shown}
 use Rattle.grammar.specs.Formulas.{good, after, formulaOf}
+use Rattle.statements.specs.Statements.{isSeparator}
 use Rattle.variables.specs.declared.values.Worked.{Worked}
 use Rattle.variables.specs.declared.values.Worked.the-variants.{Whole, Text, Fault}
 use Rattle.machine.specs.Machine as spec
@@ -141,19 +142,18 @@ module _ (line : List ℕ) (t : Scanned) {m : Machine} {space room space′ room
   at-comma e h semicolon u (a, b) = absurd (false≢true (sym a ∙ e))
   at-comma e h (shown f) u (a, b) = absurd (false≢true (sym a ∙ e))
 
-  module _ (no : isSymbol Comma (t .token) ≡ false) where
-    pub at-semicolon : isSymbol Semicolon (t .token) ≡ true → Shows m semicolon (after line t) space room r space′ room′
-        → (i : Item) (u : Scanned) → ItemAt line t i u → Shows m i u space room r space′ room′
-    at-semicolon e h comma u (a, b) = absurd (false≢true (sym no ∙ a))
-    at-semicolon e h semicolon u (a, (b, c)) = rw c h
-    at-semicolon e h (shown f) u (a, (b, c)) = absurd (false≢true (sym b ∙ e))
+  pub at-semicolon : isSymbol Comma (t .token) ≡ false → Shows m semicolon (after line t) space room r space′ room′
+      → isSeparator (t .token) ≡ true → (i : Item) (u : Scanned) → ItemAt line t i u → Shows m i u space room r space′ room′
+  at-semicolon n h e comma u (a, b) = absurd (false≢true (sym n ∙ a))
+  at-semicolon n h e semicolon u (a, (b, c)) = rw c h
+  at-semicolon n h e (shown f) u (a, (b, c)) = absurd (false≢true (rw (a, b) at e))
 
-    pub at-formula : isSymbol Semicolon (t .token) ≡ false
-        → ((f : Formula) (u : Scanned) → formulaOf line t ≡ good f u → Shows m (shown f) u space room r space′ room′)
-        → (i : Item) (u : Scanned) → ItemAt line t i u → Shows m i u space room r space′ room′
-    at-formula e h comma u (a, b) = absurd (false≢true (sym no ∙ a))
-    at-formula e h semicolon u (a, (b, c)) = absurd (false≢true (sym e ∙ b))
-    at-formula e h (shown f) u (a, (b, c)) = h f u c
+  pub at-formula : isSeparator (t .token) ≡ false
+      → ((f : Formula) (u : Scanned) → formulaOf line t ≡ good f u → Shows m (shown f) u space room r space′ room′)
+      → (i : Item) (u : Scanned) → ItemAt line t i u → Shows m i u space room r space′ room′
+  at-formula e h comma u (a, b) = absurd (false≢true (sym (rw a at e)))
+  at-formula e h semicolon u (a, (b, c)) = absurd (false≢true (sym (rw (a, b) at e)))
+  at-formula e h (shown f) u (a, (b, c)) = h f u c
 
 -- ---- the line's end, by whether there was room for it
 

@@ -1,12 +1,13 @@
 // PRINT.
 ghost use mathlib.Core.Path.{_≡_};
-ghost use mathlib.Core.Bool.{false};
+ghost use mathlib.Core.Bool.{true, false};
 ghost use mathlib.Core.List.{List};
 ghost use Prim.Native.Nat.{ℕ, _+_, _≤_};
 ghost use lib.ListN.{length, take, drop};
 ghost use Rattle.whole.specs.Texts as texts;
 ghost use Rattle.grammar.specs.Trees as tree;
 ghost use Rattle.grammar.specs.Trees.{Item};
+ghost use Rattle.grammar.specs.Tests.{endsStatement};
 ghost use Rattle.statements.specs.Statements.{items, isSeparator};
 ghost use Rattle.statements.specs.Answers.{itemsOf};
 ghost use Rattle.variables.specs.Memory.{textLength};
@@ -32,7 +33,6 @@ use whole::print_text;
 use words::Place;
 use words::Scanned;
 use words::Sign;
-use words::Token;
 
 const LINE_END: [u8; 2] = [13, 10];
 
@@ -115,13 +115,39 @@ fn print_end(machine: Machine, quiet: bool, room: &mut [u8], here: Place, ahead:
     goes_on(with_printer(machine, printed.printer), here, ahead)
 }
 
-fn separates(token: Token) -> bool
-    ensures { λ r. ⌜ r ≡ isSeparator token ⌝ }
+// What follows the last item.
+fn ends_items(ahead: Scanned) -> bool
+    ensures { λ r. ⌜ r ≡ endsStatement (ahead .token) ⌝ }
 {
+    let token = ahead.token;
+    ends_statement(token)
+}
+
+fn separates(item: Scanned) -> bool
+    ensures { λ r. ⌜ r ≡ isSeparator (item .token) ⌝ }
+{
+    let token = item.token;
     if is_symbol(Sign::Comma, token) {
         return true;
     }
     is_symbol(Sign::Semicolon, token)
+}
+
+// A comma goes to the next zone; a semicolon prints nothing.
+fn print_separator(line: &[u8], item: Scanned, machine: Machine, room: &mut [u8]) -> Shown
+    requires { ⌜ Fitting (machine .printer) (now room) ⌝ }
+    ensures { λ r. ⌜
+        ((i : Item) (u : Scanned) (space : List ℕ) → isSeparator (item .token) ≡ true → ItemAt (now (line .entry)) item i u
+        → Shows machine i u space (now (room .entry)) r space (now (room .exit)))
+        ⌝ }
+{
+    let token = item.token;
+    let printer = machine.printer;
+    let ahead = token_at(line, item.next);
+    if is_symbol(Sign::Comma, token) {
+        return shown_or_full(write_comma(printer, room), ahead);
+    }
+    Shown::On(printer, ahead)
 }
 
 // A comma, a semicolon, or a formula.
@@ -141,15 +167,8 @@ fn print_item(
         → Shows machine i u (now (space .entry)) (now (room .entry)) r (now (space .exit)) (now (room .exit)))
         ⌝ }
 {
-    let token = item.token;
-    let next = item.next;
-    let printer = machine.printer;
-    if is_symbol(Sign::Comma, token) {
-        let printed = write_comma(printer, room);
-        return shown_or_full(printed, token_at(line, next));
-    }
-    if is_symbol(Sign::Semicolon, token) {
-        return Shown::On(printer, token_at(line, next));
+    if separates(item) {
+        return print_separator(line, item, machine, room);
     }
     let worked = value(line, item, machine, space);
     show(worked, machine, space, room)
@@ -176,11 +195,10 @@ pub fn print(
     let mut item = first;
     let mut quiet = false;
     loop {
-        let token = item.token;
-        if ends_statement(token) {
+        if ends_items(item) {
             return print_end(m, quiet, room, here, item);
         }
-        quiet = separates(token);
+        quiet = separates(item);
         match print_item(line, item, m, space, room) {
             Shown::Fault(error) => return fails(m, error),
             Shown::On(printer, ahead) => {

@@ -47,14 +47,14 @@ returns c =
     let p = c .before .before in let t = p .before .before in let l = t .before .before in
     λ text input is u sound at e.
     rw (p .print-end .ensures .0, p .print-end .ensures .1)
-    (prints-ends (l .loop .inv is u e) (sym (t .before .ends-statement .ensures) ∙ t .if1 .taken) text input
+    (prints-ends (l .loop .inv is u e) (sym (t .before .ends-items .ensures) ∙ t .if1 .taken) text input
     (l .before .before .before .before .args .here) sound at)
 
 -- ---- at an item
 
 module _ (c : tie.Else1 Inv-loop μ-loop) where
   goes-on : endsStatement (c .before .before .loop .item .token) ≡ false
-  goes-on = sym (c .before .ends-statement .ensures) ∙ c .if1 .left
+  goes-on = sym (c .before .ends-items .ensures) ∙ c .if1 .left
 
   next-item : {all : List Item} {end : Scanned}
       (e : itemsOf (c .before .before .before .before .before .before .args .line .now) (c .before .before .before .before .before .before .args .first) ≡ items all end)
