@@ -1,10 +1,11 @@
 // LINE INPUT.
 ghost use mathlib.Core.Path.{_≡_};
 ghost use mathlib.Core.List.{List};
-ghost use Prim.Native.Nat.{ℕ, _≤_};
-ghost use lib.ListN.{length};
+ghost use Prim.Native.Nat.{ℕ, _-_, _≤_};
+ghost use lib.ListN.{length, take, drop};
 ghost use Rattle.grammar.specs.Trees as tree;
 ghost use Rattle.grammar.specs.Trees.{Variable};
+ghost use Rattle.grammar.specs.Formulas.{after};
 ghost use Rattle.statements.specs.Statements.{done, variableOf, targetAt, inputAt};
 ghost use Rattle.machine.specs.Holding.{positionOf, Positioned, Settled, Sound};
 ghost use Rattle.turns.specs.Steps.{doStatement};
@@ -133,7 +134,51 @@ fn prompt(
     }
 }
 
+// What LINE INPUT asks: where the text to print stands in its line, and the token of the variable.
+pub struct Query {
+    pub from: usize,
+    pub end: usize,
+    pub target: Scanned,
+}
+
+// A semicolon stands between the text and the variable.
+fn after_text(line: &[u8], quoted: Scanned) -> Scanned
+    ensures { λ r. ⌜ r ≡ after (now (line .entry)) (after (now (line .entry)) quoted) ⌝ }
+{
+    let semicolon = token_at(line, quoted.next);
+    token_at(line, semicolon.next)
+}
+
 // After INPUT comes a quoted text and a semicolon, or the variable at once.
+fn asked_at(line: &[u8], first: Scanned) -> Query
+    requires { ⌜ Asks (now line) first ⌝ }
+    ensures { λ r. ⌜
+        (r .from ≤ r .end) × ((r .end ≤ length (now (line .entry)))
+        × ((prompt : List ℕ) (v : Variable) (u : Scanned) → inputAt (now (line .entry)) first ≡ done (tree.lineInput prompt v) u
+        → (prompt ≡ take (r .end - r .from) (drop (r .from) (now (line .entry))))
+        × (targetAt (now (line .entry)) prompt (r .target) ≡ done (tree.lineInput prompt v) u)))
+        ⌝ }
+{
+    let token = first.token;
+    match token {
+        Token::Quoted(quotation) => {
+            let place = quotation.at;
+            let from = place.0;
+            let end = from + quotation.len;
+            Query {
+                from,
+                end,
+                target: after_text(line, first),
+            }
+        }
+        _ => Query {
+            from: 0,
+            end: 0,
+            target: first,
+        },
+    }
+}
+
 pub fn line_input(
     line: &[u8],
     here: Place,
@@ -150,25 +195,17 @@ pub fn line_input(
         (λ n. doStatement text (tree.lineInput prompt v) n (positionOf text (afterOf here u))) r (now (space .exit)) (now (room .exit)))
         ⌝ }
 {
-    let token = first.token;
-    match token {
-        Token::Quoted(quotation) => {
-            let place = quotation.at;
-            let from = place.0;
-            let end = from + quotation.len;
-            let semicolon = token_at(line, first.next);
-            let target = token_at(line, semicolon.next);
-            prompt(
-                line,
-                here,
-                &line[from..end],
-                target,
-                machine,
-                input,
-                space,
-                room,
-            )
-        }
-        _ => prompt(line, here, &line[..0], first, machine, input, space, room),
-    }
+    let asked = asked_at(line, first);
+    let from = asked.from;
+    let end = asked.end;
+    prompt(
+        line,
+        here,
+        &line[from..end],
+        asked.target,
+        machine,
+        input,
+        space,
+        room,
+    )
 }
