@@ -11,8 +11,9 @@ ghost use Rattle.statements.specs.Statements.{goodPart};
 ghost use Rattle.statements.specs.Answers.{partOf};
 ghost use Rattle.machine.specs.Machine as spec;
 ghost use Rattle.machine.specs.Holding.{linesAt, Settled, Sound};
+ghost use Rattle.machine.specs.declared.positions.Next.the-variants as next;
 ghost use Rattle.turns.specs.Steps.{doStatement};
-ghost use Rattle.turns.specs.Turns.{Turns, anyRecords, Formed, Standing};
+ghost use Rattle.turns.specs.Turns.{turnedTo, Turns, anyRecords, Formed, Standing};
 ghost use Rattle.control.specs.Answers.{takenTurn};
 use machine::Machine;
 use machine::Next;
@@ -29,27 +30,27 @@ use words::Place;
 use words::Scanned;
 
 // A part of the line is entered, or the line is over.
+fn position_of(here: Place, branch: Branch) -> Position
+    ensures { λ r. ⌜ ((m : Machine) → turnedTo m (next.On r) ≡ takenTurn m here branch) ⌝ }
+{
+    match branch {
+        Branch::At(at) => Position {
+            line: here,
+            at,
+            over: false,
+        },
+        Branch::None => Position {
+            line: here,
+            at: Place(0),
+            over: true,
+        },
+    }
+}
+
 fn taken(machine: Machine, here: Place, branch: Branch) -> Turned
     ensures { λ r. ⌜ r ≡ takenTurn machine here branch ⌝ }
 {
-    match branch {
-        Branch::At(at) => {
-            let inside = Position {
-                line: here,
-                at,
-                over: false,
-            };
-            turned_to(machine, Next::On(inside))
-        }
-        Branch::None => {
-            let beyond = Position {
-                line: here,
-                at: Place(0),
-                over: true,
-            };
-            turned_to(machine, Next::On(beyond))
-        }
-    }
+    turned_to(machine, Next::On(position_of(here, branch)))
 }
 
 // An IF is true when not 0.
