@@ -1,5 +1,6 @@
 pub mod Branches
 pub mod Fors
 pub mod Jumps
+pub mod Led
 pub mod Nexts
 pub mod One

@@ -1,11 +1,12 @@
 // Which statement comes next: IF, GOTO, GOSUB, RETURN, FOR and NEXT.
 mod branching;
 mod jumping;
+mod leading;
 mod looping;
 
 pub use branching::choose;
 pub use jumping::come_back;
-pub use jumping::gosub;
-pub use jumping::goto;
-pub use looping::for_loop;
-pub use looping::next_turn;
+pub use leading::call;
+pub use leading::count;
+pub use leading::jump;
+pub use leading::next_loop;

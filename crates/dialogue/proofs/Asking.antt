@@ -55,7 +55,7 @@ use Rattle.dialogue.specs.Asking.{takesLine, fillsIn}
 use Rattle.turns.proofs.Keeping.{settled-kept, sound-kept, same-kept, same-noting, room-held, leaves-unprinted}
 use Rattle.turns.proofs.Leading.{leads-on, turns-fails, turns-then}
 use Rattle.turns.proofs.Storing.{string-settled, string-long, leads-string, sound-tables, turns-stored}
-use Rattle.turns.proofs.Tokens.{tokenTag, noNames, no-name}
+use Rattle.machine.proofs.Tokens.{tokenTag, noNames, no-name}
 use Rattle.dialogue.proofs.Printing.{leads-written, printed-none, printed-more, printed-leaves}
 
 -- ---- a line of input

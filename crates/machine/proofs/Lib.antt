@@ -4,3 +4,6 @@ pub mod Limits
 pub mod Writing
 pub mod Standing
 pub mod Takes
+pub mod Tokens
+pub mod Beginning
+pub mod Seeking

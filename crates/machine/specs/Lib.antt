@@ -1,3 +1,4 @@
 pub mod Machine
 pub mod Holding
 pub mod Taking
+pub mod Seeking

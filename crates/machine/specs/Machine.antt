@@ -9,7 +9,7 @@ use lib.ListN.{length, replicate}
 use Rattle.whole.specs.Whole.{num}
 use Rattle.words.specs.declared.names.Telling.{Telling}
 use Rattle.loader.specs.Lines.{Line}
-use Rattle.grammar.specs.Trees.{Part}
+use Rattle.grammar.specs.Trees.{Statement, Part, last, more}
 use Rattle.variables.specs.Strings.{Room}
 use Rattle.variables.specs.Variables.{Variables, stringBytes}
 
@@ -17,6 +17,15 @@ use Rattle.variables.specs.Variables.{Variables, stringBytes}
 pub data Rest : Type 0 where
   nothing : Rest
   part : Part → Rest
+
+-- the first statement of a part, and what is left then
+abbrev pub headOf : Part → Statement
+headOf (last p s) = s
+headOf (more p s rest) = s
+
+abbrev pub tailOf : Part → Rest
+tailOf (last p s) = nothing
+tailOf (more p s rest) = part rest
 
 -- a place to come back to: the current line and those after it, and what is left of the part
 pub record Position : Type 0 where

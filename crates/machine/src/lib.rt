@@ -4,6 +4,7 @@ mod machine;
 mod positions;
 mod printing;
 mod records;
+mod sought;
 mod taking;
 
 pub use loops::passed;
@@ -22,5 +23,6 @@ pub use records::Stack;
 pub use records::find_record;
 pub use records::record_at;
 pub use records::with_record;
+pub use sought::sought_record;
 pub use taking::InputLine;
 pub use taking::take_line;

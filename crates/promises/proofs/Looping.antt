@@ -48,6 +48,8 @@ use Rattle.machine.specs.Machine.{
   sought,
   below,
   passed,
+  headOf,
+  tailOf,
 }
 use Rattle.turns.specs.Steps.{
   Next,
@@ -74,8 +76,6 @@ use Rattle.turns.specs.Steps.{
   filled,
   inputLine,
   isWholeKind,
-  headOf,
-  tailOf,
   doStatement,
 }
 use Rattle.runner.specs.Run.{

@@ -13,8 +13,8 @@ use Rattle.grammar.specs.Trees.{Part}
 use Rattle.checker.specs.Check as check
 use Rattle.checker.specs.Check.{firstFault, checkOf}
 use Rattle.checker.specs.declared.checking.Verdict.the-variants.{Passed}
-use Rattle.machine.specs.Machine.{Rest, nothing, part, Position, Machine, fresh, withStep}
-use Rattle.turns.specs.Steps.{Next, goesOn, enters, ends, stops, fails, headOf, tailOf, doStatement}
+use Rattle.machine.specs.Machine.{Rest, nothing, part, Position, Machine, fresh, withStep, headOf, tailOf}
+use Rattle.turns.specs.Steps.{Next, goesOn, enters, ends, stops, fails, doStatement}
 use Rattle.runner.specs.Run.{
   Ran,
   lineNumberOf,

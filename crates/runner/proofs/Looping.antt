@@ -12,13 +12,14 @@ use Rattle.loader.specs.declared.lines.LineSpan.{LineSpan}
 use Rattle.grammar.specs.Trees.{Part}
 use Rattle.space.specs.Moves.{cleared}
 use Rattle.variables.proofs.Holding.{empty-numbers, empty-strings, empty-numbers-held, empty-strings-held, empty-sum}
+use Rattle.machine.specs.Machine.{headOf, tailOf}
 use Rattle.machine.specs.Machine as spec
 use Rattle.machine.specs.Holding.{linesAt, blankRecord, freshMachine, Sound, Same}
 use Rattle.machine.specs.declared.machine.Machine.{Machine}
 use Rattle.machine.specs.declared.positions.Turned.{Turned}
 use Rattle.machine.specs.declared.records.Record.{Record}
 use Rattle.machine.proofs.Stacking.{records-none}
-use Rattle.turns.specs.Steps.{headOf, tailOf, doStatement}
+use Rattle.turns.specs.Steps.{doStatement}
 use Rattle.runner.specs.Run as run
 use Rattle.runner.specs.Run.{finished, endsWith, running, entering, lineNumberOf, isRefused}
 use Rattle.runner.specs.Standings.{OverAs, AtAs, StandsAs, GoesTo, nextOf, Turnable, TurnAs, runIn, endedAs, RanAs}

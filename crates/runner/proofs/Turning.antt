@@ -11,8 +11,10 @@ use Rattle.loader.specs.declared.lines.LineSpan.{LineSpan}
 use Rattle.grammar.specs.Trees.{Part}
 use Rattle.statements.specs.Statements.{goodPart}
 use Rattle.statements.specs.Answers.{partOf}
+use Rattle.machine.specs.Machine.{headOf, tailOf}
 use Rattle.machine.specs.Machine as spec
 use Rattle.machine.specs.Holding.{linesAt, Parted, foundIn, entryAt, Sound, Same}
+use Rattle.machine.specs.Seeking.{soughtBy}
 use Rattle.machine.specs.declared.machine.Machine.{Machine}
 use Rattle.machine.specs.declared.positions.Next.{Next}
 use Rattle.machine.specs.declared.positions.Next.the-variants as next
@@ -23,8 +25,8 @@ use Rattle.machine.specs.declared.records.Sought.{Sought}
 use Rattle.machine.proofs.Standing as standing
 use Rattle.machine.proofs.Standing.{told-as}
 use Rattle.turns.specs.Steps as step
-use Rattle.turns.specs.Steps.{headOf, tailOf, doStatement}
-use Rattle.turns.specs.Turns.{Comes, Turns, Told, FoundBelow, Standing, soughtBy}
+use Rattle.turns.specs.Steps.{doStatement}
+use Rattle.turns.specs.Turns.{Comes, Turns, Told, FoundBelow, Standing}
 use Rattle.control.proofs.Jumps.{found-low}
 use Rattle.runner.specs.Standings.{GoesTo, nextOf, stepped, Stood, Turnable, TurnAs}
 

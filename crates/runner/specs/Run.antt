@@ -27,8 +27,8 @@ use Rattle.variables.specs.declared.tables.Tables.{Tables}
 use Rattle.runner.specs.declared.running.Ran as code
 use Rattle.runner.specs.declared.running.Outcome.{Outcome}
 use Rattle.runner.specs.declared.running.Outcome.the-variants.{Ended, Stopped, Out, Failed, Refused}
-use Rattle.machine.specs.Machine.{Rest, nothing, part, Position, Machine, fresh, withStep}
-use Rattle.turns.specs.Steps.{Next, goesOn, enters, ends, stops, fails, headOf, tailOf, doStatement}
+use Rattle.machine.specs.Machine.{Rest, nothing, part, Position, Machine, fresh, withStep, headOf, tailOf}
+use Rattle.turns.specs.Steps.{Next, goesOn, enters, ends, stops, fails, doStatement}
 
 pub record Ran : Type 0 where
   pub ending : Outcome

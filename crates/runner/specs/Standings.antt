@@ -12,6 +12,7 @@ use Rattle.loader.specs.declared.lines.LineFound.the-variants.{Is}
 use Rattle.loader.specs.declared.loading.Loaded.the-variants.{Fine}
 use Rattle.loader.specs.declared.refusals.Refusal.{Refusal}
 use Rattle.variables.specs.declared.tables.Tables.{Tables}
+use Rattle.machine.specs.Machine.{headOf, tailOf}
 use Rattle.machine.specs.Machine as spec
 use Rattle.machine.specs.Holding.{linesAt, bodyOf, positionOf, Begins, Parted, Positioned, Sound, Same}
 use Rattle.machine.specs.declared.machine.Machine.{Machine}
@@ -20,7 +21,7 @@ use Rattle.machine.specs.declared.positions.Next.the-variants as next
 use Rattle.machine.specs.declared.positions.Turned.{Turned}
 use Rattle.machine.specs.declared.records.Record.{Record}
 use Rattle.turns.specs.Steps as step
-use Rattle.turns.specs.Steps.{headOf, tailOf, doStatement}
+use Rattle.turns.specs.Steps.{doStatement}
 use Rattle.turns.specs.Turns.{Comes, Leaves}
 use Rattle.runner.specs.Run as run
 use Rattle.runner.specs.Run.{finished, endsWith, entering, running, isRefused, answerOf, spaceAfter, roomAfter}

@@ -1,138 +1,36 @@
--- How a statement that reads begins, as what holds of each way that it can: a formula, the items of a PRINT, a FOR, a LINE INPUT.
-use mathlib.Core.Path.{_≡_, refl}
-use mathlib.Core.Bool.{Bool, true, false}
-use mathlib.Core.List.{List, []}
+-- A statement that reads has what the code that does it asks for.
+use mathlib.Core.Path.{refl}
+use mathlib.Core.List.{List}
 use Prim.Native.Nat.{ℕ, _≤_}
 use lib.ListN.{length}
-use denote.Enum.Declared.{tagOf}
-use Rattle.words.specs.declared.names.Name.{Name}
-use Rattle.words.specs.declared.places.LineNumber.{LineNumber}
 use Rattle.words.specs.declared.symbols.Scanned.{Scanned}
-use Rattle.words.specs.declared.symbols.Token.{Token}
-use Rattle.words.specs.declared.symbols.Sign.the-variants.{Semicolon, Equal}
-use Rattle.words.specs.declared.symbols.Word.{Word}
-use Rattle.words.specs.declared.symbols.Word.the-variants.{Then, Goto, To, Step, Input}
-use Rattle.words.proofs.Choices.{by-test}
-use Rattle.grammar.specs.Tests.{choose, isSymbol, isKeyword, onLine}
-use Rattle.grammar.specs.Trees.{Formula, number, Variable, Item, assign, print, for, lineInput}
-use Rattle.grammar.specs.Formulas as formulas
-use Rattle.grammar.specs.Formulas.{Reading, good, after, enough, formulaOf}
-use Rattle.statements.specs.Statements.{Begun, bad, done, choice, onFormula, variableOf, assignAt, Items, noItems, items, itemsAt, printed, printAt, ifAt, forAt, targetAt, inputAt}
-use Rattle.grammar.specs.Answers.{lineOf}
-use Rattle.statements.specs.Answers.{itemsOf}
-use Rattle.grammar.specs.declared.tests.NamedLine.the-variants.{Names, NoLine}
-use Rattle.statements.proofs.Findings.{by-name, by-line, by-text}
+use Rattle.words.specs.declared.symbols.Word.the-variants.{Input}
+use Rattle.grammar.specs.Tests.{isKeyword}
+use Rattle.grammar.specs.Formulas.{after, formulaOf}
+use Rattle.statements.specs.Statements.{printAt, ifAt}
 use Rattle.turns.specs.Turns.{Formed}
-use Rattle.control.specs.Answers.{Counts}
+use Rattle.turns.specs.Doing.{Begins}
+use Rattle.machine.proofs.Beginning.{if-so, by-items, by-condition, by-input}
 use Rattle.dialogue.specs.Showing.{Itemed}
 use Rattle.dialogue.specs.Asking.{Asks}
-use Rattle.steps.specs.Doing.{Begins, lineAt}
+use Rattle.steps.specs.Doing.{lineAt}
 
--- ---- what holds of each way, and where nothing reads, holds
+module _ (s : List ℕ) (short : length s ≤ 255) (w : Scanned) where
+  abbrev t : Scanned
+  t = after s w
 
-module _ (P : Begun → Type 0) (none : P bad) where
-  pub if-so : (test : Bool) (go : Unit {0} → Begun) → P (go tt) → P (choose test go (λ _. bad))
-  if-so true go h = h
-  if-so false go h = none
+  pub print-itemed : Begins (printAt s t) → Itemed s t
+  print-itemed =
+      by-items (λ b. Begins b → Itemed s t) (λ x. absurd x) s t
+      (λ is u e h. record { short = short; scans = record { from = w .next; is = refl }; all = is; end = u; reads = e; ends = h })
 
-  if-formula : (x : Reading) (go : Formula → Scanned → Begun) → ((f : Formula) (u : Scanned) → x ≡ good f u → P (go f u)) → P (onFormula x go)
-  if-formula formulas.bad go h = none
-  if-formula (formulas.good f u) go h = h f u refl
+  pub if-formed : Begins (ifAt s (formulaOf s t)) → Formed s t
+  if-formed =
+      by-condition (λ b. Begins b → Formed s t) (λ x. absurd x) s t
+      (λ c u e _. record { short = short; scans = record { from = w .next; is = refl }; reads = record { of = c; next = u; is = e } })
 
-  module _ (s : List ℕ) (t : Scanned) where
-    pub by-assign : (v : Variable) → ((f : Formula) (u : Scanned) → formulaOf s (after s t) ≡ good f u → P (done (assign v f) u))
-        → P (assignAt s v t)
-    by-assign v h = if-so (isSymbol Equal (t .token)) _ (if-formula (formulaOf s (after s t)) _ h)
-
-    pub by-items : ((is : List Item) (u : Scanned) → itemsOf s t ≡ items is u → P (done (print is) u)) → P (printAt s t)
-    unfolding printAt itemsOf
-    by-items h = go (itemsAt (enough s) s t) refl
-      where
-        go : (x : Items) → itemsAt (enough s) s t ≡ x → P (printed x)
-        go noItems e = none
-        go (items is u) e = h is u e
-
-    pub by-condition : ((c : Formula) (u : Scanned) → formulaOf s t ≡ good c u → P (choice c u)) → P (ifAt s (formulaOf s t))
-    by-condition h = go (formulaOf s t) refl
-      where
-        go : (x : Reading) → formulaOf s t ≡ x → P (ifAt s x)
-        go formulas.bad e = none
-        go (formulas.good c u) e =
-            by-test (isKeyword Then (u .token)) (λ f. rw f (h c u e)) λ f. rw f
-            (if-so (isKeyword Goto (u .token)) _ (by-line P (after s u .token) _ _ (λ l n r. h c u e) (λ n. none)))
-
-    for-done : (v : Variable) → ((a b c : Formula) (u : Scanned) → P (done (for v a b c) u)) → P (forAt s v t)
-    unfolding forAt
-    for-done v h =
-        if-so (isSymbol Equal (t .token)) _
-        (if-formula (formulaOf s (after s t)) _ λ a x i.
-        if-so (isKeyword To (x .token)) _
-        (if-formula (formulaOf s (after s x)) _ λ b y j.
-        by-test (isKeyword Step (y .token))
-        (λ f. rw f (if-formula (formulaOf s (after s y)) _ (λ c u k. h a b c u)))
-        (λ f. rw f (h a b (number 1) y))))
-
-    target-done : (text : List ℕ) (w : Scanned) → ((v : Variable) (u : Scanned) → P (done (lineInput text v) u)) → P (targetAt s text w)
-    target-done text w h = by-name P (w .token) _ _ (λ v f n. h (variableOf s v) (after s w)) (λ f. none)
-
-    input-done : ((text : List ℕ) (v : Variable) (u : Scanned) → P (done (lineInput text v) u)) → P (inputAt s t)
-    unfolding inputAt
-    input-done h =
-        by-text P (t .token) _ _
-        (λ q f n. if-so (isSymbol Semicolon (after s t .token)) _ (target-done _ (after s (after s t)) (h _)))
-        (λ f. target-done [] t (h []))
-
--- the same, with what it is
-module _ (P : Begun → Type 0) (none : P bad) (s : List ℕ) (t : Scanned) where
-  pub by-for : (v : Variable) → ((a b c : Formula) (u : Scanned) → forAt s v t ≡ done (for v a b c) u → P (done (for v a b c) u))
-      → P (forAt s v t)
-  by-for v h = for-done (λ b. forAt s v t ≡ b → P b) (λ e. none) s t v h refl
-
-  pub by-input : ((text : List ℕ) (v : Variable) (u : Scanned) → inputAt s t ≡ done (lineInput text v) u → P (done (lineInput text v) u))
-      → P (inputAt s t)
-  by-input h = input-done (λ b. inputAt s t ≡ b → P b) (λ e. none) s t h refl
-
--- ---- a statement that reads has what it needs
-
-module _ (s : List ℕ) (short : length s ≤ 255) where
-  pub assign-formed : (v : Variable) (t : Scanned) → Begins (assignAt s v t) → Formed s (after s t)
-  assign-formed v t =
-      by-assign (λ b. Begins b → Formed s (after s t)) (λ x. absurd x) s t v
-      (λ f u e _. record { short = short; scans = record { from = t .next; is = refl }; reads = record { of = f; next = u; is = e } })
-
-  module _ (w : Scanned) where
-    abbrev t : Scanned
-    t = after s w
-
-    pub print-itemed : Begins (printAt s t) → Itemed s t
-    print-itemed =
-        by-items (λ b. Begins b → Itemed s t) (λ x. absurd x) s t
-        (λ is u e h. record { short = short; scans = record { from = w .next; is = refl }; all = is; end = u; reads = e; ends = h })
-
-    pub if-formed : Begins (ifAt s (formulaOf s t)) → Formed s t
-    if-formed =
-        by-condition (λ b. Begins b → Formed s t) (λ x. absurd x) s t
-        (λ c u e _. record { short = short; scans = record { from = w .next; is = refl }; reads = record { of = c; next = u; is = e } })
-
-    pub for-counts : (name : Name) → Begins (forAt s (variableOf s name) t) → Counts s name t
-    for-counts name =
-        by-for (λ b. Begins b → Counts s name t) (λ x. absurd x) s t (variableOf s name)
-        (λ a b c u e _. record { short = short; scans = record { from = w .next; is = refl }; start = a; limit = b; step = c; end = u; is = e })
-
-    pub input-asks : Begins (lineAt s w) → Asks s t
-    input-asks =
-        if-so (λ b. Begins b → Asks s t) (λ x. absurd x) (isKeyword Input (w .token)) _
-        (by-input (λ b. Begins b → Asks s t) (λ x. absurd x) s t
-        λ text v u e _. record { short = short; scans = record { from = w .next; is = refl }; prompt = text; target = v; end = u; is = e })
-
--- ---- a word, and a line number or none
-
-abbrev pub wordTag : Word → ℕ
-wordTag w = tagOf Rattle.words.proofs.symbols.Word.the-type w
-
-pub on-line : (t : Token) (go : LineNumber → Begun) (other : Begun) {l : LineNumber} → lineOf t ≡ Names l → onLine t go other ≡ go l
-on-line t go other {l} e =
-    by-line (λ b. b ≡ go l) t go other (λ m f a. let same : m ≡ l = cc in rw same) (λ f. cc)
-
-pub no-line : (t : Token) (go : LineNumber → Begun) (other : Begun) → lineOf t ≡ NoLine → onLine t go other ≡ other
-no-line t go other e = by-line (λ b. b ≡ other) t go other (λ m f a. cc) (λ f. refl)
+  pub input-asks : Begins (lineAt s w) → Asks s t
+  input-asks =
+      if-so (λ b. Begins b → Asks s t) (λ x. absurd x) (isKeyword Input (w .token)) _
+      (by-input (λ b. Begins b → Asks s t) (λ x. absurd x) s t
+      λ text v u e _. record { short = short; scans = record { from = w .next; is = refl }; prompt = text; target = v; end = u; is = e })

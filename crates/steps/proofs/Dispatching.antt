@@ -1,18 +1,11 @@
--- Turns of statements that only go on or end, and what a part's first statement does, by how it begins.
-use mathlib.Core.Path.{_≡_, refl, sym, ap, _∙_}
+-- What a part's first statement does, by how it begins.
+use mathlib.Core.Path.{_≡_, refl, sym, _∙_}
 use mathlib.Core.Bool.{Bool, true, false, false≢true}
 use mathlib.Core.List.{List, _∷_, []}
 use Prim.Native.Nat.{ℕ}
 use native.Mathlib.Omega.{arith}
-use lib.ListN.{length, set}
 use denote.Enum.Declared.{tagOf}
 use types.Run.{OneOf, miss}
-use Rattle.words.specs.Places.{place}
-use Rattle.whole.specs.declared.errors.Error.{Error}
-use Rattle.whole.specs.declared.errors.Error.the-variants.{TypeMismatch}
-use Rattle.words.specs.declared.names.Kind.the-variants as kind
-use Rattle.words.specs.declared.names.Name.{Name}
-use Rattle.words.specs.declared.places.LineNumber.{LineNumber}
 use Rattle.words.specs.declared.places.Place.{Place}
 use Rattle.words.specs.declared.symbols.Scanned.{Scanned}
 use Rattle.words.specs.declared.symbols.Sign.{Sign}
@@ -63,65 +56,27 @@ use Rattle.grammar.specs.Tests.{isSymbol, isKeyword, endsStatement}
 use Rattle.grammar.specs.Trees as tree
 use Rattle.grammar.specs.Trees.{Part, last, more}
 use Rattle.grammar.specs.Formulas.{good, after, formulaOf}
-use Rattle.statements.specs.Statements.{Begun, bad, done, choice, variableOf, items, printAt, ifAt, forAt, inputAt, byWord, byMark, byToken, begunAt, PartReading, badPart, goodPart}
-use Rattle.grammar.specs.Answers.{lineOf}
+use Rattle.statements.specs.Statements.{Begun, bad, done, choice, items, printAt, ifAt, inputAt, byWord, byMark, byToken, begunAt, PartReading, goodPart}
 use Rattle.statements.specs.Answers.{itemsOf, partOf}
-use Rattle.grammar.specs.declared.tests.NamedLine.the-variants.{Names}
 use Rattle.statements.proofs.Parts.{partBy, unrolled}
-use Rattle.statements.proofs.Views.{More, Final, plain, thens, elses, more-view, final-view}
+use Rattle.statements.proofs.Views.{Final, plain, thens, elses, more-view, final-view}
 use Rattle.machine.specs.Machine as spec
-use Rattle.machine.specs.Machine.{Rest, nothing, part}
-use Rattle.machine.specs.Holding.{linesAt, bodyOf, positionOf, isSought, Parted, Positioned, Sound}
+use Rattle.machine.specs.Machine.{Rest, nothing, part, headOf, tailOf}
+use Rattle.machine.specs.Holding.{linesAt, positionOf, Parted, Positioned, Sound}
+use Rattle.machine.specs.Seeking.{soughtBy}
 use Rattle.machine.specs.declared.machine.Machine.{Machine}
 use Rattle.machine.specs.declared.positions.Turned.{Turned}
 use Rattle.machine.specs.declared.positions.Next.the-variants as next
 use Rattle.machine.specs.declared.records.Record.{Record}
 use Rattle.machine.specs.declared.records.Found.{Found}
-use Rattle.machine.specs.declared.records.Sought.the-variants as sought
 use Rattle.machine.proofs.Standing.{true-part}
-use Rattle.turns.specs.Steps as step
-use Rattle.turns.specs.Steps.{goesOn, ends, stops, fails, nextOn, headOf, tailOf, doStatement}
-use Rattle.turns.specs.Turns.{turnedTo, afterOf, Turns, anyRecords, Told, Standing, soughtBy}
-use Rattle.steps.specs.Doing.{Begins, Does, setAt, loopAt, nextAt, jumpAt, callAt, lineAt}
-use Rattle.turns.proofs.Keeping.{leaves-unprinted}
-use Rattle.turns.proofs.Leading.{leads-self, turns-fails, turns-on, turns-ends, turns-stops}
-use Rattle.turns.proofs.Tokens.{tokenTag, no-name}
-use Rattle.steps.proofs.Beginning.{wordTag, if-so, by-assign, by-items, by-condition, by-for, by-input, on-line, no-line}
-
--- ---- turns that change nothing
-
-module _ {text : List ℕ} {m : Machine} {input space room : List ℕ} where
-  -- what holds whatever the records holds of those that meet what is told
-  pub any-told : {told : List Record → Type 0} {does : spec.Machine → step.Next} {r : Turned} {space′ room′ : List ℕ}
-      → Turns text m input space room anyRecords does r space′ room′ → Turns text m input space room told does r space′ room′
-  any-told t = record { leaves = t .leaves; comes = λ rs l h n s. t .comes rs l tt n s }
-
-  module _ (sound : Sound m input space room) (told : List Record → Type 0) where
-    -- the run goes on after a statement
-    pub goes-turn : (here : Place) (u : Scanned) → Positioned text (afterOf here u)
-        → Turns text m input space room told (λ n. goesOn n (positionOf text (afterOf here u))) (turnedTo m (next.On (afterOf here u))) space room
-    goes-turn here u p = turns-on (leaves-unprinted sound refl refl refl) p (λ rs l t n s. leads-self s)
-
-    pub fails-turn : (e : Error) → Turns text m input space room told (fails e) (turnedTo m (next.Fails e)) space room
-    fails-turn e = turns-fails (leaves-unprinted sound refl refl refl) (λ rs l t n s. leads-self s)
-
-    pub ends-turn : Turns text m input space room told ends (turnedTo m next.Ends) space room
-    ends-turn = turns-ends (leaves-unprinted sound refl refl refl) (λ rs l t n s. leads-self s)
-
-    pub stops-turn : Turns text m input space room told stops (turnedTo m next.Stops) space room
-    stops-turn = turns-stops (leaves-unprinted sound refl refl refl) (λ rs l t n s. leads-self s)
-
-    -- NEXT with a string's name
-    pub next-text : (v : tree.Variable) (after : spec.Position) → v .kind ≡ kind.Text
-        → Turns text m input space room told (λ n. doStatement text (tree.nextOf v) n after) (turnedTo m (next.Fails TypeMismatch)) space room
-    next-text v after e = simp e (fails-turn TypeMismatch)
-
--- and with a number's
-pub next-whole : {text : List ℕ} {m : Machine} {input space room : List ℕ} {told : List Record → Type 0} {r : Turned} (v : tree.Variable) (after : spec.Position)
-    → v .kind ≡ kind.Whole
-    → Turns text m input space room told (λ n. nextOn n (spec.sought (isSought (sought.LoopOf (v .telling))) (n .records)) after) r space room
-    → Turns text m input space room told (λ n. doStatement text (tree.nextOf v) n after) r space room
-next-whole v after e t = simp e t
+use Rattle.turns.specs.Steps.{doStatement}
+use Rattle.turns.specs.Turns.{turnedTo, afterOf, Turns, anyRecords, Told, Standing}
+use Rattle.turns.specs.Doing.{Begins, Does}
+use Rattle.machine.proofs.Beginning.{if-so, by-items, by-condition, by-input, begun-token}
+use Rattle.turns.proofs.Doing.{any-told, goes-turn}
+use Rattle.machine.proofs.Tokens.{tokenTag, wordTag}
+use Rattle.steps.specs.Doing.{lineAt}
 
 -- ---- what is left of a part after its first statement, which a token ends
 
@@ -179,11 +134,6 @@ part-begins {line} {at} p =
     begins-by at (partOf line) (begunAt line true at) (sym (unrolled line true at) ∙ p .is)
 
 -- by its first token
-pub begun-token : (line : List ℕ) (at : Place) {t : Scanned} {x : Token} → t ≡ tokenAt line at → t .token ≡ x
-    → begunAt line true (at .0) ≡ byToken line true x t
-unfolding begunAt
-begun-token line at {t} e w = rw (← e) (ap (λ x. byToken line true x t) w)
-
 pub token-begins : {line : List ℕ} (at : Place) {t : Scanned} {x : Token} → t ≡ tokenAt line at → t .token ≡ x → Parted line (at .0)
     → Begins (byToken line true x t)
 token-begins {line} at e w p = rw (begun-token line at e w) at (part-begins p)
@@ -220,34 +170,6 @@ module _ (text line : List ℕ) (here : Place) (m : Machine) (found : Found) (en
   pub token-does : Standing text line here → (at : Place) {t : Scanned} {x : Token} → t ≡ tokenAt line at → t .token ≡ x → D (byToken line true x t)
       → (p : Part) (end : Scanned) → partOf line true (at .0) ≡ goodPart p end → TurnsAs p
   token-does st at e w d p end i = part-does st (at .0) p end i (rw (begun-token line at e w) d)
-
-  -- ---- from a name or a line number on
-
-  pub set-does : (t : Scanned) (name : Name) → t .token ≡ Named name
-      → ((f : tree.Formula) (u : Scanned) → Positioned text (afterOf here u) → formulaOf line (after line (after line t)) ≡ good f u
-      → Turns text m input space room anyRecords
-      (λ n. doStatement text (tree.assign (variableOf line name) f) n (positionOf text (afterOf here u))) r space′ room′)
-      → D (setAt line t)
-  set-does t name w h = rw w (by-assign D tt line (after line t) (variableOf line name) (λ f u e p. any-told (h f u p e)))
-
-  pub loop-does : (t : Scanned) (name : Name) → t .token ≡ Named name
-      → ((a b c : tree.Formula) (u : Scanned) → Positioned text (afterOf here u)
-      → forAt line (variableOf line name) (after line t) ≡ done (tree.for (variableOf line name) a b c) u
-      → Turns text m input space room (Told (sought.LoopOf (variableOf line name .telling)) (m .depth) found entry)
-      (λ n. doStatement text (tree.for (variableOf line name) a b c) n (positionOf text (afterOf here u))) r space′ room′)
-      → D (loopAt line t)
-  loop-does t name w h = rw w (by-for D tt line (after line t) (variableOf line name) (λ a b c u e p. h a b c u p e))
-
-  pub jump-does : (t : Scanned) (l : LineNumber) → lineOf (t .token) ≡ Names l
-      → ((after : spec.Position) → Turns text m input space room anyRecords (λ n. doStatement text (tree.goto l) n after) r space′ room′)
-      → D (jumpAt line t)
-  jump-does t l e h = rw (on-line (t .token) (λ l. done (tree.goto l) (after line t)) bad e) (λ p. any-told (h (positionOf text (afterOf here (after line t)))))
-
-  pub call-does : (t : Scanned) (l : LineNumber) → lineOf (t .token) ≡ Names l
-      → (Positioned text (afterOf here (after line t)) → Turns text m input space room anyRecords
-      (λ n. doStatement text (tree.gosub l) n (positionOf text (afterOf here (after line t)))) r space′ room′)
-      → D (callAt line t)
-  call-does t l e h = rw (on-line (t .token) (λ l. done (tree.gosub l) (after line t)) bad e) (λ p. any-told (h p))
 
   pub print-does : (t : Scanned)
       → ((is : List tree.Item) (u : Scanned) → Positioned text (afterOf here u) → itemsOf line t ≡ items is u

@@ -1,174 +1,37 @@
 // The statement that stands at a place of a line that reads.
 ghost use mathlib.Core.Path.{_≡_};
-ghost use mathlib.Core.List.{List};
-ghost use Prim.Native.Nat.{ℕ, _≤_};
 ghost use mathlib.Core.Bool.{true};
-ghost use lib.ListN.{length};
 ghost use Rattle.grammar.specs.Trees.{Part};
 ghost use Rattle.statements.specs.Statements.{goodPart, byWord};
 ghost use Rattle.statements.specs.Answers.{partOf};
-ghost use Rattle.machine.specs.Holding.{linesAt, Parted, Settled, Sound};
-ghost use Rattle.turns.specs.Steps.{headOf, tailOf, doStatement};
-ghost use Rattle.turns.specs.Turns.{Turns, Told, Standing, soughtBy, FoundBelow};
-ghost use Rattle.steps.specs.Doing.{Begins, Does, setAt, loopAt, nextAt, jumpAt, callAt, soughtLoop};
+ghost use Rattle.machine.specs.Machine.{headOf, tailOf};
+ghost use Rattle.machine.specs.Holding.{linesAt, Parted, Sound};
+ghost use Rattle.machine.specs.Seeking.{soughtBy};
+ghost use Rattle.turns.specs.Steps.{doStatement};
+ghost use Rattle.turns.specs.Turns.{Turns, Told, Standing, FoundBelow};
+ghost use Rattle.turns.specs.Doing.{Begins, Does};
+use control::call;
 use control::choose;
 use control::come_back;
-use control::for_loop;
-use control::gosub;
-use control::goto;
-use control::next_turn;
+use control::count;
+use control::jump;
+use control::next_loop;
 use dialogue::line_input;
 use dialogue::print;
-use grammar::NamedLine;
-use grammar::line_of;
 use machine::Found;
 use machine::Machine;
 use machine::Next;
 use machine::Record;
-use machine::Sought;
 use machine::Turned;
 use scanner::token_at;
-use turns::assign;
-use turns::fails;
 use turns::goes_on;
+use turns::set;
 use turns::turned_to;
-use whole::Error;
-use words::Kind;
 use words::Place;
 use words::Scanned;
 use words::Sign;
 use words::Token;
 use words::Word;
-use words::telling_of;
-
-// The record that the statement at a place asks for.
-pub fn sought_record(line: &[u8], at: Place) -> Sought
-    ensures { λ r. ⌜
-        ((p : Part) (end : Scanned) → partOf (now (line .entry)) true (at .0) ≡ goodPart p end → r ≡ soughtBy (headOf p))
-        ⌝ }
-{
-    let first = token_at(line, at);
-    let token = first.token;
-    match token {
-        Token::Keyword(word) => match word {
-            Word::Return => Sought::Call,
-            Word::For => named_loop(line, token_at(line, first.next)),
-            Word::Next => named_loop(line, token_at(line, first.next)),
-            _ => Sought::Nothing,
-        },
-        _ => Sought::Nothing,
-    }
-}
-
-fn named_loop(line: &[u8], target: Scanned) -> Sought
-    ensures { λ r. ⌜ r ≡ soughtLoop (now (line .entry)) target ⌝ }
-{
-    let token = target.token;
-    match token {
-        Token::Named(name) => Sought::LoopOf(telling_of(line, name)),
-        _ => Sought::Loop,
-    }
-}
-
-// A name, the equals sign and a formula.
-fn set(line: &[u8], here: Place, target: Scanned, machine: Machine, space: &mut [u8]) -> Turned
-    requires { ⌜ Begins (setAt (now line) target) × ((length (now line) ≤ 255) × Settled machine (now space)) ⌝ }
-    ensures { λ r. ⌜
-        ((text input room : List ℕ) (found : Found) (entry : Record) → Sound machine input (now (space .entry)) room
-        → Does text (now (line .entry)) here machine found entry input (now (space .entry)) room r (now (space .exit)) room (setAt (now (line .entry)) target))
-        ⌝ }
-{
-    let token = target.token;
-    let equals = token_at(line, target.next);
-    match token {
-        Token::Named(name) => assign(
-            line,
-            here,
-            name,
-            token_at(line, equals.next),
-            machine,
-            space,
-        ),
-        _ => fails(machine, Error::Syntax),
-    }
-}
-
-// A name, the equals sign and what is counted through.
-fn count(
-    line: &[u8],
-    here: Place,
-    target: Scanned,
-    machine: Machine,
-    found: Found,
-    space: &mut [u8],
-) -> Turned
-    requires { ⌜ Begins (loopAt (now line) target) × ((length (now line) ≤ 255) × (Settled machine (now space) × FoundBelow (machine .depth) found)) ⌝ }
-    ensures { λ r. ⌜
-        ((text input room : List ℕ) (entry : Record) → Sound machine input (now (space .entry)) room
-        → Does text (now (line .entry)) here machine found entry input (now (space .entry)) room r (now (space .exit)) room (loopAt (now (line .entry)) target))
-        ⌝ }
-{
-    let token = target.token;
-    let equals = token_at(line, target.next);
-    match token {
-        Token::Named(name) => for_loop(line, here, name, equals, machine, found, space),
-        _ => fails(machine, Error::Syntax),
-    }
-}
-
-// A string name is 13, tested first.
-fn next_loop(
-    line: &[u8],
-    here: Place,
-    target: Scanned,
-    machine: Machine,
-    found: Found,
-    entry: Record,
-) -> Turned
-    requires { ⌜ FoundBelow (machine .depth) found ⌝ }
-    ensures { λ r. ⌜
-        ((text input space room : List ℕ) → Sound machine input space room
-        → Does text (now (line .entry)) here machine found entry input space room r space room (nextAt (now (line .entry)) target))
-        ⌝ }
-{
-    let token = target.token;
-    match token {
-        Token::Named(name) => {
-            let kind = name.kind;
-            match kind {
-                Kind::Text => fails(machine, Error::TypeMismatch),
-                Kind::Whole => next_turn(here, token_at(line, target.next), machine, found, entry),
-            }
-        }
-        _ => next_turn(here, target, machine, found, entry),
-    }
-}
-
-fn jump(text: &[u8], target: Scanned, machine: Machine) -> Turned
-    ensures { λ r. ⌜
-        ((line input space room : List ℕ) (here : Place) (found : Found) (entry : Record) → Sound machine input space room
-        → Does (now (text .entry)) line here machine found entry input space room r space room (jumpAt line target))
-        ⌝ }
-{
-    let token = target.token;
-    match line_of(token) {
-        NamedLine::NoLine => fails(machine, Error::Syntax),
-        NamedLine::Names(number) => goto(text, number, machine),
-    }
-}
-
-fn call(text: &[u8], line: &[u8], here: Place, target: Scanned, machine: Machine) -> Turned
-    ensures { λ r. ⌜
-        ((input space room : List ℕ) (found : Found) (entry : Record) → Sound machine input space room
-        → Does (now (text .entry)) (now (line .entry)) here machine found entry input space room r space room (callAt (now (line .entry)) target))
-        ⌝ }
-{
-    let token = target.token;
-    match line_of(token) {
-        NamedLine::NoLine => fails(machine, Error::Syntax),
-        NamedLine::Names(number) => gosub(text, number, here, token_at(line, target.next), machine),
-    }
-}
 
 // A statement that begins with a word; ELSE ends an empty one.
 fn by_word(

@@ -2,4 +2,3 @@
 mod doing;
 
 pub use doing::do_statement;
-pub use doing::sought_record;

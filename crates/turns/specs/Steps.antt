@@ -30,12 +30,11 @@ use Rattle.words.specs.declared.names.Telling.{Telling}
 use Rattle.words.specs.declared.places.LineNumber.{LineNumber}
 use Rattle.loader.specs.Lines.{Line, linesOf, linesFrom, fromNumber}
 use Rattle.grammar.specs.Trees as tree
-use Rattle.grammar.specs.Trees.{Formula, Variable, Item, Statement, Part, last, more}
+use Rattle.grammar.specs.Trees.{Formula, Variable, Item, Statement, Part}
 use Rattle.variables.specs.Strings.{Value, whole, text, Room, Outcome, value, fault, make, letGo}
 use Rattle.variables.specs.Variables.{Variables, wordOf, setNumber, setString, numbersFull, stringsFull}
 use Rattle.operators.specs.Values.{valueOf}
 use Rattle.machine.specs.Machine.{
-  Rest,
   nothing,
   part,
   Position,
@@ -189,15 +188,6 @@ inputLine [] m v go = fails InputPastEnd m
 inputLine (b ∷ s) m v go = lineTaken m v (takeLine (b ∷ s)) go
 
 -- ---- all statements
-
--- the first statement of a part, and what is left then
-abbrev pub headOf : Part → Statement
-headOf (last p s) = s
-headOf (more p s rest) = s
-
-abbrev pub tailOf : Part → Rest
-tailOf (last p s) = nothing
-tailOf (more p s rest) = part rest
 
 abbrev pub isWholeKind : Kind → Bool
 isWholeKind kind.Whole = true

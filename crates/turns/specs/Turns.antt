@@ -10,8 +10,7 @@ use Rattle.words.specs.declared.places.Place.{Place}
 use Rattle.words.specs.declared.symbols.Scanned.{Scanned}
 use Rattle.words.specs.declared.symbols.Sign.the-variants.{Colon}
 use Rattle.grammar.specs.Tests.{isSymbol}
-use Rattle.grammar.specs.Trees as tree
-use Rattle.grammar.specs.Trees.{Formula, Statement}
+use Rattle.grammar.specs.Trees.{Formula}
 use Rattle.grammar.specs.Formulas.{formulaOf}
 use Rattle.variables.specs.Strings.{Room}
 use Rattle.operators.specs.Values.{valueOf}
@@ -33,7 +32,6 @@ use Rattle.machine.specs.declared.records.Record.{Record}
 use Rattle.machine.specs.declared.records.Found.{Found}
 use Rattle.machine.specs.declared.records.Found.the-variants as found
 use Rattle.machine.specs.declared.records.Sought.{Sought}
-use Rattle.machine.specs.declared.records.Sought.the-variants as sought
 use Rattle.turns.specs.Steps as step
 use Rattle.turns.specs.declared.setting.Stored.{Stored}
 use Rattle.turns.specs.Steps.{goesOn, enters, ends, stops, fails}
@@ -117,24 +115,6 @@ pub record Standing (text line : List ℕ) (here : Place) : Type 0 where
   pub short : length line ≤ 255
   pub begins : Begins text (here .0)
   pub is : line ≡ bodyOf (linesAt text (here .0))
-
--- the record that a statement asks for
-abbrev pub soughtBy : Statement → Sought
-soughtBy tree.empty = sought.Nothing
-soughtBy (tree.assign v f) = sought.Nothing
-soughtBy (tree.print is) = sought.Nothing
-soughtBy (tree.ifThen c p) = sought.Nothing
-soughtBy (tree.ifElse c p q) = sought.Nothing
-soughtBy (tree.goto l) = sought.Nothing
-soughtBy (tree.gosub l) = sought.Nothing
-soughtBy tree.return = sought.Call
-soughtBy (tree.for v from to by) = sought.LoopOf (v .telling)
-soughtBy tree.next = sought.Loop
-soughtBy (tree.nextOf v) = sought.LoopOf (v .telling)
-soughtBy (tree.lineInput t v) = sought.Nothing
-soughtBy tree.end = sought.Nothing
-soughtBy tree.stop = sought.Nothing
-soughtBy tree.remark = sought.Nothing
 
 -- what a statement was told of the records: the one that it asks for was looked up
 pub record Told (k : Sought) (depth : ℕ) (slot : Found) (entry : Record) (rs : List Record) : Type 0 where

@@ -3,7 +3,7 @@ mod setting;
 mod turning;
 
 pub use setting::Stored;
-pub use setting::assign;
+pub use setting::set;
 pub use setting::stored_or_full;
 pub use setting::with_number;
 pub use setting::with_string;

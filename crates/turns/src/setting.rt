@@ -9,12 +9,16 @@ ghost use Rattle.grammar.specs.Formulas.{good, formulaOf};
 ghost use Rattle.statements.specs.Statements.{variableOf};
 ghost use Rattle.machine.specs.Holding.{positionOf, Positioned, Settled, Sound};
 ghost use Rattle.turns.specs.Steps.{doStatement};
+ghost use Rattle.turns.specs.Doing.{Begins, Does, setAt};
 ghost use Rattle.turns.specs.Turns.{afterOf, Turns, anyRecords, Formed, numberSet, stringSet, storedTurn};
 use crate::turning::fails;
 use crate::turning::goes_on;
 use crate::turning::value;
+use machine::Found;
 use machine::Machine;
+use machine::Record;
 use machine::Turned;
+use scanner::token_at;
 use variables::Tables;
 use variables::Worked;
 use variables::store_number;
@@ -25,6 +29,7 @@ use words::Name;
 use words::Place;
 use words::Scanned;
 use words::Telling;
+use words::Token;
 use words::telling_of;
 
 // The machine after an assignment, or no room for a new variable.
@@ -82,7 +87,7 @@ pub fn stored_or_full(stored: Stored, line: Place, ahead: Scanned) -> Turned
 }
 
 // The variable's name, and the formula from its first token on; the type is tested after the formula.
-pub fn assign(
+fn assign(
     line: &[u8],
     here: Place,
     name: Name,
@@ -110,5 +115,28 @@ pub fn assign(
             Kind::Whole => fails(machine, Error::TypeMismatch),
             Kind::Text => stored_or_full(with_string(machine, telling, space, len), here, ahead),
         },
+    }
+}
+
+// A name, the equals sign and a formula.
+pub fn set(line: &[u8], here: Place, target: Scanned, machine: Machine, space: &mut [u8]) -> Turned
+    requires { ⌜ Begins (setAt (now line) target) × ((length (now line) ≤ 255) × Settled machine (now space)) ⌝ }
+    ensures { λ r. ⌜
+        ((text input room : List ℕ) (found : Found) (entry : Record) → Sound machine input (now (space .entry)) room
+        → Does text (now (line .entry)) here machine found entry input (now (space .entry)) room r (now (space .exit)) room (setAt (now (line .entry)) target))
+        ⌝ }
+{
+    let token = target.token;
+    let equals = token_at(line, target.next);
+    match token {
+        Token::Named(name) => assign(
+            line,
+            here,
+            name,
+            token_at(line, equals.next),
+            machine,
+            space,
+        ),
+        _ => fails(machine, Error::Syntax),
     }
 }

@@ -16,8 +16,7 @@ use Rattle.checker.specs.declared.checking.Soundness.{Soundness}
 use Rattle.checker.specs.declared.checking.Soundness.the-variants.{Sound, Fault}
 use Rattle.checker.specs.declared.checking.Verdict.{Verdict}
 use Rattle.checker.specs.declared.checking.Verdict.the-variants.{Passed}
-use Rattle.machine.specs.Machine.{Rest, nothing, part, Position, Record, loop, call}
-use Rattle.turns.specs.Steps.{headOf, tailOf}
+use Rattle.machine.specs.Machine.{Rest, nothing, part, Position, Record, loop, call, headOf, tailOf}
 use Rattle.runner.specs.Run.{Entered, over, faulty, opened, judgedLine, enter}
 use Rattle.promises.proofs.Checked.Operators.{Allowed}
 

@@ -22,8 +22,8 @@ use Rattle.variables.specs.Strings as string
 use Rattle.variables.specs.Strings.{Room, value}
 use Rattle.variables.specs.Variables.{stringBytes}
 use Rattle.operators.specs.Values.{valueOf}
-use Rattle.machine.specs.Machine.{Rest, nothing, part, Machine, fresh, roomOf, withStep}
-use Rattle.turns.specs.Steps.{Next, goesOn, enters, ends, stops, fails, headOf, tailOf, doStatement}
+use Rattle.machine.specs.Machine.{Rest, nothing, part, Machine, fresh, roomOf, withStep, headOf, tailOf}
+use Rattle.turns.specs.Steps.{Next, goesOn, enters, ends, stops, fails, doStatement}
 use Rattle.runner.specs.Run.{
   endsWith,
   lineNumberOf,

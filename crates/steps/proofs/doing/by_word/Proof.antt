@@ -1,4 +1,5 @@
-use Rattle.steps.proofs.Dispatching.{goes-turn, ends-turn, stops-turn, print-does, if-does, input-does, other-word-does}
+use Rattle.turns.proofs.Doing.{goes-turn, ends-turn, stops-turn}
+use Rattle.steps.proofs.Dispatching.{print-does, if-does, input-does, other-word-does}
 use Rattle.machine.specs.Holding.{positionOf}
 use Rattle.turns.specs.Turns.{afterOf}
 use Rattle.grammar.specs.Formulas.{after}
@@ -6,20 +7,6 @@ use Rattle.steps.proofs.Beginning.{print-itemed, if-formed, input-asks}
 use borrow.Author.Needs.{needs}
 use Rattle.steps.proofs.doing.by_word.Statement.{statement}
 use Rattle.steps.proofs.doing.by_word.Tie as tie
-use Rattle.steps.proofs.doing.by_word.Reads as reads
-use Rattle.steps.proofs.doing.by_word.Lts as lts
-use Rattle.control.proofs.choose.Reads as choose-reads
-use Rattle.dialogue.proofs.line_input.Reads as line-input-reads
-use Rattle.control.proofs.come_back.Reads as come-back-reads
-use Rattle.dialogue.proofs.print.Reads as print-reads
-use Rattle.steps.proofs.doing.call.Reads as call-reads
-use Rattle.steps.proofs.doing.count.Reads as count-reads
-use Rattle.steps.proofs.doing.jump.Reads as jump-reads
-use Rattle.steps.proofs.doing.next_loop.Reads as next-loop-reads
-use Rattle.steps.proofs.doing.set.Reads as set-reads
-use Rattle.turns.proofs.goes_on.Reads as goes-on-reads
-use Rattle.turns.proofs.turned_to.Reads as turned-to-reads
-use Rattle.scanner.proofs.token_at.Reads as token-at-reads
 
 token-at-requires : tie.Need-token-at-requires
 token-at-requires c κs = search needs

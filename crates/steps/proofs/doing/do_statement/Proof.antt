@@ -4,14 +4,6 @@ use Rattle.steps.proofs.Dispatching.{token-begins, token-does, print-do
 use borrow.Author.Needs.{needs}
 use Rattle.steps.proofs.doing.do_statement.Statement.{statement}
 use Rattle.steps.proofs.doing.do_statement.Tie as tie
-use Rattle.steps.proofs.doing.do_statement.Reads as reads
-use Rattle.steps.proofs.doing.do_statement.Lts as lts
-use Rattle.dialogue.proofs.print.Reads as print-reads
-use Rattle.steps.proofs.doing.by_word.Reads as by-word-reads
-use Rattle.steps.proofs.doing.jump.Reads as jump-reads
-use Rattle.steps.proofs.doing.set.Reads as set-reads
-use Rattle.turns.proofs.goes_on.Reads as goes-on-reads
-use Rattle.scanner.proofs.token_at.Reads as token-at-reads
 
 token-at-requires : tie.Need-token-at-requires
 token-at-requires c κs = search needs

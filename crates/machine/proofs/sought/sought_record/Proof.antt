@@ -1,12 +1,8 @@
 use mathlib.Core.Path.{refl}
-use Rattle.steps.proofs.Seeking.{token-seeks, for-seeks, next-seeks, word-seeks, no-word-seeks}
+use Rattle.machine.proofs.Seeking.{token-seeks, for-seeks, next-seeks, word-seeks, no-word-seeks}
 use borrow.Author.Needs.{needs}
-use Rattle.steps.proofs.doing.sought_record.Statement.{statement}
-use Rattle.steps.proofs.doing.sought_record.Tie as tie
-use Rattle.steps.proofs.doing.sought_record.Reads as reads
-use Rattle.steps.proofs.doing.sought_record.Lts as lts
-use Rattle.steps.proofs.doing.named_loop.Reads as named-loop-reads
-use Rattle.scanner.proofs.token_at.Reads as token-at-reads
+use Rattle.machine.proofs.sought.sought_record.Statement.{statement}
+use Rattle.machine.proofs.sought.sought_record.Tie as tie
 
 token-at-requires : tie.Need-token-at-requires
 token-at-requires c κs = search needs

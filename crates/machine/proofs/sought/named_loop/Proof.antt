@@ -1,10 +1,7 @@
-use Rattle.turns.proofs.Tokens.{no-name}
+use Rattle.machine.proofs.Tokens.{no-name}
 use borrow.Author.Needs.{needs}
-use Rattle.steps.proofs.doing.named_loop.Statement.{statement}
-use Rattle.steps.proofs.doing.named_loop.Tie as tie
-use Rattle.steps.proofs.doing.named_loop.Reads as reads
-use Rattle.steps.proofs.doing.named_loop.Lts as lts
-use Rattle.words.proofs.telling_of.Reads as telling-of-reads
+use Rattle.machine.proofs.sought.named_loop.Statement.{statement}
+use Rattle.machine.proofs.sought.named_loop.Tie as tie
 
 enum-known-token : tie.Need-enum-known-token
 enum-known-token c = search needs

@@ -1,17 +1,12 @@
 -- A name, the equals sign, and the formula from its first token on.
 use Rattle.grammar.specs.Formulas.{after}
 use Rattle.statements.specs.Statements.{variableOf}
-use Rattle.turns.proofs.Tokens.{no-name}
-use Rattle.steps.proofs.Beginning.{assign-formed}
-use Rattle.steps.proofs.Dispatching.{set-does}
+use Rattle.machine.proofs.Tokens.{no-name}
+use Rattle.turns.proofs.Beginning.{assign-formed}
+use Rattle.turns.proofs.Doing.{set-does}
 use borrow.Author.Needs.{needs}
-use Rattle.steps.proofs.doing.set.Statement.{statement}
-use Rattle.steps.proofs.doing.set.Tie as tie
-use Rattle.steps.proofs.doing.set.Reads as reads
-use Rattle.steps.proofs.doing.set.Lts as lts
-use Rattle.turns.proofs.assign.Reads as assign-reads
-use Rattle.turns.proofs.fails.Reads as fails-reads
-use Rattle.scanner.proofs.token_at.Reads as token-at-reads
+use Rattle.turns.proofs.setting.set.Statement.{statement}
+use Rattle.turns.proofs.setting.set.Tie as tie
 
 token-at-requires : tie.Need-token-at-requires
 token-at-requires c κs = search needs

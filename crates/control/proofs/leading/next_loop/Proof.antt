@@ -1,16 +1,11 @@
 use Rattle.statements.specs.Statements.{variableOf}
-use Rattle.steps.proofs.Dispatching.{next-text, next-whole}
-use Rattle.turns.proofs.Tokens.{no-name}
+use Rattle.control.proofs.Led.{next-text, next-whole}
+use Rattle.machine.proofs.Tokens.{no-name}
 use Rattle.machine.specs.declared.records.Sought.the-variants.{Loop, LoopOf}
 use mathlib.Core.Path.{refl}
 use borrow.Author.Needs.{needs}
-use Rattle.steps.proofs.doing.next_loop.Statement.{statement}
-use Rattle.steps.proofs.doing.next_loop.Tie as tie
-use Rattle.steps.proofs.doing.next_loop.Reads as reads
-use Rattle.steps.proofs.doing.next_loop.Lts as lts
-use Rattle.control.proofs.next_turn.Reads as next-turn-reads
-use Rattle.turns.proofs.fails.Reads as fails-reads
-use Rattle.scanner.proofs.token_at.Reads as token-at-reads
+use Rattle.control.proofs.leading.next_loop.Statement.{statement}
+use Rattle.control.proofs.leading.next_loop.Tie as tie
 
 enum-known-token : tie.Need-enum-known-token
 enum-known-token c = search needs

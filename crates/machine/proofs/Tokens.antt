@@ -1,4 +1,4 @@
--- A token by its tag: a name, or none.
+-- A token and a word by its tag: a name, or none.
 use mathlib.Core.Path.{_≡_, refl}
 use mathlib.Core.List.{List, [], _∷_}
 use Prim.Native.Nat.{ℕ}
@@ -20,10 +20,14 @@ use Rattle.words.specs.declared.symbols.Token.the-variants.{
   Symbol,
   Unreadable,
 }
+use Rattle.words.specs.declared.symbols.Word.{Word}
 use Rattle.grammar.specs.Tests.{onName}
 
 abbrev pub tokenTag : Token → ℕ
 tokenTag t = tagOf Rattle.words.proofs.symbols.Token.the-type t
+
+abbrev pub wordTag : Word → ℕ
+wordTag w = tagOf Rattle.words.proofs.symbols.Word.the-type w
 
 -- what holds of every name, and of what is none
 pub by-named : (P : Token → Type 0) → ((v : Name) → P (Named v))

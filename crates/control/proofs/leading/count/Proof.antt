@@ -1,14 +1,9 @@
-use Rattle.turns.proofs.Tokens.{no-name}
-use Rattle.steps.proofs.Beginning.{for-counts}
-use Rattle.steps.proofs.Dispatching.{loop-does}
+use Rattle.machine.proofs.Tokens.{no-name}
+use Rattle.control.proofs.Led.{for-counts}
+use Rattle.control.proofs.Led.{loop-does}
 use borrow.Author.Needs.{needs}
-use Rattle.steps.proofs.doing.count.Statement.{statement}
-use Rattle.steps.proofs.doing.count.Tie as tie
-use Rattle.steps.proofs.doing.count.Reads as reads
-use Rattle.steps.proofs.doing.count.Lts as lts
-use Rattle.control.proofs.for_loop.Reads as for-loop-reads
-use Rattle.turns.proofs.fails.Reads as fails-reads
-use Rattle.scanner.proofs.token_at.Reads as token-at-reads
+use Rattle.control.proofs.leading.count.Statement.{statement}
+use Rattle.control.proofs.leading.count.Tie as tie
 
 token-at-requires : tie.Need-token-at-requires
 token-at-requires c κs = search needs

@@ -57,14 +57,12 @@ use Rattle.statements.specs.Statements.{Begun, bad, done, variableOf, forAt, by
 use Rattle.statements.specs.Answers.{partOf}
 use Rattle.statements.proofs.Findings.{by-name, by-line}
 use Rattle.statements.proofs.Views.{Final, plain, thens, elses, more-view, final-view}
 use Rattle.machine.specs.declared.records.Sought.{Sought}
 use Rattle.machine.specs.declared.records.Sought.the-variants as sought
-use Rattle.turns.specs.Steps.{headOf}
-use Rattle.turns.specs.Turns.{soughtBy}
-use Rattle.steps.specs.Doing.{Seeks, loopAt, nextAt, soughtLoop}
-use Rattle.turns.proofs.Tokens.{tokenTag, by-named}
-use Rattle.steps.proofs.Beginning.{wordTag, if-so, by-assign, by-items, by-condition, by-for, by-input}
-use Rattle.steps.proofs.Dispatching.{begun-token}
+use Rattle.machine.specs.Machine.{headOf}
+use Rattle.machine.specs.Seeking.{soughtBy, Seeks, soughtLoop}
+use Rattle.machine.proofs.Beginning.{if-so, by-assign, by-items, by-condition, by-for, by-input, begun-token}
+use Rattle.machine.proofs.Tokens.{tokenTag, wordTag, by-named}
 
 -- ---- the statement that begins a part
 
@@ -93,7 +91,7 @@ module _ (s : List ℕ) (t : Scanned) where
   abbrev counted : Name → Begun
   counted v = forAt s (variableOf s v) (after s t)
 
-  pub for-seeks : Seeks (soughtLoop s t) (loopAt s t)
+  pub for-seeks : Seeks (soughtLoop s t) (onName (t .token) counted bad)
   for-seeks =
       by-named (λ x. Seeks (onName x loopOf sought.Loop) (onName x counted bad))
       (λ v. by-for (Seeks (loopOf v)) tt s (after s t) (variableOf s v) (λ a b c u e. refl))
@@ -103,7 +101,7 @@ module _ (s : List ℕ) (t : Scanned) where
   abbrev turned : Name → Begun
   turned v = done (nextOf (variableOf s v)) (after s t)
 
-  pub next-seeks : Seeks (soughtLoop s t) (nextAt s t)
+  pub next-seeks : Seeks (soughtLoop s t) (onName (t .token) turned (done next t))
   next-seeks =
       by-named (λ x. Seeks (onName x loopOf sought.Loop) (onName x turned (done next t)))
       (λ v. refl)

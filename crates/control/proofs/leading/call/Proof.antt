@@ -1,15 +1,9 @@
-use Rattle.steps.proofs.Beginning.{no-line}
-use Rattle.steps.proofs.Dispatching.{call-does}
+use Rattle.turns.proofs.Beginning.{no-line}
+use Rattle.control.proofs.Led.{call-does}
 use mathlib.Core.Path.{sym, _∙_}
 use borrow.Author.Needs.{needs}
-use Rattle.steps.proofs.doing.call.Statement.{statement}
-use Rattle.steps.proofs.doing.call.Tie as tie
-use Rattle.steps.proofs.doing.call.Reads as reads
-use Rattle.steps.proofs.doing.call.Lts as lts
-use Rattle.grammar.proofs.line_of.Reads as line-of-reads
-use Rattle.control.proofs.gosub.Reads as gosub-reads
-use Rattle.turns.proofs.fails.Reads as fails-reads
-use Rattle.scanner.proofs.token_at.Reads as token-at-reads
+use Rattle.control.proofs.leading.call.Statement.{statement}
+use Rattle.control.proofs.leading.call.Tie as tie
 
 line-of-requires : tie.Need-line-of-requires
 line-of-requires c κs = search needs

@@ -1,14 +1,9 @@
-use Rattle.steps.proofs.Beginning.{no-line}
-use Rattle.steps.proofs.Dispatching.{jump-does}
+use Rattle.turns.proofs.Beginning.{no-line}
+use Rattle.control.proofs.Led.{jump-does}
 use mathlib.Core.Path.{sym, _∙_}
 use borrow.Author.Needs.{needs}
-use Rattle.steps.proofs.doing.jump.Statement.{statement}
-use Rattle.steps.proofs.doing.jump.Tie as tie
-use Rattle.steps.proofs.doing.jump.Reads as reads
-use Rattle.steps.proofs.doing.jump.Lts as lts
-use Rattle.grammar.proofs.line_of.Reads as line-of-reads
-use Rattle.control.proofs.goto.Reads as goto-reads
-use Rattle.turns.proofs.fails.Reads as fails-reads
+use Rattle.control.proofs.leading.jump.Statement.{statement}
+use Rattle.control.proofs.leading.jump.Tie as tie
 
 line-of-requires : tie.Need-line-of-requires
 line-of-requires c κs = search needs

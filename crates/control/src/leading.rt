@@ -1,0 +1,101 @@
+// GOTO, GOSUB, FOR and NEXT, from the token after the word on.
+ghost use mathlib.Core.List.{List};
+ghost use Prim.Native.Nat.{ℕ, _≤_};
+ghost use lib.ListN.{length};
+ghost use Rattle.machine.specs.Holding.{Settled, Sound};
+ghost use Rattle.turns.specs.Turns.{FoundBelow};
+ghost use Rattle.turns.specs.Doing.{Begins, Does, loopAt, nextAt, jumpAt, callAt};
+use crate::jumping::gosub;
+use crate::jumping::goto;
+use crate::looping::for_loop;
+use crate::looping::next_turn;
+use grammar::NamedLine;
+use grammar::line_of;
+use machine::Found;
+use machine::Machine;
+use machine::Record;
+use machine::Turned;
+use scanner::token_at;
+use turns::fails;
+use whole::Error;
+use words::Kind;
+use words::Place;
+use words::Scanned;
+use words::Token;
+
+// A name, the equals sign and what is counted through.
+pub fn count(
+    line: &[u8],
+    here: Place,
+    target: Scanned,
+    machine: Machine,
+    found: Found,
+    space: &mut [u8],
+) -> Turned
+    requires { ⌜ Begins (loopAt (now line) target) × ((length (now line) ≤ 255) × (Settled machine (now space) × FoundBelow (machine .depth) found)) ⌝ }
+    ensures { λ r. ⌜
+        ((text input room : List ℕ) (entry : Record) → Sound machine input (now (space .entry)) room
+        → Does text (now (line .entry)) here machine found entry input (now (space .entry)) room r (now (space .exit)) room (loopAt (now (line .entry)) target))
+        ⌝ }
+{
+    let token = target.token;
+    let equals = token_at(line, target.next);
+    match token {
+        Token::Named(name) => for_loop(line, here, name, equals, machine, found, space),
+        _ => fails(machine, Error::Syntax),
+    }
+}
+
+// A string name is 13, tested first.
+pub fn next_loop(
+    line: &[u8],
+    here: Place,
+    target: Scanned,
+    machine: Machine,
+    found: Found,
+    entry: Record,
+) -> Turned
+    requires { ⌜ FoundBelow (machine .depth) found ⌝ }
+    ensures { λ r. ⌜
+        ((text input space room : List ℕ) → Sound machine input space room
+        → Does text (now (line .entry)) here machine found entry input space room r space room (nextAt (now (line .entry)) target))
+        ⌝ }
+{
+    let token = target.token;
+    match token {
+        Token::Named(name) => {
+            let kind = name.kind;
+            match kind {
+                Kind::Text => fails(machine, Error::TypeMismatch),
+                Kind::Whole => next_turn(here, token_at(line, target.next), machine, found, entry),
+            }
+        }
+        _ => next_turn(here, target, machine, found, entry),
+    }
+}
+
+pub fn jump(text: &[u8], target: Scanned, machine: Machine) -> Turned
+    ensures { λ r. ⌜
+        ((line input space room : List ℕ) (here : Place) (found : Found) (entry : Record) → Sound machine input space room
+        → Does (now (text .entry)) line here machine found entry input space room r space room (jumpAt line target))
+        ⌝ }
+{
+    let token = target.token;
+    match line_of(token) {
+        NamedLine::NoLine => fails(machine, Error::Syntax),
+        NamedLine::Names(number) => goto(text, number, machine),
+    }
+}
+
+pub fn call(text: &[u8], line: &[u8], here: Place, target: Scanned, machine: Machine) -> Turned
+    ensures { λ r. ⌜
+        ((input space room : List ℕ) (found : Found) (entry : Record) → Sound machine input space room
+        → Does (now (text .entry)) (now (line .entry)) here machine found entry input space room r space room (callAt (now (line .entry)) target))
+        ⌝ }
+{
+    let token = target.token;
+    match line_of(token) {
+        NamedLine::NoLine => fails(machine, Error::Syntax),
+        NamedLine::Names(number) => gosub(text, number, here, token_at(line, target.next), machine),
+    }
+}

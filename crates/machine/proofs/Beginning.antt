@@ -1,0 +1,89 @@
+-- How a statement that reads begins, as what holds of each way that it can: a formula, the items of a PRINT, a FOR, a LINE INPUT.
+use mathlib.Core.Path.{_≡_, refl, ap}
+use mathlib.Core.Bool.{Bool, true, false}
+use mathlib.Core.List.{List, []}
+use Prim.Native.Nat.{ℕ}
+use Rattle.words.specs.declared.places.Place.{Place}
+use Rattle.words.specs.declared.symbols.Scanned.{Scanned}
+use Rattle.words.specs.declared.symbols.Token.{Token}
+use Rattle.words.specs.declared.symbols.Sign.the-variants.{Semicolon, Equal}
+use Rattle.words.specs.declared.symbols.Word.the-variants.{Then, Goto, To, Step}
+use Rattle.words.proofs.Choices.{by-test}
+use Rattle.scanner.specs.Tokens.{tokenAt}
+use Rattle.grammar.specs.Tests.{choose, isSymbol, isKeyword}
+use Rattle.grammar.specs.Trees.{Formula, number, Variable, Item, assign, print, for, lineInput}
+use Rattle.grammar.specs.Formulas as formulas
+use Rattle.grammar.specs.Formulas.{Reading, good, after, enough, formulaOf}
+use Rattle.statements.specs.Statements.{Begun, bad, done, choice, onFormula, variableOf, assignAt, Items, noItems, items, itemsAt, printed, printAt, ifAt, forAt, targetAt, inputAt, byToken, begunAt}
+use Rattle.statements.specs.Answers.{itemsOf}
+use Rattle.statements.proofs.Findings.{by-name, by-line, by-text}
+
+-- ---- what holds of each way, and where nothing reads, holds
+
+module _ (P : Begun → Type 0) (none : P bad) where
+  pub if-so : (test : Bool) (go : Unit {0} → Begun) → P (go tt) → P (choose test go (λ _. bad))
+  if-so true go h = h
+  if-so false go h = none
+
+  if-formula : (x : Reading) (go : Formula → Scanned → Begun) → ((f : Formula) (u : Scanned) → x ≡ good f u → P (go f u)) → P (onFormula x go)
+  if-formula formulas.bad go h = none
+  if-formula (formulas.good f u) go h = h f u refl
+
+  module _ (s : List ℕ) (t : Scanned) where
+    pub by-assign : (v : Variable) → ((f : Formula) (u : Scanned) → formulaOf s (after s t) ≡ good f u → P (done (assign v f) u))
+        → P (assignAt s v t)
+    by-assign v h = if-so (isSymbol Equal (t .token)) _ (if-formula (formulaOf s (after s t)) _ h)
+
+    pub by-items : ((is : List Item) (u : Scanned) → itemsOf s t ≡ items is u → P (done (print is) u)) → P (printAt s t)
+    unfolding printAt itemsOf
+    by-items h = go (itemsAt (enough s) s t) refl
+      where
+        go : (x : Items) → itemsAt (enough s) s t ≡ x → P (printed x)
+        go noItems e = none
+        go (items is u) e = h is u e
+
+    pub by-condition : ((c : Formula) (u : Scanned) → formulaOf s t ≡ good c u → P (choice c u)) → P (ifAt s (formulaOf s t))
+    by-condition h = go (formulaOf s t) refl
+      where
+        go : (x : Reading) → formulaOf s t ≡ x → P (ifAt s x)
+        go formulas.bad e = none
+        go (formulas.good c u) e =
+            by-test (isKeyword Then (u .token)) (λ f. rw f (h c u e)) λ f. rw f
+            (if-so (isKeyword Goto (u .token)) _ (by-line P (after s u .token) _ _ (λ l n r. h c u e) (λ n. none)))
+
+    for-done : (v : Variable) → ((a b c : Formula) (u : Scanned) → P (done (for v a b c) u)) → P (forAt s v t)
+    unfolding forAt
+    for-done v h =
+        if-so (isSymbol Equal (t .token)) _
+        (if-formula (formulaOf s (after s t)) _ λ a x i.
+        if-so (isKeyword To (x .token)) _
+        (if-formula (formulaOf s (after s x)) _ λ b y j.
+        by-test (isKeyword Step (y .token))
+        (λ f. rw f (if-formula (formulaOf s (after s y)) _ (λ c u k. h a b c u)))
+        (λ f. rw f (h a b (number 1) y))))
+
+    target-done : (text : List ℕ) (w : Scanned) → ((v : Variable) (u : Scanned) → P (done (lineInput text v) u)) → P (targetAt s text w)
+    target-done text w h = by-name P (w .token) _ _ (λ v f n. h (variableOf s v) (after s w)) (λ f. none)
+
+    input-done : ((text : List ℕ) (v : Variable) (u : Scanned) → P (done (lineInput text v) u)) → P (inputAt s t)
+    unfolding inputAt
+    input-done h =
+        by-text P (t .token) _ _
+        (λ q f n. if-so (isSymbol Semicolon (after s t .token)) _ (target-done _ (after s (after s t)) (h _)))
+        (λ f. target-done [] t (h []))
+
+-- the same, with what it is
+module _ (P : Begun → Type 0) (none : P bad) (s : List ℕ) (t : Scanned) where
+  pub by-for : (v : Variable) → ((a b c : Formula) (u : Scanned) → forAt s v t ≡ done (for v a b c) u → P (done (for v a b c) u))
+      → P (forAt s v t)
+  by-for v h = for-done (λ b. forAt s v t ≡ b → P b) (λ e. none) s t v h refl
+
+  pub by-input : ((text : List ℕ) (v : Variable) (u : Scanned) → inputAt s t ≡ done (lineInput text v) u → P (done (lineInput text v) u))
+      → P (inputAt s t)
+  by-input h = input-done (λ b. inputAt s t ≡ b → P b) (λ e. none) s t h refl
+
+-- by its first token
+pub begun-token : (line : List ℕ) (at : Place) {t : Scanned} {x : Token} → t ≡ tokenAt line at → t .token ≡ x
+    → begunAt line true (at .0) ≡ byToken line true x t
+unfolding begunAt
+begun-token line at {t} e w = rw (← e) (ap (λ x. byToken line true x t) w)
