@@ -1,10 +1,12 @@
 -- A statement that reads has what the code that does it asks for.
-use mathlib.Core.Path.{refl}
+use mathlib.Core.Path.{_≡_, refl}
 use mathlib.Core.List.{List}
 use Prim.Native.Nat.{ℕ, _≤_}
 use lib.ListN.{length}
+use Rattle.words.specs.declared.places.Place.{Place}
 use Rattle.words.specs.declared.symbols.Scanned.{Scanned}
 use Rattle.words.specs.declared.symbols.Word.the-variants.{Input}
+use Rattle.scanner.specs.Tokens.{tokenAt}
 use Rattle.grammar.specs.Tests.{isKeyword}
 use Rattle.grammar.specs.Formulas.{after, formulaOf}
 use Rattle.statements.specs.Statements.{printAt, ifAt}
@@ -15,22 +17,23 @@ use Rattle.dialogue.specs.Showing.{Itemed}
 use Rattle.dialogue.specs.Asking.{Asks}
 use Rattle.steps.specs.Doing.{lineAt}
 
-module _ (s : List ℕ) (short : length s ≤ 255) (w : Scanned) where
-  abbrev t : Scanned
-  t = after s w
-
+module _ (s : List ℕ) (short : length s ≤ 255) (q : Place) {t : Scanned} (scanned : t ≡ tokenAt s q) where
   pub print-itemed : Begins (printAt s t) → Itemed s t
   print-itemed =
       by-items (λ b. Begins b → Itemed s t) (λ x. absurd x) s t
-      (λ is u e h. record { short = short; scans = record { from = w .next; is = refl }; all = is; end = u; reads = e; ends = h })
+      (λ is u e h. record { short = short; scans = record { from = q; is = scanned }; all = is; end = u; reads = e; ends = h })
 
   pub if-formed : Begins (ifAt s (formulaOf s t)) → Formed s t
   if-formed =
       by-condition (λ b. Begins b → Formed s t) (λ x. absurd x) s t
-      (λ c u e _. record { short = short; scans = record { from = w .next; is = refl }; reads = record { of = c; next = u; is = e } })
+      (λ c u e _. record { short = short; scans = record { from = q; is = scanned }; reads = record { of = c; next = u; is = e } })
 
-  pub input-asks : Begins (lineAt s w) → Asks s t
+module _ (s : List ℕ) (short : length s ≤ 255) (w : Scanned) where
+  abbrev after-input : Scanned
+  after-input = after s w
+
+  pub input-asks : Begins (lineAt s w) → Asks s after-input
   input-asks =
-      if-so (λ b. Begins b → Asks s t) (λ x. absurd x) (isKeyword Input (w .token)) _
-      (by-input (λ b. Begins b → Asks s t) (λ x. absurd x) s t
+      if-so (λ b. Begins b → Asks s after-input) (λ x. absurd x) (isKeyword Input (w .token)) _
+      (by-input (λ b. Begins b → Asks s after-input) (λ x. absurd x) s after-input
       λ text v u e _. record { short = short; scans = record { from = w .next; is = refl }; prompt = text; target = v; end = u; is = e })

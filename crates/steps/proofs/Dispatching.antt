@@ -1,15 +1,13 @@
 -- What a part's first statement does, by how it begins.
-use mathlib.Core.Path.{_≡_, refl, sym, _∙_}
+use mathlib.Core.Path.{_≡_, refl, sym, subst, _∙_}
 use mathlib.Core.Bool.{Bool, true, false, false≢true}
 use mathlib.Core.List.{List, _∷_, []}
 use Prim.Native.Nat.{ℕ}
 use native.Mathlib.Omega.{arith}
-use denote.Enum.Declared.{tagOf}
 use types.Run.{OneOf, miss}
 use Rattle.words.specs.declared.places.Place.{Place}
 use Rattle.words.specs.declared.symbols.Scanned.{Scanned}
-use Rattle.words.specs.declared.symbols.Sign.{Sign}
-use Rattle.words.specs.declared.symbols.Sign.the-variants.{Open, Close, Comma, Semicolon, Colon, Question, Equal, Minus}
+use Rattle.words.specs.declared.symbols.Sign.the-variants.{Colon}
 use Rattle.words.specs.declared.symbols.Token.{Token}
 use Rattle.words.specs.declared.symbols.Token.the-variants.{
   EndOfLine,
@@ -51,12 +49,11 @@ use Rattle.words.specs.declared.symbols.Word.the-variants.{
   Restore,
 }
 use Rattle.words.proofs.Choices.{by-test}
-use Rattle.scanner.specs.Tokens.{tokenAt}
 use Rattle.grammar.specs.Tests.{isSymbol, isKeyword, endsStatement}
 use Rattle.grammar.specs.Trees as tree
 use Rattle.grammar.specs.Trees.{Part, last, more}
 use Rattle.grammar.specs.Formulas.{good, after, formulaOf}
-use Rattle.statements.specs.Statements.{Begun, bad, done, choice, items, printAt, ifAt, inputAt, byWord, byMark, byToken, begunAt, PartReading, goodPart}
+use Rattle.statements.specs.Statements.{Begun, bad, done, choice, items, printAt, ifAt, inputAt, begunAt, PartReading, goodPart}
 use Rattle.statements.specs.Answers.{itemsOf, partOf}
 use Rattle.statements.proofs.Parts.{partBy, unrolled}
 use Rattle.statements.proofs.Views.{Final, plain, thens, elses, more-view, final-view}
@@ -73,10 +70,11 @@ use Rattle.machine.proofs.Standing.{true-part}
 use Rattle.turns.specs.Steps.{doStatement}
 use Rattle.turns.specs.Turns.{turnedTo, afterOf, Turns, anyRecords, Told, Standing}
 use Rattle.turns.specs.Doing.{Begins, Does}
-use Rattle.machine.proofs.Beginning.{if-so, by-items, by-condition, by-input, begun-token}
+use Rattle.machine.proofs.Beginning.{if-so, by-items, by-condition, by-input}
 use Rattle.turns.proofs.Doing.{any-told, goes-turn}
-use Rattle.machine.proofs.Tokens.{tokenTag, wordTag}
-use Rattle.steps.specs.Doing.{lineAt}
+use Rattle.machine.proofs.Tokens.{wordTag}
+use Rattle.steps.specs.Doing.{lineAt, ledBy, ReadsAs, LeadAs}
+use Rattle.steps.specs.declared.leading.Lead.{Lead}
 
 -- ---- what is left of a part after its first statement, which a token ends
 
@@ -133,10 +131,14 @@ part-begins : {line : List ℕ} {at : ℕ} → Parted line at → Begins (begunA
 part-begins {line} {at} p =
     begins-by at (partOf line) (begunAt line true at) (sym (unrolled line true at) ∙ p .is)
 
--- by its first token
-pub token-begins : {line : List ℕ} (at : Place) {t : Scanned} {x : Token} → t ≡ tokenAt line at → t .token ≡ x → Parted line (at .0)
-    → Begins (byToken line true x t)
-token-begins {line} at e w p = rw (begun-token line at e w) at (part-begins p)
+-- and so does what it is led by
+pub lead-begins : {line : List ℕ} {at : ℕ} {l : Lead} → LeadAs line at l → Parted line at → Begins (ledBy line (l .word) (l .from))
+lead-begins {line} {at} l p = go (begunAt line true at) _ (l .reads) (part-begins p)
+  where
+    go : (b b′ : Begun) → ReadsAs b b′ → Begins b → Begins b′
+    go bad b′ e h = absurd h
+    go (done x u) b′ e h = subst Begins e h
+    go (choice c u) b′ e h = subst Begins e h
 
 module _ (text line : List ℕ) (here : Place) (m : Machine) (found : Found) (entry : Record) (input space room : List ℕ) (r : Turned)
     (space′ room′ : List ℕ) where
@@ -166,10 +168,15 @@ module _ (text line : List ℕ) (here : Place) (m : Machine) (found : Found) (en
       let a = after-colon st (f .end) (f .colon) (f .goes) in
       rw (a .is) at ((rw (f .begun) at d) (a .placed))
 
+  reads-does : (b b′ : Begun) → ReadsAs b b′ → D b′ → D b
+  reads-does bad b′ e d = tt
+  reads-does (done x u) b′ e d = subst D (sym e) d
+  reads-does (choice c u) b′ e d = subst D (sym e) d
+
   -- what its first statement does is what the definition does of it
-  pub token-does : Standing text line here → (at : Place) {t : Scanned} {x : Token} → t ≡ tokenAt line at → t .token ≡ x → D (byToken line true x t)
+  pub lead-does : Standing text line here → (at : Place) {l : Lead} → LeadAs line (at .0) l → D (ledBy line (l .word) (l .from))
       → (p : Part) (end : Scanned) → partOf line true (at .0) ≡ goodPart p end → TurnsAs p
-  token-does st at e w d p end i = part-does st (at .0) p end i (rw (begun-token line at e w) d)
+  lead-does st at l d p end i = part-does st (at .0) p end i (reads-does (begunAt line true (at .0)) _ (l .reads) d)
 
   pub print-does : (t : Scanned)
       → ((is : List tree.Item) (u : Scanned) → Positioned text (afterOf here u) → itemsOf line t ≡ items is u
@@ -195,83 +202,34 @@ module _ (text line : List ℕ) (here : Place) (m : Machine) (found : Found) (en
       → D (lineAt line t)
   input-does t h = if-so D tt (isKeyword Input (t .token)) _ (by-input D tt line (after line t) (λ prompt v u e p. any-told (h prompt v u p e)))
 
--- ---- words, signs and tokens that begin an empty statement, or none
-
-abbrev signTag : Sign → ℕ
-signTag x = tagOf Rattle.words.proofs.symbols.Sign.the-type x
+-- ---- words that lead an empty statement or a remark, or none
 
 abbrev otherWords : List ℕ
-otherWords = 3 ∷ 4 ∷ 9 ∷ 10 ∷ 13 ∷ 17 ∷ 18 ∷ 19 ∷ 20 ∷ 21 ∷ []
-
-abbrev otherSigns : List ℕ
-otherSigns = 0 ∷ 1 ∷ 2 ∷ 3 ∷ 4 ∷ 6 ∷ 7 ∷ []
-
-abbrev otherTokens : List ℕ
-otherTokens = 0 ∷ 2 ∷ 3 ∷ 4 ∷ 7 ∷ 9 ∷ 11 ∷ []
-
-module _ (P : Begun → Type 0) (none : P bad) (s : List ℕ) (t : Scanned) (empty : P (done tree.empty t)) where
-  by-other-word : (w : Word) → OneOf otherWords (wordTag w) → P (byWord s w t)
-  by-other-word Let h = absurd (miss otherWords 0 tt h)
-  by-other-word Print h = absurd (miss otherWords 1 tt h)
-  by-other-word If h = absurd (miss otherWords 2 tt h)
-  by-other-word Then h = none
-  by-other-word Else h = empty
-  by-other-word Goto h = absurd (miss otherWords 5 tt h)
-  by-other-word Gosub h = absurd (miss otherWords 6 tt h)
-  by-other-word Return h = absurd (miss otherWords 7 tt h)
-  by-other-word For h = absurd (miss otherWords 8 tt h)
-  by-other-word To h = none
-  by-other-word Step h = none
-  by-other-word Next h = absurd (miss otherWords 11 tt h)
-  by-other-word Line h = absurd (miss otherWords 12 tt h)
-  by-other-word Input h = none
-  by-other-word End h = absurd (miss otherWords 14 tt h)
-  by-other-word Stop h = absurd (miss otherWords 15 tt h)
-  by-other-word Rem h = absurd (miss otherWords 16 tt h)
-  by-other-word While h = none
-  by-other-word Wend h = none
-  by-other-word Data h = none
-  by-other-word Read h = none
-  by-other-word Restore h = none
-
-  by-other-mark : (x : Sign) → OneOf otherSigns (signTag x) → P (byMark s x t)
-  by-other-mark Open h = none
-  by-other-mark Close h = none
-  by-other-mark Comma h = none
-  by-other-mark Semicolon h = none
-  by-other-mark Colon h = empty
-  by-other-mark Question h = absurd (miss otherSigns 5 tt h)
-  by-other-mark Equal h = none
-  by-other-mark Minus h = none
-
-  by-other-token : (x : Token) → OneOf otherTokens (tokenTag x) → P (byToken s true x t)
-  by-other-token EndOfLine h = empty
-  by-other-token (Keyword w) h = absurd (miss otherTokens 1 tt h)
-  by-other-token Not h = none
-  by-other-token (Infix op) h = none
-  by-other-token (Call f) h = none
-  by-other-token (Named v) h = absurd (miss otherTokens 5 tt h)
-  by-other-token (Number n) h = absurd (miss otherTokens 6 tt h)
-  by-other-token (Hexadecimal n) h = none
-  by-other-token (LineOnly l) h = absurd (miss otherTokens 8 tt h)
-  by-other-token (Quoted q) h = none
-  by-other-token (Symbol x) h = absurd (miss otherTokens 10 tt h)
-  by-other-token Unreadable h = none
+otherWords = 3 ∷ 4 ∷ 9 ∷ 10 ∷ 13 ∷ 16 ∷ 17 ∷ 18 ∷ 19 ∷ 20 ∷ 21 ∷ []
 
 module _ (text line : List ℕ) (here : Place) (m : Machine) (found : Found) (entry : Record) (input space room : List ℕ)
     (r : Turned) (sound : Sound m input space room) (t : Scanned) (e : r ≡ turnedTo m (next.On (afterOf here t))) where
-  abbrev G : Begun → Type 0
-  G b = Does text line here m found entry input space room r space room b
-
-  go-on : G (done tree.empty t)
-  go-on p = rw e (goes-turn sound _ here t p)
-
   -- the run goes on there
-  pub other-word-does : (w : Word) → OneOf otherWords (wordTag w) → G (byWord line w t)
-  other-word-does = by-other-word G tt line t go-on
-
-  pub other-mark-does : (x : Sign) → OneOf otherSigns (signTag x) → G (byMark line x t)
-  other-mark-does = by-other-mark G tt line t go-on
-
-  pub other-token-does : (x : Token) → OneOf otherTokens (tokenTag x) → G (byToken line true x t)
-  other-token-does = by-other-token G tt line t go-on
+  pub other-does : (w : Word) → OneOf otherWords (wordTag w) → Does text line here m found entry input space room r space room (ledBy line w t)
+  other-does Let h = absurd (miss otherWords 0 tt h)
+  other-does Print h = absurd (miss otherWords 1 tt h)
+  other-does If h = absurd (miss otherWords 2 tt h)
+  other-does Then h = tt
+  other-does Else h = λ p. rw e (goes-turn sound _ here t p)
+  other-does Goto h = absurd (miss otherWords 5 tt h)
+  other-does Gosub h = absurd (miss otherWords 6 tt h)
+  other-does Return h = absurd (miss otherWords 7 tt h)
+  other-does For h = absurd (miss otherWords 8 tt h)
+  other-does To h = tt
+  other-does Step h = tt
+  other-does Next h = absurd (miss otherWords 11 tt h)
+  other-does Line h = absurd (miss otherWords 12 tt h)
+  other-does Input h = tt
+  other-does End h = absurd (miss otherWords 14 tt h)
+  other-does Stop h = absurd (miss otherWords 15 tt h)
+  other-does Rem h = λ p. rw e (goes-turn sound _ here t p)
+  other-does While h = tt
+  other-does Wend h = tt
+  other-does Data h = tt
+  other-does Read h = tt
+  other-does Restore h = tt

@@ -1,4 +1,5 @@
 // The statement that stands at a place of a line: which it is, and doing it.
 mod doing;
+mod leading;
 
 pub use doing::do_statement;

@@ -1,134 +1,213 @@
-use mathlib.Core.Path.{refl}
-use Rattle.steps.proofs.Beginning.{print-itemed}
-use Rattle.steps.proofs.Dispatching.{token-begins, token-does, print-does, other-mark-does, other-token-does}
+use Rattle.machine.specs.Holding.{positionOf}
+use Rattle.turns.specs.Turns.{afterOf}
+use Rattle.turns.proofs.Doing.{ends-turn, stops-turn}
+use Rattle.steps.proofs.Beginning.{print-itemed, if-formed, input-asks}
+use Rattle.steps.proofs.Dispatching.{lead-begins, lead-does, print-does, if-does, input-does, other-does}
 use borrow.Author.Needs.{needs}
 use Rattle.steps.proofs.doing.do_statement.Statement.{statement}
 use Rattle.steps.proofs.doing.do_statement.Tie as tie
 
-token-at-requires : tie.Need-token-at-requires
-token-at-requires c κs = search needs
-
-enum-known-token : tie.Need-enum-known-token
-enum-known-token c = search needs
-
-by-word-requires : tie.Need-by-word-requires
-by-word-requires c κs = (c .before .before .before .before .before .before .before .before .before .before .before .pre .0, (token-begins (c .before .before .before .before .before .before .before .before .before .before .before .args .at) (c .before .before .before .before .before .token-at .ensures) (c .before .before .before .token .given .1) (c .before .before .before .before .before .before .before .before .before .before .before .pre .1 .0), c .before .before .before .before .before .before .before .before .before .before .before .pre .1 .1))
+lead-at-requires : tie.Need-lead-at-requires
+lead-at-requires c κs = search needs
 
 enum-told : tie.Need-enum-told
 enum-told c = search needs
 
 set-requires : tie.Need-set-requires
-set-requires c κs = (rw (c .before .enum-told .given .1) (token-begins (c .before .before .before .before .before .before .before .before .before .args .at) (c .before .before .before .token-at .ensures) (c .before .enum-told .given .1) (c .before .before .before .before .before .before .before .before .before .pre .1 .0)), (c .before .before .before .before .before .before .before .before .before .pre .0 .short, c .before .before .before .before .before .before .before .before .before .pre .1 .1 .0 .settled))
-
-enum-known-token-2 : tie.Need-enum-known-token-2
-enum-known-token-2 c = search needs
+set-requires c κs = (rw (c .before .enum-told .given .1) at (lead-begins (c .before .before .before .before .lead-at .ensures) (c .before .before .before .before .before .before .before .before .before .before .pre .1 .0)), (c .before .before .before .before .before .before .before .before .before .before .pre .0 .short, c .before .before .before .before .before .before .before .before .before .before .pre .1 .1 .0 .settled))
 
 enum-told-2 : tie.Need-enum-told-2
 enum-told-2 c = search needs
 
-token-at-requires-2 : tie.Need-token-at-requires-2
-token-at-requires-2 c κs = search needs
-
 print-requires : tie.Need-print-requires
-print-requires c κs =
-    let b = token-begins (c .before .before .before .before .before .before .before .before .before .before .before .before .before .before .args .at) (c .before .before .before .before .before .before .before .before .token-at .ensures) (c .before .before .before .before .before .before .token2 .given .1) (c .before .before .before .before .before .before .before .before .before .before .before .before .before .before .pre .1 .0) in
-    (rw (c .before .before .token-at2 .ensures) (print-itemed (c .before .before .before .before .before .before .before .before .before .before .before .before .before .before .args .line .now) (c .before .before .before .before .before .before .before .before .before .before .before .before .before .before .pre .0 .short) (c .before .before .before .before .before .before .before .before .token-at .result) (rw (c .before .before .before .enum-told2 .given .1) at b)), (c .before .before .before .before .before .before .before .before .before .before .before .before .before .before .pre .1 .1 .0 .settled, c .before .before .before .before .before .before .before .before .before .before .before .before .before .before .pre .1 .1 .0 .fitting))
-
-goes-on-requires : tie.Need-goes-on-requires
-goes-on-requires c κs = search needs
+print-requires c κs = (print-itemed (c .before .before .before .before .before .before .before .before .before .before .before .args .line .now) (c .before .before .before .before .before .before .before .before .before .before .before .pre .0 .short) (c .before .before .before .before .before .lead-at .ensures .place) (c .before .before .before .before .before .lead-at .ensures .is) (rw (c .before .before .enum-told2 .given .1) at (lead-begins (c .before .before .before .before .before .lead-at .ensures) (c .before .before .before .before .before .before .before .before .before .before .before .pre .1 .0))), (c .before .before .before .before .before .before .before .before .before .before .before .pre .1 .1 .0 .settled, c .before .before .before .before .before .before .before .before .before .before .before .pre .1 .1 .0 .fitting))
 
 enum-told-3 : tie.Need-enum-told-3
 enum-told-3 c = search needs
 
-jump-requires : tie.Need-jump-requires
-jump-requires c κs = search needs
+choose-requires : tie.Need-choose-requires
+choose-requires c κs = (if-formed (c .before .before .before .before .before .before .before .before .before .before .args .line .now) (c .before .before .before .before .before .before .before .before .before .before .pre .0 .short) (c .before .before .before .before .lead-at .ensures .place) (c .before .before .before .before .lead-at .ensures .is) (rw (c .before .enum-told3 .given .1) at (lead-begins (c .before .before .before .before .lead-at .ensures) (c .before .before .before .before .before .before .before .before .before .before .pre .1 .0))), c .before .before .before .before .before .before .before .before .before .before .pre .1 .1 .0 .settled)
 
 enum-told-4 : tie.Need-enum-told-4
 enum-told-4 c = search needs
 
-jump-requires-2 : tie.Need-jump-requires-2
-jump-requires-2 c κs = search needs
+jump-requires : tie.Need-jump-requires
+jump-requires c κs = search needs
 
-goes-on-requires-2 : tie.Need-goes-on-requires-2
-goes-on-requires-2 c κs = search needs
+enum-told-5 : tie.Need-enum-told-5
+enum-told-5 c = search needs
+
+call-requires : tie.Need-call-requires
+call-requires c κs = search needs
+
+enum-told-6 : tie.Need-enum-told-6
+enum-told-6 c = search needs
+
+come-back-requires : tie.Need-come-back-requires
+come-back-requires c κs = search needs
+
+enum-told-7 : tie.Need-enum-told-7
+enum-told-7 c = search needs
+
+count-requires : tie.Need-count-requires
+count-requires c κs = (rw (c .before .enum-told7 .given .1) at (lead-begins (c .before .before .before .before .lead-at .ensures) (c .before .before .before .before .before .before .before .before .before .before .pre .1 .0)), (c .before .before .before .before .before .before .before .before .before .before .pre .0 .short, (c .before .before .before .before .before .before .before .before .before .before .pre .1 .1 .0 .settled, c .before .before .before .before .before .before .before .before .before .before .pre .1 .1 .1)))
+
+enum-told-8 : tie.Need-enum-told-8
+enum-told-8 c = search needs
+
+next-loop-requires : tie.Need-next-loop-requires
+next-loop-requires c κs = search needs
+
+enum-told-9 : tie.Need-enum-told-9
+enum-told-9 c = search needs
+
+token-at-requires : tie.Need-token-at-requires
+token-at-requires c κs = search needs
+
+line-input-requires : tie.Need-line-input-requires
+line-input-requires c κs = (rw (c .before .before .token-at .ensures) (input-asks (c .before .before .before .before .before .before .before .before .before .before .before .before .args .line .now) (c .before .before .before .before .before .before .before .before .before .before .before .before .pre .0 .short) (c .before .before .before .before .before .before .lead-at .result .from) (rw (c .before .before .before .enum-told9 .given .1) at (lead-begins (c .before .before .before .before .before .before .lead-at .ensures) (c .before .before .before .before .before .before .before .before .before .before .before .before .pre .1 .0)))), c .before .before .before .before .before .before .before .before .before .before .before .before .pre .1 .1 .0)
+
+enum-told-10 : tie.Need-enum-told-10
+enum-told-10 c = search needs
+
+turned-to-requires : tie.Need-turned-to-requires
+turned-to-requires c κs = search needs
+
+enum-told-11 : tie.Need-enum-told-11
+enum-told-11 c = search needs
+
+turned-to-requires-2 : tie.Need-turned-to-requires-2
+turned-to-requires-2 c κs = search needs
+
+goes-on-requires : tie.Need-goes-on-requires
+goes-on-requires c κs = search needs
 
 same-length : tie.Need-same-length
 same-length c = search needs
 
+returns : tie.Need-returns
+returns c =
+    lead-does _ _ _ _ _ _ _ _ _ _ _ _ (c .before .before .before .before .before .before .before .before .before .before .before .before .before .pre .0) (c .before .before .before .before .before .before .before .before .before .before .before .before .before .args .at) (c .before .before .before .before .before .before .before .lead-at .ensures)
+    (rw (c .before .before .before .before .enum-told .given .1) (c .before .before .set .ensures (c .before .before .before .before .before .before .before .before .before .before .before .before .before .args .text .now) (c .before .before .before .before .before .before .before .before .before .before .before .before .before .args .input .now) (c .before .before .before .before .before .before .before .before .before .before .before .before .before .args .room .now) (c .before .before .before .before .before .before .before .before .before .before .before .before .before .args .found) (c .before .before .before .before .before .before .before .before .before .before .before .before .before .args .entry) (c .before .before .before .before .before .before .before .before .before .before .before .before .before .pre .1 .1 .0)))
+
 same-length-2 : tie.Need-same-length-2
 same-length-2 c = search needs
-
-returns : tie.Need-returns
-returns c = token-does _ _ _ _ _ _ _ _ _ _ _ _ (c .before .before .before .before .before .before .before .before .before .before .before .before .before .before .before .before .pre .0) (c .before .before .before .before .before .before .before .before .before .before .before .before .before .before .before .before .args .at) (c .before .before .before .before .before .before .before .before .before .before .token-at .ensures) (c .before .before .before .before .before .before .before .before .token .given .1) (c .before .before .before .before .by-word .ensures)
 
 same-length-3 : tie.Need-same-length-3
 same-length-3 c = search needs
 
 returns-2 : tie.Need-returns-2
 returns-2 c =
-    token-does _ _ _ _ _ _ _ _ _ _ _ _ (c .before .before .before .before .before .before .before .before .before .before .before .before .pre .0) (c .before .before .before .before .before .before .before .before .before .before .before .before .args .at) (c .before .before .before .before .before .before .token-at .ensures) (c .before .before .before .before .enum-told .given .1)
-    (rw (c .before .before .before .before .enum-told .given .1) at (c .before .before .set .ensures (c .before .before .before .before .before .before .before .before .before .before .before .before .args .text .now) (c .before .before .before .before .before .before .before .before .before .before .before .before .args .input .now) (c .before .before .before .before .before .before .before .before .before .before .before .before .args .room .now) (c .before .before .before .before .before .before .before .before .before .before .before .before .args .found) (c .before .before .before .before .before .before .before .before .before .before .before .before .args .entry) (c .before .before .before .before .before .before .before .before .before .before .before .before .pre .1 .1 .0)))
+    lead-does _ _ _ _ _ _ _ _ _ _ _ _ (c .before .before .before .before .before .before .before .before .before .before .before .before .before .before .before .before .pre .0) (c .before .before .before .before .before .before .before .before .before .before .before .before .before .before .before .before .args .at) (c .before .before .before .before .before .before .before .before .before .before .lead-at .ensures)
+    (rw (c .before .before .before .before .before .before .before .enum-told2 .given .1) (print-does _ _ _ _ _ _ _ _ _ _ _ _ (c .before .before .before .before .before .before .before .before .before .before .lead-at .result .from) (λ is u p e. c .before .before .before .before .print .ensures (c .before .before .before .before .before .before .before .before .before .before .before .before .before .before .before .before .args .text .now) (c .before .before .before .before .before .before .before .before .before .before .before .before .before .before .before .before .args .input .now) is u (c .before .before .before .before .before .before .before .before .before .before .before .before .before .before .before .before .pre .1 .1 .0) p e)))
 
 same-length-4 : tie.Need-same-length-4
 same-length-4 c = search needs
 
-same-length-5 : tie.Need-same-length-5
-same-length-5 c = search needs
-
 returns-3 : tie.Need-returns-3
 returns-3 c =
-    token-does _ _ _ _ _ _ _ _ _ _ _ _ (c .before .before .before .before .before .before .before .before .before .before .before .before .before .before .before .before .before .before .before .pre .0) (c .before .before .before .before .before .before .before .before .before .before .before .before .before .before .before .before .before .before .before .args .at) (c .before .before .before .before .before .before .before .before .before .before .before .before .before .token-at .ensures) (c .before .before .before .before .before .before .before .before .before .before .before .token2 .given .1)
-    (rw (c .before .before .before .before .before .before .before .before .enum-told2 .given .1, ← (c .before .before .before .before .before .before .before .token-at2 .ensures))
-    (print-does _ _ _ _ _ _ _ _ _ _ _ _ (c .before .before .before .before .before .before .before .token-at2 .result) (λ is u p e. c .before .before .before .before .print .ensures (c .before .before .before .before .before .before .before .before .before .before .before .before .before .before .before .before .before .before .before .args .text .now) (c .before .before .before .before .before .before .before .before .before .before .before .before .before .before .before .before .before .before .before .args .input .now) is u (c .before .before .before .before .before .before .before .before .before .before .before .before .before .before .before .before .before .before .before .pre .1 .1 .0) p e)))
+    lead-does _ _ _ _ _ _ _ _ _ _ _ _ (c .before .before .before .before .before .before .before .before .before .before .before .before .before .pre .0) (c .before .before .before .before .before .before .before .before .before .before .before .before .before .args .at) (c .before .before .before .before .before .before .before .lead-at .ensures)
+    (rw (c .before .before .before .before .enum-told3 .given .1) (if-does _ _ _ _ _ _ _ _ _ _ _ _ (c .before .before .before .before .before .before .before .lead-at .result .from) (λ f way p u after l e g. c .before .before .choose .ensures (c .before .before .before .before .before .before .before .before .before .before .before .before .before .args .text .now) (c .before .before .before .before .before .before .before .before .before .before .before .before .before .args .input .now) (c .before .before .before .before .before .before .before .before .before .before .before .before .before .args .room .now) f way p u after (c .before .before .before .before .before .before .before .before .before .before .before .before .before .pre .1 .1 .0) (c .before .before .before .before .before .before .before .before .before .before .before .before .before .pre .0) l e g)))
 
 returns-4 : tie.Need-returns-4
 returns-4 c =
-    token-does _ _ _ _ _ _ _ _ _ _ _ _ (c .before .before .before .before .before .before .before .before .before .before .before .pre .0) (c .before .before .before .before .before .before .before .before .before .before .before .args .at) (c .before .before .before .before .before .token-at .ensures) (c .before .before .before .token2 .given .1)
-    (other-mark-does _ _ _ _ _ _ _ _ _ _ (c .before .before .before .before .before .before .before .before .before .before .before .pre .1 .1 .0) (c .before .before .before .before .before .token-at .result) (c .goes-on .ensures) (c .before .before .before .token2 .given .0 .0) (c .before .match2 .keys2))
+    lead-does _ _ _ _ _ _ _ _ _ _ _ _ (c .before .before .before .before .before .before .before .before .before .before .pre .0) (c .before .before .before .before .before .before .before .before .before .before .args .at) (c .before .before .before .before .lead-at .ensures)
+    (rw (c .before .enum-told4 .given .1) (c .jump .ensures (c .before .before .before .before .before .before .before .before .before .before .args .line .now) (c .before .before .before .before .before .before .before .before .before .before .args .input .now) (c .before .before .before .before .before .before .before .before .before .before .args .space .now) (c .before .before .before .before .before .before .before .before .before .before .args .room .now) (c .before .before .before .before .before .before .before .before .before .before .args .here) (c .before .before .before .before .before .before .before .before .before .before .args .found) (c .before .before .before .before .before .before .before .before .before .before .args .entry) (c .before .before .before .before .before .before .before .before .before .before .pre .1 .1 .0)))
 
 returns-5 : tie.Need-returns-5
 returns-5 c =
-    token-does _ _ _ _ _ _ _ _ _ _ _ _ (c .before .before .before .before .before .before .before .before .before .pre .0) (c .before .before .before .before .before .before .before .before .before .args .at) (c .before .before .before .token-at .ensures) (c .before .enum-told3 .given .1)
-    (rw (c .before .enum-told3 .given .1) at (c .jump .ensures (c .before .before .before .before .before .before .before .before .before .args .line .now) (c .before .before .before .before .before .before .before .before .before .args .input .now) (c .before .before .before .before .before .before .before .before .before .args .space .now) (c .before .before .before .before .before .before .before .before .before .args .room .now) (c .before .before .before .before .before .before .before .before .before .args .here) (c .before .before .before .before .before .before .before .before .before .args .found) (c .before .before .before .before .before .before .before .before .before .args .entry) (c .before .before .before .before .before .before .before .before .before .pre .1 .1 .0)))
+    lead-does _ _ _ _ _ _ _ _ _ _ _ _ (c .before .before .before .before .before .before .before .before .before .before .pre .0) (c .before .before .before .before .before .before .before .before .before .before .args .at) (c .before .before .before .before .lead-at .ensures)
+    (rw (c .before .enum-told5 .given .1) (c .call .ensures (c .before .before .before .before .before .before .before .before .before .before .args .input .now) (c .before .before .before .before .before .before .before .before .before .before .args .space .now) (c .before .before .before .before .before .before .before .before .before .before .args .room .now) (c .before .before .before .before .before .before .before .before .before .before .args .found) (c .before .before .before .before .before .before .before .before .before .before .args .entry) (c .before .before .before .before .before .before .before .before .before .before .pre .1 .1 .0)))
 
 returns-6 : tie.Need-returns-6
 returns-6 c =
-    token-does _ _ _ _ _ _ _ _ _ _ _ _ (c .before .before .before .before .before .before .before .before .before .pre .0) (c .before .before .before .before .before .before .before .before .before .args .at) (c .before .before .before .token-at .ensures) (c .before .enum-told4 .given .1)
-    (rw (c .before .enum-told4 .given .1) at (c .jump2 .ensures (c .before .before .before .before .before .before .before .before .before .args .line .now) (c .before .before .before .before .before .before .before .before .before .args .input .now) (c .before .before .before .before .before .before .before .before .before .args .space .now) (c .before .before .before .before .before .before .before .before .before .args .room .now) (c .before .before .before .before .before .before .before .before .before .args .here) (c .before .before .before .before .before .before .before .before .before .args .found) (c .before .before .before .before .before .before .before .before .before .args .entry) (c .before .before .before .before .before .before .before .before .before .pre .1 .1 .0)))
+    lead-does _ _ _ _ _ _ _ _ _ _ _ _ (c .before .before .before .before .before .before .before .before .before .before .pre .0) (c .before .before .before .before .before .before .before .before .before .before .args .at) (c .before .before .before .before .lead-at .ensures)
+    (rw (c .before .enum-told6 .given .1) (λ p. c .come-back .ensures (c .before .before .before .before .before .before .before .before .before .before .args .text .now) (c .before .before .before .before .before .before .before .before .before .before .args .input .now) (c .before .before .before .before .before .before .before .before .before .before .args .space .now) (c .before .before .before .before .before .before .before .before .before .before .args .room .now) (positionOf (c .before .before .before .before .before .before .before .before .before .before .args .text .now) (afterOf (c .before .before .before .before .before .before .before .before .before .before .args .here) (c .before .before .before .before .lead-at .result .from))) (c .before .before .before .before .before .before .before .before .before .before .pre .1 .1 .0)))
+
+same-length-5 : tie.Need-same-length-5
+same-length-5 c = search needs
 
 returns-7 : tie.Need-returns-7
 returns-7 c =
-    token-does _ _ _ _ _ _ _ _ _ _ _ _ (c .before .before .before .before .before .before .before .before .pre .0) (c .before .before .before .before .before .before .before .before .args .at) (c .before .before .token-at .ensures) refl
-    (other-token-does _ _ _ _ _ _ _ _ _ _ (c .before .before .before .before .before .before .before .before .pre .1 .1 .0) (c .before .before .token-at .result) (c .goes-on2 .ensures) (c .before .before .token-at .result .token) (c .before .match .keys6))
+    lead-does _ _ _ _ _ _ _ _ _ _ _ _ (c .before .before .before .before .before .before .before .before .before .before .before .before .before .pre .0) (c .before .before .before .before .before .before .before .before .before .before .before .before .before .args .at) (c .before .before .before .before .before .before .before .lead-at .ensures)
+    (rw (c .before .before .before .before .enum-told7 .given .1) (c .before .before .count .ensures (c .before .before .before .before .before .before .before .before .before .before .before .before .before .args .text .now) (c .before .before .before .before .before .before .before .before .before .before .before .before .before .args .input .now) (c .before .before .before .before .before .before .before .before .before .before .before .before .before .args .room .now) (c .before .before .before .before .before .before .before .before .before .before .before .before .before .args .entry) (c .before .before .before .before .before .before .before .before .before .before .before .before .before .pre .1 .1 .0)))
+
+returns-8 : tie.Need-returns-8
+returns-8 c =
+    lead-does _ _ _ _ _ _ _ _ _ _ _ _ (c .before .before .before .before .before .before .before .before .before .before .pre .0) (c .before .before .before .before .before .before .before .before .before .before .args .at) (c .before .before .before .before .lead-at .ensures)
+    (rw (c .before .enum-told8 .given .1) (c .next-loop .ensures (c .before .before .before .before .before .before .before .before .before .before .args .text .now) (c .before .before .before .before .before .before .before .before .before .before .args .input .now) (c .before .before .before .before .before .before .before .before .before .before .args .space .now) (c .before .before .before .before .before .before .before .before .before .before .args .room .now) (c .before .before .before .before .before .before .before .before .before .before .pre .1 .1 .0)))
+
+same-length-6 : tie.Need-same-length-6
+same-length-6 c = search needs
+
+same-length-7 : tie.Need-same-length-7
+same-length-7 c = search needs
+
+returns-9 : tie.Need-returns-9
+returns-9 c =
+    lead-does _ _ _ _ _ _ _ _ _ _ _ _ (c .before .before .before .before .before .before .before .before .before .before .before .before .before .before .before .before .before .pre .0) (c .before .before .before .before .before .before .before .before .before .before .before .before .before .before .before .before .before .args .at) (c .before .before .before .before .before .before .before .before .before .before .before .lead-at .ensures)
+    (rw (c .before .before .before .before .before .before .before .before .enum-told9 .given .1) (input-does _ _ _ _ _ _ _ _ _ _ _ _ (c .before .before .before .before .before .before .before .before .before .before .before .lead-at .result .from) (λ prompt v u p e. c .before .before .before .before .line-input .ensures (c .before .before .before .before .before .before .before .before .before .before .before .before .before .before .before .before .before .args .text .now) prompt v u p (rw (← (c .before .before .before .before .before .before .before .token-at .ensures)) at e))))
+
+returns-10 : tie.Need-returns-10
+returns-10 c =
+    lead-does _ _ _ _ _ _ _ _ _ _ _ _ (c .before .before .before .before .before .before .before .before .before .before .pre .0) (c .before .before .before .before .before .before .before .before .before .before .args .at) (c .before .before .before .before .lead-at .ensures)
+    (rw (c .before .enum-told10 .given .1, c .turned-to .ensures) (λ p. ends-turn (c .before .before .before .before .before .before .before .before .before .before .pre .1 .1 .0) _))
+
+returns-11 : tie.Need-returns-11
+returns-11 c =
+    lead-does _ _ _ _ _ _ _ _ _ _ _ _ (c .before .before .before .before .before .before .before .before .before .before .pre .0) (c .before .before .before .before .before .before .before .before .before .before .args .at) (c .before .before .before .before .lead-at .ensures)
+    (rw (c .before .enum-told11 .given .1, c .turned-to2 .ensures) (λ p. stops-turn (c .before .before .before .before .before .before .before .before .before .before .pre .1 .1 .0) _))
+
+returns-12 : tie.Need-returns-12
+returns-12 c =
+    lead-does _ _ _ _ _ _ _ _ _ _ _ _ (c .before .before .before .before .before .before .before .before .before .pre .0) (c .before .before .before .before .before .before .before .before .before .args .at) (c .before .before .before .lead-at .ensures)
+    (other-does _ _ _ _ _ _ _ _ _ _ (c .before .before .before .before .before .before .before .before .before .pre .1 .1 .0) (c .before .before .before .lead-at .result .from) (c .goes-on .ensures) (c .before .before .before .lead-at .result .word) (c .before .match .keys12))
 
 pub do-statement-spec : {M : Type 1} → statement M
 do-statement-spec =
     tie.close
     (tie.spec
-    token-at-requires
-    enum-known-token
-    by-word-requires
+    lead-at-requires
     enum-told
     set-requires
-    enum-known-token-2
     enum-told-2
-    token-at-requires-2
     print-requires
-    goes-on-requires
     enum-told-3
-    jump-requires
+    choose-requires
     enum-told-4
-    jump-requires-2
-    goes-on-requires-2
+    jump-requires
+    enum-told-5
+    call-requires
+    enum-told-6
+    come-back-requires
+    enum-told-7
+    count-requires
+    enum-told-8
+    next-loop-requires
+    enum-told-9
+    token-at-requires
+    line-input-requires
+    enum-told-10
+    turned-to-requires
+    enum-told-11
+    turned-to-requires-2
+    goes-on-requires
     same-length
-    same-length-2
     returns
+    same-length-2
     same-length-3
     returns-2
     same-length-4
-    same-length-5
     returns-3
     returns-4
     returns-5
     returns-6
-    returns-7)
+    same-length-5
+    returns-7
+    returns-8
+    same-length-6
+    same-length-7
+    returns-9
+    returns-10
+    returns-11
+    returns-12)
