@@ -10,7 +10,7 @@ use Rattle.checker.specs.declared.checking.Verdict.the-variants.{Faulty}
 use Rattle.runner.specs.declared.running.Ran.{Ran}
 use Rattle.runner.specs.declared.running.Outcome.{Outcome}
 use Rattle.runner.specs.declared.running.Outcome.the-variants.{Stopped, Refused}
-use Rattle.runner.specs.declared.asking.Asked.the-variants as asked
+use Rattle.asking.specs.declared.asking.Asked.the-variants as asked
 use Rattle.host.specs.Answers.{answerIn, verdictIn, extendedOf, foundIn}
 
 -- a run with an outcome, after 7 steps, 18 bytes written and 5 taken

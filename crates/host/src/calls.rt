@@ -2,7 +2,7 @@
 ghost use mathlib.Core.Path.{_≡_};
 ghost use lib.ListN.{length};
 ghost use Rattle.checker.specs.Check.{checkOf};
-ghost use Rattle.runner.specs.Asking.{askOf};
+ghost use Rattle.asking.specs.Asking.{askOf};
 ghost use Rattle.runner.specs.Run.{runOf};
 ghost use Rattle.blocks.specs.Blocks.{tablesIn};
 ghost use Rattle.host.specs.Answers.{verdictIn, foundIn};
@@ -11,11 +11,11 @@ use crate::answers::answer_of;
 use crate::answers::found_of;
 use crate::answers::is_refused;
 use crate::answers::verdict_of;
+use asking::ask;
 use blocks::Block;
 use blocks::block_of;
 use blocks::tables_in;
 use checker::check_recipe;
-use runner::ask;
 use runner::run;
 use variables::Tables;
 

@@ -23,9 +23,9 @@ use Rattle.variables.specs.declared.tables.Slot.{Slot}
 use Rattle.variables.specs.declared.tables.Slot.the-variants as slot
 use Rattle.variables.specs.declared.tables.Tables.{Tables}
 use Rattle.space.specs.declared.offsets.Offset.{Offset}
-use Rattle.runner.specs.Asking.{isWholeName, stringAsked, asked, askOf}
-use Rattle.runner.specs.declared.asking.Asked.{Asked}
-use Rattle.runner.specs.declared.asking.Asked.the-variants.{Whole, Text, Refused}
+use Rattle.asking.specs.Asking.{isWholeName, stringAsked, asked, askOf}
+use Rattle.asking.specs.declared.asking.Asked.{Asked}
+use Rattle.asking.specs.declared.asking.Asked.the-variants.{Whole, Text, Refused}
 
 -- a part that is answered ends within so many bytes
 abbrev Inside : ℕ → Asked → Type 0

@@ -18,6 +18,7 @@ pub mod Operators
 pub mod Machine
 pub mod Turns
 pub mod Runner
+pub mod Asking
 pub mod Blocks
 pub mod Host
 pub mod Promises

@@ -10,6 +10,7 @@ use borrow.Fn.Kind.{PK, RK}
 use borrow.Fn.Kinds.{In, Out, Dens, resT, endedOf}
 use Rattle.variables.specs.declared.tables.Tables.{Tables}
 use Rattle.checker.proofs as checker
+use Rattle.asking.proofs as asking
 use Rattle.runner.proofs as runner
 
 -- what is passed, what is answered, and what each `&mut` that was lent holds then
@@ -83,10 +84,10 @@ recipeOf c = c .passed .0 .now
 -- ---- `ask(tables, space, name)`
 
 abbrev pub AskCall : Type 0
-AskCall = Call runner.ask.Kinds.ps runner.ask.Kinds.r runner.ask.Reads.Post
+AskCall = Call asking.ask.Kinds.ps asking.ask.Kinds.r asking.ask.Reads.Post
 
 abbrev pub asksAlways : Type 0
-asksAlways = Always runner.ask.Kinds.ps runner.ask.Kinds.r runner.ask.Reads.Post
+asksAlways = Always asking.ask.Kinds.ps asking.ask.Kinds.r asking.ask.Reads.Post
 
 abbrev pub tablesHanded : AskCall → Tables
 tablesHanded c = c .passed .0

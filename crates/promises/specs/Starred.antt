@@ -33,10 +33,10 @@ use Rattle.turns.specs.Steps.{printItems, returned}
 use Rattle.checker.specs.Check.{present, anyMissing, firstFault, checkOf}
 use Rattle.checker.specs.declared.checking.Verdict.{Verdict}
 use Rattle.checker.specs.declared.checking.Verdict.the-variants.{Passed, Faulty}
-use Rattle.runner.specs.Asking.{askOf}
+use Rattle.asking.specs.Asking.{askOf}
 use Rattle.runner.specs.Run.{Ran, enter, running, answerOf, spaceAfter, runOf}
-use Rattle.runner.specs.declared.asking.Asked.{Asked}
-use Rattle.runner.specs.declared.asking.Asked.the-variants.{Whole, Text}
+use Rattle.asking.specs.declared.asking.Asked.{Asked}
+use Rattle.asking.specs.declared.asking.Asked.the-variants.{Whole, Text}
 use Rattle.runner.specs.declared.running.Outcome.{Outcome}
 use Rattle.runner.specs.declared.running.Outcome.the-variants.{Ended, Failed}
 

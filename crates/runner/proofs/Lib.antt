@@ -1,4 +1,3 @@
-pub mod Answering
 pub mod Entering
 pub mod Turning
 pub mod Finishing

@@ -1,4 +1,3 @@
 pub mod Run
-pub mod Asking
 pub mod Standings
 pub mod Examples

@@ -1,9 +1,6 @@
-// Running a recipe, and asking for a variable after it.
-mod asking;
+// Running a recipe.
 mod running;
 
-pub use asking::Asked;
-pub use asking::ask;
 pub use running::Outcome;
 pub use running::Ran;
 pub use running::run;

@@ -6,6 +6,3 @@ use Rattle.promises.proofs.Unique.{same, pair}
 
 pub run : Unique runner.run.Kinds.ps runner.run.Kinds.r runner.run.Reads.Pre runner.run.Reads.Post
 run κs a p z z′ ws ws′ e e′ = (same (e .0) (e′ .0), pair refl (pair refl (pair (same (e .1 .0) (e′ .1 .0)) (pair (same (e .1 .1) (e′ .1 .1)) refl))))
-
-pub ask : Unique runner.ask.Kinds.ps runner.ask.Kinds.r runner.ask.Reads.Pre runner.ask.Reads.Post
-ask κs a p z z′ ws ws′ e e′ = (same e e′, refl)

@@ -2,7 +2,7 @@
 use mathlib.Core.Path.{ap, _∙_}
 use borrow.Author.Needs.{needs}
 use lib.ListN.{length}
-use Rattle.runner.specs.Asking.{askOf}
+use Rattle.asking.specs.Asking.{askOf}
 use Rattle.host.specs.Answers.{foundIn}
 use Rattle.host.proofs.calls.quernhem_ask.Statement.{statement}
 use Rattle.host.proofs.calls.quernhem_ask.Tie as tie

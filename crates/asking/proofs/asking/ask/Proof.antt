@@ -1,8 +1,8 @@
 -- What is given is one name, or is refused.
 use borrow.Author.Needs.{needs}
-use Rattle.runner.proofs.Answering.{ask-other, ask-late, ask-more, ask-name}
-use Rattle.runner.proofs.asking.ask.Statement.{statement}
-use Rattle.runner.proofs.asking.ask.Tie as tie
+use Rattle.asking.proofs.Answering.{ask-other, ask-late, ask-more, ask-name}
+use Rattle.asking.proofs.asking.ask.Statement.{statement}
+use Rattle.asking.proofs.asking.ask.Tie as tie
 
 -- in each, n is where the name is known, and t where the token is
 returns-4 : tie.Need-returns-4

@@ -21,8 +21,8 @@ use Rattle.variables.specs.declared.tables.Strings.{Strings}
 use Rattle.variables.specs.declared.tables.Slot.{Slot}
 use Rattle.variables.specs.declared.tables.Slot.the-variants as slot
 use Rattle.space.specs.declared.offsets.Offset.{Offset}
-use Rattle.runner.specs.declared.asking.Asked.{Asked}
-use Rattle.runner.specs.declared.asking.Asked.the-variants.{Whole, Text, Refused}
+use Rattle.asking.specs.declared.asking.Asked.{Asked}
+use Rattle.asking.specs.declared.asking.Asked.the-variants.{Whole, Text, Refused}
 
 -- the whole of what is given is one name
 abbrev pub isWholeName : List ℕ → Scanned → Name → Bool

@@ -3,9 +3,9 @@ use mathlib.Core.Path.{sym, _∙_}
 use native.Mathlib.Omega.{arith}
 use borrow.Author.Needs.{needs}
 use Rattle.variables.proofs.Lookups.{slot-below}
-use Rattle.runner.proofs.Answering.{string-unset, string-outside, string-inside}
-use Rattle.runner.proofs.asking.string_asked.Statement.{statement}
-use Rattle.runner.proofs.asking.string_asked.Tie as tie
+use Rattle.asking.proofs.Answering.{string-unset, string-outside, string-inside}
+use Rattle.asking.proofs.asking.string_asked.Statement.{statement}
+use Rattle.asking.proofs.asking.string_asked.Tie as tie
 
 -- in each, w is where the length is known, and s where the entry is
 returns : tie.Need-returns

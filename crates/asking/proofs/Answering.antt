@@ -21,9 +21,9 @@ use Rattle.variables.specs.Memory.{sumOf}
 use Rattle.variables.specs.declared.tables.Slot.{Slot}
 use Rattle.variables.specs.declared.tables.Slot.the-variants as slot
 use Rattle.variables.specs.declared.tables.Tables.{Tables}
-use Rattle.runner.specs.Asking.{stringAsked, asked, askOf}
-use Rattle.runner.specs.declared.asking.Asked.{Asked}
-use Rattle.runner.specs.declared.asking.Asked.the-variants.{Text, Refused}
+use Rattle.asking.specs.Asking.{stringAsked, asked, askOf}
+use Rattle.asking.specs.declared.asking.Asked.{Asked}
+use Rattle.asking.specs.declared.asking.Asked.the-variants.{Text, Refused}
 
 -- ---- a string, by its entry
 

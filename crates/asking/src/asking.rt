@@ -3,7 +3,7 @@ ghost use mathlib.Core.Path.{_≡_};
 ghost use lib.ListN.{length};
 ghost use Rattle.variables.specs.Memory.{namesIn, numbersIn, slotIn};
 ghost use Rattle.variables.specs.Variables.{wordOf};
-ghost use Rattle.runner.specs.Asking.{stringAsked, askOf};
+ghost use Rattle.asking.specs.Asking.{stringAsked, askOf};
 use scanner::token_at;
 use space::Offset;
 use variables::Numbers;

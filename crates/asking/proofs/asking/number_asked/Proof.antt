@@ -3,9 +3,9 @@ use mathlib.Core.Path.{sym, ap, _∙_}
 use native.Mathlib.Omega.{arith}
 use borrow.Author.Needs.{needs}
 use Rattle.variables.proofs.Lookups.{slot-word, no-slot-word, slot-below}
-use Rattle.runner.specs.declared.asking.Asked.the-variants.{Whole}
-use Rattle.runner.proofs.asking.number_asked.Statement.{statement}
-use Rattle.runner.proofs.asking.number_asked.Tie as tie
+use Rattle.asking.specs.declared.asking.Asked.the-variants.{Whole}
+use Rattle.asking.proofs.asking.number_asked.Statement.{statement}
+use Rattle.asking.proofs.asking.number_asked.Tie as tie
 
 pub number-asked-spec : {M : Type 1} → statement M
 number-asked-spec =
