@@ -14,19 +14,27 @@ enum-told : tie.Need-enum-told
 enum-told c = search needs
 
 set-requires : tie.Need-set-requires
-set-requires c κs = (rw (c .before .enum-told .given .1) at (lead-begins (c .before .before .before .before .lead-at .ensures) (c .before .before .before .before .before .before .before .before .before .before .pre .1 .0)), (c .before .before .before .before .before .before .before .before .before .before .pre .0 .short, c .before .before .before .before .before .before .before .before .before .before .pre .1 .1 .0 .settled))
+set-requires c κs =
+    let start = c .before .before .before .before .before .before .before .before .before .before in
+    (rw (c .before .enum-told .given .1) at (lead-begins (c .before .before .before .before .lead-at .ensures) (start .pre .1 .0)), (start .pre .0 .short, start .pre .1 .1 .0 .settled))
 
 enum-told-2 : tie.Need-enum-told-2
 enum-told-2 c = search needs
 
 print-requires : tie.Need-print-requires
-print-requires c κs = (print-itemed (c .before .before .before .before .before .before .before .before .before .before .before .args .line .now) (c .before .before .before .before .before .before .before .before .before .before .before .pre .0 .short) (c .before .before .before .before .before .lead-at .ensures .place) (c .before .before .before .before .before .lead-at .ensures .is) (rw (c .before .before .enum-told2 .given .1) at (lead-begins (c .before .before .before .before .before .lead-at .ensures) (c .before .before .before .before .before .before .before .before .before .before .before .pre .1 .0))), (c .before .before .before .before .before .before .before .before .before .before .before .pre .1 .1 .0 .settled, c .before .before .before .before .before .before .before .before .before .before .before .pre .1 .1 .0 .fitting))
+print-requires c κs =
+    let start = c .before .before .before .before .before .before .before .before .before .before .before in
+    let lead = c .before .before .before .before .before .lead-at in
+    (print-itemed (start .args .line .now) (start .pre .0 .short) (lead .ensures .place) (lead .ensures .is) (rw (c .before .before .enum-told2 .given .1) at (lead-begins (lead .ensures) (start .pre .1 .0))), (start .pre .1 .1 .0 .settled, start .pre .1 .1 .0 .fitting))
 
 enum-told-3 : tie.Need-enum-told-3
 enum-told-3 c = search needs
 
 choose-requires : tie.Need-choose-requires
-choose-requires c κs = (if-formed (c .before .before .before .before .before .before .before .before .before .before .args .line .now) (c .before .before .before .before .before .before .before .before .before .before .pre .0 .short) (c .before .before .before .before .lead-at .ensures .place) (c .before .before .before .before .lead-at .ensures .is) (rw (c .before .enum-told3 .given .1) at (lead-begins (c .before .before .before .before .lead-at .ensures) (c .before .before .before .before .before .before .before .before .before .before .pre .1 .0))), c .before .before .before .before .before .before .before .before .before .before .pre .1 .1 .0 .settled)
+choose-requires c κs =
+    let start = c .before .before .before .before .before .before .before .before .before .before in
+    let lead = c .before .before .before .before .lead-at in
+    (if-formed (start .args .line .now) (start .pre .0 .short) (lead .ensures .place) (lead .ensures .is) (rw (c .before .enum-told3 .given .1) at (lead-begins (lead .ensures) (start .pre .1 .0))), start .pre .1 .1 .0 .settled)
 
 enum-told-4 : tie.Need-enum-told-4
 enum-told-4 c = search needs
@@ -50,7 +58,9 @@ enum-told-7 : tie.Need-enum-told-7
 enum-told-7 c = search needs
 
 count-requires : tie.Need-count-requires
-count-requires c κs = (rw (c .before .enum-told7 .given .1) at (lead-begins (c .before .before .before .before .lead-at .ensures) (c .before .before .before .before .before .before .before .before .before .before .pre .1 .0)), (c .before .before .before .before .before .before .before .before .before .before .pre .0 .short, (c .before .before .before .before .before .before .before .before .before .before .pre .1 .1 .0 .settled, c .before .before .before .before .before .before .before .before .before .before .pre .1 .1 .1)))
+count-requires c κs =
+    let start = c .before .before .before .before .before .before .before .before .before .before in
+    (rw (c .before .enum-told7 .given .1) at (lead-begins (c .before .before .before .before .lead-at .ensures) (start .pre .1 .0)), (start .pre .0 .short, (start .pre .1 .1 .0 .settled, start .pre .1 .1 .1)))
 
 enum-told-8 : tie.Need-enum-told-8
 enum-told-8 c = search needs
@@ -65,7 +75,10 @@ token-at-requires : tie.Need-token-at-requires
 token-at-requires c κs = search needs
 
 line-input-requires : tie.Need-line-input-requires
-line-input-requires c κs = (rw (c .before .before .token-at .ensures) (input-asks (c .before .before .before .before .before .before .before .before .before .before .before .before .args .line .now) (c .before .before .before .before .before .before .before .before .before .before .before .before .pre .0 .short) (c .before .before .before .before .before .before .lead-at .result .from) (rw (c .before .before .before .enum-told9 .given .1) at (lead-begins (c .before .before .before .before .before .before .lead-at .ensures) (c .before .before .before .before .before .before .before .before .before .before .before .before .pre .1 .0)))), c .before .before .before .before .before .before .before .before .before .before .before .before .pre .1 .1 .0)
+line-input-requires c κs =
+    let start = c .before .before .before .before .before .before .before .before .before .before .before .before in
+    let lead = c .before .before .before .before .before .before .lead-at in
+    (rw (c .before .before .token-at .ensures) (input-asks (start .args .line .now) (start .pre .0 .short) (lead .result .from) (rw (c .before .before .before .enum-told9 .given .1) at (lead-begins (lead .ensures) (start .pre .1 .0)))), start .pre .1 .1 .0)
 
 enum-told-10 : tie.Need-enum-told-10
 enum-told-10 c = search needs
@@ -87,8 +100,9 @@ same-length c = search needs
 
 returns : tie.Need-returns
 returns c =
-    lead-does _ _ _ _ _ _ _ _ _ _ _ _ (c .before .before .before .before .before .before .before .before .before .before .before .before .before .pre .0) (c .before .before .before .before .before .before .before .before .before .before .before .before .before .args .at) (c .before .before .before .before .before .before .before .lead-at .ensures)
-    (rw (c .before .before .before .before .enum-told .given .1) (c .before .before .set .ensures (c .before .before .before .before .before .before .before .before .before .before .before .before .before .args .text .now) (c .before .before .before .before .before .before .before .before .before .before .before .before .before .args .input .now) (c .before .before .before .before .before .before .before .before .before .before .before .before .before .args .room .now) (c .before .before .before .before .before .before .before .before .before .before .before .before .before .args .found) (c .before .before .before .before .before .before .before .before .before .before .before .before .before .args .entry) (c .before .before .before .before .before .before .before .before .before .before .before .before .before .pre .1 .1 .0)))
+    let start = c .before .before .before .before .before .before .before .before .before .before .before .before .before in
+    lead-does _ _ _ _ _ _ _ _ _ _ _ _ (start .pre .0) (start .args .at) (c .before .before .before .before .before .before .before .lead-at .ensures)
+    (rw (c .before .before .before .before .enum-told .given .1) (c .before .before .set .ensures (start .args .text .now) (start .args .input .now) (start .args .room .now) (start .args .found) (start .args .entry) (start .pre .1 .1 .0)))
 
 same-length-2 : tie.Need-same-length-2
 same-length-2 c = search needs
@@ -98,44 +112,54 @@ same-length-3 c = search needs
 
 returns-2 : tie.Need-returns-2
 returns-2 c =
-    lead-does _ _ _ _ _ _ _ _ _ _ _ _ (c .before .before .before .before .before .before .before .before .before .before .before .before .before .before .before .before .pre .0) (c .before .before .before .before .before .before .before .before .before .before .before .before .before .before .before .before .args .at) (c .before .before .before .before .before .before .before .before .before .before .lead-at .ensures)
-    (rw (c .before .before .before .before .before .before .before .enum-told2 .given .1) (print-does _ _ _ _ _ _ _ _ _ _ _ _ (c .before .before .before .before .before .before .before .before .before .before .lead-at .result .from) (λ is u p e. c .before .before .before .before .print .ensures (c .before .before .before .before .before .before .before .before .before .before .before .before .before .before .before .before .args .text .now) (c .before .before .before .before .before .before .before .before .before .before .before .before .before .before .before .before .args .input .now) is u (c .before .before .before .before .before .before .before .before .before .before .before .before .before .before .before .before .pre .1 .1 .0) p e)))
+    let start = c .before .before .before .before .before .before .before .before .before .before .before .before .before .before .before .before in
+    let lead = c .before .before .before .before .before .before .before .before .before .before .lead-at in
+    lead-does _ _ _ _ _ _ _ _ _ _ _ _ (start .pre .0) (start .args .at) (lead .ensures)
+    (rw (c .before .before .before .before .before .before .before .enum-told2 .given .1) (print-does _ _ _ _ _ _ _ _ _ _ _ _ (lead .result .from) (λ is u p e. c .before .before .before .before .print .ensures (start .args .text .now) (start .args .input .now) is u (start .pre .1 .1 .0) p e)))
 
 same-length-4 : tie.Need-same-length-4
 same-length-4 c = search needs
 
 returns-3 : tie.Need-returns-3
 returns-3 c =
-    lead-does _ _ _ _ _ _ _ _ _ _ _ _ (c .before .before .before .before .before .before .before .before .before .before .before .before .before .pre .0) (c .before .before .before .before .before .before .before .before .before .before .before .before .before .args .at) (c .before .before .before .before .before .before .before .lead-at .ensures)
-    (rw (c .before .before .before .before .enum-told3 .given .1) (if-does _ _ _ _ _ _ _ _ _ _ _ _ (c .before .before .before .before .before .before .before .lead-at .result .from) (λ f way p u after l e g. c .before .before .choose .ensures (c .before .before .before .before .before .before .before .before .before .before .before .before .before .args .text .now) (c .before .before .before .before .before .before .before .before .before .before .before .before .before .args .input .now) (c .before .before .before .before .before .before .before .before .before .before .before .before .before .args .room .now) f way p u after (c .before .before .before .before .before .before .before .before .before .before .before .before .before .pre .1 .1 .0) (c .before .before .before .before .before .before .before .before .before .before .before .before .before .pre .0) l e g)))
+    let start = c .before .before .before .before .before .before .before .before .before .before .before .before .before in
+    let lead = c .before .before .before .before .before .before .before .lead-at in
+    lead-does _ _ _ _ _ _ _ _ _ _ _ _ (start .pre .0) (start .args .at) (lead .ensures)
+    (rw (c .before .before .before .before .enum-told3 .given .1) (if-does _ _ _ _ _ _ _ _ _ _ _ _ (lead .result .from) (λ f way p u after l e g. c .before .before .choose .ensures (start .args .text .now) (start .args .input .now) (start .args .room .now) f way p u after (start .pre .1 .1 .0) (start .pre .0) l e g)))
 
 returns-4 : tie.Need-returns-4
 returns-4 c =
-    lead-does _ _ _ _ _ _ _ _ _ _ _ _ (c .before .before .before .before .before .before .before .before .before .before .pre .0) (c .before .before .before .before .before .before .before .before .before .before .args .at) (c .before .before .before .before .lead-at .ensures)
-    (rw (c .before .enum-told4 .given .1) (c .jump .ensures (c .before .before .before .before .before .before .before .before .before .before .args .line .now) (c .before .before .before .before .before .before .before .before .before .before .args .input .now) (c .before .before .before .before .before .before .before .before .before .before .args .space .now) (c .before .before .before .before .before .before .before .before .before .before .args .room .now) (c .before .before .before .before .before .before .before .before .before .before .args .here) (c .before .before .before .before .before .before .before .before .before .before .args .found) (c .before .before .before .before .before .before .before .before .before .before .args .entry) (c .before .before .before .before .before .before .before .before .before .before .pre .1 .1 .0)))
+    let start = c .before .before .before .before .before .before .before .before .before .before in
+    lead-does _ _ _ _ _ _ _ _ _ _ _ _ (start .pre .0) (start .args .at) (c .before .before .before .before .lead-at .ensures)
+    (rw (c .before .enum-told4 .given .1) (c .jump .ensures (start .args .line .now) (start .args .input .now) (start .args .space .now) (start .args .room .now) (start .args .here) (start .args .found) (start .args .entry) (start .pre .1 .1 .0)))
 
 returns-5 : tie.Need-returns-5
 returns-5 c =
-    lead-does _ _ _ _ _ _ _ _ _ _ _ _ (c .before .before .before .before .before .before .before .before .before .before .pre .0) (c .before .before .before .before .before .before .before .before .before .before .args .at) (c .before .before .before .before .lead-at .ensures)
-    (rw (c .before .enum-told5 .given .1) (c .call .ensures (c .before .before .before .before .before .before .before .before .before .before .args .input .now) (c .before .before .before .before .before .before .before .before .before .before .args .space .now) (c .before .before .before .before .before .before .before .before .before .before .args .room .now) (c .before .before .before .before .before .before .before .before .before .before .args .found) (c .before .before .before .before .before .before .before .before .before .before .args .entry) (c .before .before .before .before .before .before .before .before .before .before .pre .1 .1 .0)))
+    let start = c .before .before .before .before .before .before .before .before .before .before in
+    lead-does _ _ _ _ _ _ _ _ _ _ _ _ (start .pre .0) (start .args .at) (c .before .before .before .before .lead-at .ensures)
+    (rw (c .before .enum-told5 .given .1) (c .call .ensures (start .args .input .now) (start .args .space .now) (start .args .room .now) (start .args .found) (start .args .entry) (start .pre .1 .1 .0)))
 
 returns-6 : tie.Need-returns-6
 returns-6 c =
-    lead-does _ _ _ _ _ _ _ _ _ _ _ _ (c .before .before .before .before .before .before .before .before .before .before .pre .0) (c .before .before .before .before .before .before .before .before .before .before .args .at) (c .before .before .before .before .lead-at .ensures)
-    (rw (c .before .enum-told6 .given .1) (λ p. c .come-back .ensures (c .before .before .before .before .before .before .before .before .before .before .args .text .now) (c .before .before .before .before .before .before .before .before .before .before .args .input .now) (c .before .before .before .before .before .before .before .before .before .before .args .space .now) (c .before .before .before .before .before .before .before .before .before .before .args .room .now) (positionOf (c .before .before .before .before .before .before .before .before .before .before .args .text .now) (afterOf (c .before .before .before .before .before .before .before .before .before .before .args .here) (c .before .before .before .before .lead-at .result .from))) (c .before .before .before .before .before .before .before .before .before .before .pre .1 .1 .0)))
+    let start = c .before .before .before .before .before .before .before .before .before .before in
+    let lead = c .before .before .before .before .lead-at in
+    lead-does _ _ _ _ _ _ _ _ _ _ _ _ (start .pre .0) (start .args .at) (lead .ensures)
+    (rw (c .before .enum-told6 .given .1) (λ p. c .come-back .ensures (start .args .text .now) (start .args .input .now) (start .args .space .now) (start .args .room .now) (positionOf (start .args .text .now) (afterOf (start .args .here) (lead .result .from))) (start .pre .1 .1 .0)))
 
 same-length-5 : tie.Need-same-length-5
 same-length-5 c = search needs
 
 returns-7 : tie.Need-returns-7
 returns-7 c =
-    lead-does _ _ _ _ _ _ _ _ _ _ _ _ (c .before .before .before .before .before .before .before .before .before .before .before .before .before .pre .0) (c .before .before .before .before .before .before .before .before .before .before .before .before .before .args .at) (c .before .before .before .before .before .before .before .lead-at .ensures)
-    (rw (c .before .before .before .before .enum-told7 .given .1) (c .before .before .count .ensures (c .before .before .before .before .before .before .before .before .before .before .before .before .before .args .text .now) (c .before .before .before .before .before .before .before .before .before .before .before .before .before .args .input .now) (c .before .before .before .before .before .before .before .before .before .before .before .before .before .args .room .now) (c .before .before .before .before .before .before .before .before .before .before .before .before .before .args .entry) (c .before .before .before .before .before .before .before .before .before .before .before .before .before .pre .1 .1 .0)))
+    let start = c .before .before .before .before .before .before .before .before .before .before .before .before .before in
+    lead-does _ _ _ _ _ _ _ _ _ _ _ _ (start .pre .0) (start .args .at) (c .before .before .before .before .before .before .before .lead-at .ensures)
+    (rw (c .before .before .before .before .enum-told7 .given .1) (c .before .before .count .ensures (start .args .text .now) (start .args .input .now) (start .args .room .now) (start .args .entry) (start .pre .1 .1 .0)))
 
 returns-8 : tie.Need-returns-8
 returns-8 c =
-    lead-does _ _ _ _ _ _ _ _ _ _ _ _ (c .before .before .before .before .before .before .before .before .before .before .pre .0) (c .before .before .before .before .before .before .before .before .before .before .args .at) (c .before .before .before .before .lead-at .ensures)
-    (rw (c .before .enum-told8 .given .1) (c .next-loop .ensures (c .before .before .before .before .before .before .before .before .before .before .args .text .now) (c .before .before .before .before .before .before .before .before .before .before .args .input .now) (c .before .before .before .before .before .before .before .before .before .before .args .space .now) (c .before .before .before .before .before .before .before .before .before .before .args .room .now) (c .before .before .before .before .before .before .before .before .before .before .pre .1 .1 .0)))
+    let start = c .before .before .before .before .before .before .before .before .before .before in
+    lead-does _ _ _ _ _ _ _ _ _ _ _ _ (start .pre .0) (start .args .at) (c .before .before .before .before .lead-at .ensures)
+    (rw (c .before .enum-told8 .given .1) (c .next-loop .ensures (start .args .text .now) (start .args .input .now) (start .args .space .now) (start .args .room .now) (start .pre .1 .1 .0)))
 
 same-length-6 : tie.Need-same-length-6
 same-length-6 c = search needs
@@ -145,23 +169,29 @@ same-length-7 c = search needs
 
 returns-9 : tie.Need-returns-9
 returns-9 c =
-    lead-does _ _ _ _ _ _ _ _ _ _ _ _ (c .before .before .before .before .before .before .before .before .before .before .before .before .before .before .before .before .before .pre .0) (c .before .before .before .before .before .before .before .before .before .before .before .before .before .before .before .before .before .args .at) (c .before .before .before .before .before .before .before .before .before .before .before .lead-at .ensures)
-    (rw (c .before .before .before .before .before .before .before .before .enum-told9 .given .1) (input-does _ _ _ _ _ _ _ _ _ _ _ _ (c .before .before .before .before .before .before .before .before .before .before .before .lead-at .result .from) (λ prompt v u p e. c .before .before .before .before .line-input .ensures (c .before .before .before .before .before .before .before .before .before .before .before .before .before .before .before .before .before .args .text .now) prompt v u p (rw (← (c .before .before .before .before .before .before .before .token-at .ensures)) at e))))
+    let start = c .before .before .before .before .before .before .before .before .before .before .before .before .before .before .before .before .before in
+    let lead = c .before .before .before .before .before .before .before .before .before .before .before .lead-at in
+    lead-does _ _ _ _ _ _ _ _ _ _ _ _ (start .pre .0) (start .args .at) (lead .ensures)
+    (rw (c .before .before .before .before .before .before .before .before .enum-told9 .given .1) (input-does _ _ _ _ _ _ _ _ _ _ _ _ (lead .result .from) (λ prompt v u p e. c .before .before .before .before .line-input .ensures (start .args .text .now) prompt v u p (rw (← (c .before .before .before .before .before .before .before .token-at .ensures)) at e))))
 
 returns-10 : tie.Need-returns-10
 returns-10 c =
-    lead-does _ _ _ _ _ _ _ _ _ _ _ _ (c .before .before .before .before .before .before .before .before .before .before .pre .0) (c .before .before .before .before .before .before .before .before .before .before .args .at) (c .before .before .before .before .lead-at .ensures)
-    (rw (c .before .enum-told10 .given .1, c .turned-to .ensures) (λ p. ends-turn (c .before .before .before .before .before .before .before .before .before .before .pre .1 .1 .0) _))
+    let start = c .before .before .before .before .before .before .before .before .before .before in
+    lead-does _ _ _ _ _ _ _ _ _ _ _ _ (start .pre .0) (start .args .at) (c .before .before .before .before .lead-at .ensures)
+    (rw (c .before .enum-told10 .given .1, c .turned-to .ensures) (λ p. ends-turn (start .pre .1 .1 .0) _))
 
 returns-11 : tie.Need-returns-11
 returns-11 c =
-    lead-does _ _ _ _ _ _ _ _ _ _ _ _ (c .before .before .before .before .before .before .before .before .before .before .pre .0) (c .before .before .before .before .before .before .before .before .before .before .args .at) (c .before .before .before .before .lead-at .ensures)
-    (rw (c .before .enum-told11 .given .1, c .turned-to2 .ensures) (λ p. stops-turn (c .before .before .before .before .before .before .before .before .before .before .pre .1 .1 .0) _))
+    let start = c .before .before .before .before .before .before .before .before .before .before in
+    lead-does _ _ _ _ _ _ _ _ _ _ _ _ (start .pre .0) (start .args .at) (c .before .before .before .before .lead-at .ensures)
+    (rw (c .before .enum-told11 .given .1, c .turned-to2 .ensures) (λ p. stops-turn (start .pre .1 .1 .0) _))
 
 returns-12 : tie.Need-returns-12
 returns-12 c =
-    lead-does _ _ _ _ _ _ _ _ _ _ _ _ (c .before .before .before .before .before .before .before .before .before .pre .0) (c .before .before .before .before .before .before .before .before .before .args .at) (c .before .before .before .lead-at .ensures)
-    (other-does _ _ _ _ _ _ _ _ _ _ (c .before .before .before .before .before .before .before .before .before .pre .1 .1 .0) (c .before .before .before .lead-at .result .from) (c .goes-on .ensures) (c .before .before .before .lead-at .result .word) (c .before .match .keys12))
+    let start = c .before .before .before .before .before .before .before .before .before in
+    let lead = c .before .before .before .lead-at in
+    lead-does _ _ _ _ _ _ _ _ _ _ _ _ (start .pre .0) (start .args .at) (lead .ensures)
+    (other-does _ _ _ _ _ _ _ _ _ _ (start .pre .1 .1 .0) (lead .result .from) (c .goes-on .ensures) (lead .result .word) (c .before .match .keys12))
 
 pub do-statement-spec : {M : Type 1} → statement M
 do-statement-spec =

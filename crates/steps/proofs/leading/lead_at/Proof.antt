@@ -32,25 +32,46 @@ token-at-requires-3 : tie.Need-token-at-requires-3
 token-at-requires-3 c κs = search needs
 
 returns : tie.Need-returns
-returns c = lead-by (c .before .before .before .before .before .before .before .args .line .now) (c .before .before .before .before .before .before .before .args .at) (c .before .before .before .before .before .token-at .ensures) (c .before .before .before .token .given .1) (c .before .before .before .token .given .0 .0) (c .before .before .before .before .before .before .before .args .at) (c .before .before .before .before .before .token-at .ensures) (rw (c .enum-told .given .1) refl)
+returns c =
+    let start = c .before .before .before .before .before .before .before in
+    let first = c .before .before .before .before .before .token-at in
+    lead-by (start .args .line .now) (start .args .at) (first .ensures) (c .before .before .before .token .given .1) (c .before .before .before .token .given .0 .0) (start .args .at) (first .ensures) (rw (c .enum-told .given .1) refl)
 
 returns-2 : tie.Need-returns-2
-returns-2 c = lead-by (c .before .before .before .before .before .before .before .args .line .now) (c .before .before .before .before .before .before .before .args .at) (c .before .before .before .before .before .token-at .ensures) (c .before .before .before .token .given .1) (c .before .before .before .token .given .0 .0) (c .before .before .before .before .before .token-at .result .next) (c .token-at2 .ensures) (rw (c .token-at2 .ensures) (word-leads (c .before .before .before .before .before .before .before .args .line .now) (c .before .before .before .before .before .token-at .result) (c .before .before .before .token .given .0 .0) (c .before .match2 .keys2)))
+returns-2 c =
+    let start = c .before .before .before .before .before .before .before in
+    let first = c .before .before .before .before .before .token-at in
+    lead-by (start .args .line .now) (start .args .at) (first .ensures) (c .before .before .before .token .given .1) (c .before .before .before .token .given .0 .0) (first .result .next) (c .token-at2 .ensures) (rw (c .token-at2 .ensures) (word-leads (start .args .line .now) (first .result) (c .before .before .before .token .given .0 .0) (c .before .match2 .keys2)))
 
 returns-3 : tie.Need-returns-3
-returns-3 c = lead-by (c .before .before .before .before .args .line .now) (c .before .before .before .before .args .at) (c .before .before .token-at .ensures) (c .enum-told2 .given .1) Let (c .before .before .before .before .args .at) (c .before .before .token-at .ensures) (rw (c .enum-told2 .given .1) (reads-same (assignAt (c .before .before .before .before .args .line .now) (variableOf (c .before .before .before .before .args .line .now) (c .enum-told2 .given .0 .0)) (after (c .before .before .before .before .args .line .now) (c .before .before .token-at .result)))))
+returns-3 c =
+    let start = c .before .before .before .before in
+    let first = c .before .before .token-at in
+    lead-by (start .args .line .now) (start .args .at) (first .ensures) (c .enum-told2 .given .1) Let (start .args .at) (first .ensures) (rw (c .enum-told2 .given .1) (reads-same (assignAt (start .args .line .now) (variableOf (start .args .line .now) (c .enum-told2 .given .0 .0)) (after (start .args .line .now) (first .result)))))
 
 returns-4 : tie.Need-returns-4
-returns-4 c = lead-by (c .before .before .before .args .line .now) (c .before .before .before .args .at) (c .before .token-at .ensures) refl Goto (c .before .before .before .args .at) (c .before .token-at .ensures) (number-leads (c .before .before .before .args .line .now) (c .before .token-at .result) (c .before .token-at .result .token) (c .match .keys3) refl)
+returns-4 c =
+    let start = c .before .before .before in
+    let first = c .before .token-at in
+    lead-by (start .args .line .now) (start .args .at) (first .ensures) refl Goto (start .args .at) (first .ensures) (number-leads (start .args .line .now) (first .result) (first .result .token) (c .match .keys3) refl)
 
 returns-5 : tie.Need-returns-5
-returns-5 c = lead-by (c .before .before .before .before .before .before .before .before .args .line .now) (c .before .before .before .before .before .before .before .before .args .at) (c .before .before .before .before .before .before .token-at .ensures) (c .before .before .before .before .token2 .given .1) Print (c .before .before .before .before .before .before .token-at .result .next) (c .token-at3 .ensures) (rw (c .before .enum-told3 .given .1, c .token-at3 .ensures) (reads-same (printAt (c .before .before .before .before .before .before .before .before .args .line .now) (after (c .before .before .before .before .before .before .before .before .args .line .now) (c .before .before .before .before .before .before .token-at .result)))))
+returns-5 c =
+    let start = c .before .before .before .before .before .before .before .before in
+    let first = c .before .before .before .before .before .before .token-at in
+    lead-by (start .args .line .now) (start .args .at) (first .ensures) (c .before .before .before .before .token2 .given .1) Print (first .result .next) (c .token-at3 .ensures) (rw (c .before .enum-told3 .given .1, c .token-at3 .ensures) (reads-same (printAt (start .args .line .now) (after (start .args .line .now) (first .result)))))
 
 returns-6 : tie.Need-returns-6
-returns-6 c = lead-by (c .before .before .before .before .before .before .args .line .now) (c .before .before .before .before .before .before .args .at) (c .before .before .before .before .token-at .ensures) (c .before .before .token2 .given .1) Else (c .before .before .before .before .before .before .args .at) (c .before .before .before .before .token-at .ensures) (mark-leads (c .before .before .before .before .before .before .args .line .now) (c .before .before .before .before .token-at .result) (c .before .before .token2 .given .0 .0) (c .match3 .keys2))
+returns-6 c =
+    let start = c .before .before .before .before .before .before in
+    let first = c .before .before .before .before .token-at in
+    lead-by (start .args .line .now) (start .args .at) (first .ensures) (c .before .before .token2 .given .1) Else (start .args .at) (first .ensures) (mark-leads (start .args .line .now) (first .result) (c .before .before .token2 .given .0 .0) (c .match3 .keys2))
 
 returns-7 : tie.Need-returns-7
-returns-7 c = lead-by (c .before .before .before .args .line .now) (c .before .before .before .args .at) (c .before .token-at .ensures) refl Else (c .before .before .before .args .at) (c .before .token-at .ensures) (none-leads (c .before .before .before .args .line .now) (c .before .token-at .result) (c .before .token-at .result .token) (c .match .keys5))
+returns-7 c =
+    let start = c .before .before .before in
+    let first = c .before .token-at in
+    lead-by (start .args .line .now) (start .args .at) (first .ensures) refl Else (start .args .at) (first .ensures) (none-leads (start .args .line .now) (first .result) (first .result .token) (c .match .keys5))
 
 pub lead-at-spec : {M : Type 1} → statement M
 lead-at-spec =
