@@ -10,7 +10,7 @@ use Rattle.whole.specs.Texts as texts
 use Rattle.whole.specs.declared.errors.Error.the-variants.{OutputFull}
 use Rattle.words.specs.declared.places.Place.{Place}
 use Rattle.words.specs.declared.symbols.Scanned.{Scanned}
-use Rattle.words.specs.declared.symbols.Sign.the-variants.{Comma, Semicolon}
+use Rattle.words.specs.declared.symbols.Sign.the-variants.{Comma}
 use Rattle.words.proofs.Choices.{by-test}
 use Rattle.space.specs.Moves.{copied}
 use Rattle.space.proofs.Bounds.{by-bound}

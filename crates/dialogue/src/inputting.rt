@@ -179,6 +179,7 @@ fn asked_at(line: &[u8], first: Scanned) -> Query
     }
 }
 
+// The text is printed, then the variable is set to a line of input.
 pub fn line_input(
     line: &[u8],
     here: Place,

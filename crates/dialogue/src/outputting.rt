@@ -115,7 +115,7 @@ fn print_end(machine: Machine, quiet: bool, room: &mut [u8], here: Place, ahead:
     goes_on(with_printer(machine, printed.printer), here, ahead)
 }
 
-// What follows the last item.
+// Whether no item is left.
 fn ends_items(ahead: Scanned) -> bool
     ensures { λ r. ⌜ r ≡ endsStatement (ahead .token) ⌝ }
 {
