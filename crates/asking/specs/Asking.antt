@@ -1,6 +1,6 @@
 -- Asking for one variable after a run: not a name, or a space that ends before its bytes, is 111; an unset variable is 0 or empty; a
 -- string is answered as its part of the space.
-use mathlib.Core.Bool.{Bool, true, false, cond, _&&_}
+use mathlib.Core.Bool.{Bool, cond, _&&_}
 use mathlib.Core.List.{List}
 use Prim.Native.Nat.{ℕ, _+_}
 use lib.Dec.{leb, eqb}
@@ -17,10 +17,8 @@ use Rattle.grammar.specs.Tests.{onName}
 use Rattle.variables.specs.Variables.{wordOf}
 use Rattle.variables.specs.Memory.{namesIn, numbersIn, slotIn, sumOf}
 use Rattle.variables.specs.declared.tables.Tables.{Tables}
-use Rattle.variables.specs.declared.tables.Strings.{Strings}
 use Rattle.variables.specs.declared.tables.Slot.{Slot}
 use Rattle.variables.specs.declared.tables.Slot.the-variants as slot
-use Rattle.space.specs.declared.offsets.Offset.{Offset}
 use Rattle.asking.specs.declared.asking.Asked.{Asked}
 use Rattle.asking.specs.declared.asking.Asked.the-variants.{Whole, Text, Refused}
 

@@ -1,12 +1,12 @@
 -- Words of two bytes each, and the bytes of words.
 use mathlib.Core.Path.{_≡_, refl, sym, ap, _∙_}
 use mathlib.Core.List.{List, [], _∷_, _++_}
-use Prim.Native.Nat.{ℕ, zero, suc, _+_, _*_, _/_, _%_, _≤_, _<_}
+use Prim.Native.Nat.{ℕ, zero, suc, _+_, _*_, _/_, _%_, _<_}
 use native.Mathlib.Nat.{div-add-mod'}
 use native.Mathlib.Numerals.{add-one}
 use native.Mathlib.Omega.{arith}
 use lib.ListN.{length, getD, set, take, drop, length-set}
-use lib.Seq.{take-suc, take-suc-set, append-snoc, getD-drop}
+use lib.Seq.{take-suc-set, append-snoc, getD-drop}
 use Rattle.blocks.specs.Blocks.{wordsFrom, wordBytes}
 
 -- ---- words read

@@ -1,7 +1,7 @@
 -- The check. It loads (100 to 105), then refuses with an error number and the first faulty line's number; in a line 2, then 16,
 -- then 13 (a formula, condition, argument, target or NEXT's name of the wrong type, in any branch), then 8 (a line named in a
 -- statement but missing, in any branch). It refuses in no other case.
-use mathlib.Core.Bool.{Bool, true, false, cond, not, _||_}
+use mathlib.Core.Bool.{Bool, false, cond, not, _||_}
 use mathlib.Core.List.{List, [], _∷_}
 use Prim.Native.Nat.{ℕ}
 use lib.Dec.{ltb}

@@ -1,6 +1,5 @@
 -- A line that grows by bytes and by numbers in digits.
-use mathlib.Core.Path.{_≡_, refl, sym, ap, _∙_}
-use mathlib.Core.Logic.{⊎-elim}
+use mathlib.Core.Path.{_≡_, sym, ap, _∙_}
 use mathlib.Core.List.{List, [], _∷_, _++_, append-assoc, append-nil}
 use Prim.Native.Nat.{ℕ, zero, suc, _+_, _-_, _*_, _/_, _%_, _^_, _≤_, _<_, suc-le-suc}
 use native.Mathlib.Nat.{div-lt-iff-lt-mul, le-div-iff-mul-le, pow-zero, pow-suc, mod-eq-of-lt, mod-lt}

@@ -10,7 +10,6 @@ ghost use Rattle.grammar.specs.Formulas as formulas;
 ghost use Rattle.grammar.specs.Formulas.{formulaOf};
 ghost use Rattle.variables.specs.Memory.{slotIn, wordAt};
 ghost use Rattle.statements.specs.Statements.{done, variableOf, forAt};
-ghost use Rattle.machine.specs.Machine as spec;
 ghost use Rattle.machine.specs.Machine.{sought};
 ghost use Rattle.machine.specs.Holding.{positionOf, Positioned, isSought, seeksCall, Settled, Sound};
 ghost use Rattle.machine.specs.declared.records.Found.the-variants as found;

@@ -26,20 +26,8 @@ use Rattle.scanner.specs.Tokens.{
 }
 use Rattle.grammar.specs.Functions.{formFor, anyFor}
 use Rattle.grammar.specs.Formulas.{Reading, bad, good, countOf, formulaAt, climbAt, operandAt, argumentsAt, formulaOf}
-use Rattle.variables.specs.Strings.{
-  Value,
-  whole,
-  text,
-  Room,
-  Outcome,
-  value,
-  fault,
-  make,
-  letGo,
-  letAllGo,
-  produced,
-}
-use Rattle.variables.specs.Variables.{StringVariable, Variables, wordOf, bytesOf, stringBytes}
+use Rattle.variables.specs.Strings.{whole, text, Outcome, value, fault, make, letGo, letAllGo, produced}
+use Rattle.variables.specs.Variables.{Variables, wordOf, bytesOf, stringBytes}
 use Rattle.strings.specs.Functions.{argument, startsWith, found, placeOf}
 use Rattle.operators.specs.Values.{isBefore, wantAt, valueOf, valuesOf}
 

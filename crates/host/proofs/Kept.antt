@@ -4,7 +4,7 @@ use mathlib.Core.Bool.{true, false}
 use mathlib.Core.List.{List, [], _∷_, _++_, map}
 use Prim.Native.Nat.{ℕ, _+_, _-_, _*_, _<_}
 use native.Mathlib.Omega.{arith}
-use lib.ListN.{length, replicate, length-append, length-replicate, length-map}
+use lib.ListN.{length, replicate, length-append, length-map}
 use Rattle.words.specs.declared.names.Telling.{Telling}
 use Rattle.variables.specs.Memory.{nameBytes, numbersTable, stringsTable}
 use Rattle.variables.specs.Variables.{NumberVariable, StringVariable}

@@ -10,10 +10,7 @@ use loader::Refusal;
 use loader::refusal_number;
 use runner::Outcome;
 use runner::Ran;
-use whole::Error;
 use whole::number_of;
-use words::LineNumber;
-use words::Place;
 
 // The outcomes.
 const ENDED: u64 = 0;

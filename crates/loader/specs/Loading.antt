@@ -10,7 +10,6 @@ use Rattle.words.specs.Places.{place, lineNumber}
 use Rattle.loader.specs.Lines.{Line, linesOf, numberOf}
 use Rattle.loader.specs.declared.lines.NumberFound.{NumberFound}
 use Rattle.loader.specs.declared.lines.NumberFound.the-variants as number
-use Rattle.loader.specs.declared.refusals.Refusal.{Refusal}
 use Rattle.loader.specs.declared.refusals.Refusal.the-variants.{
   TextTooLong,
   LineTooLong,

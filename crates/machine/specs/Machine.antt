@@ -1,8 +1,8 @@
 -- The machine: what a run has, and where it stands.
-use mathlib.Core.Bool.{Bool, true, false, cond}
+use mathlib.Core.Bool.{Bool, false, cond}
 use mathlib.Core.List.{List, [], _∷_, _++_}
-use Prim.Native.Nat.{ℕ, zero, suc, _+_, _-_, _%_, max}
-use lib.Dec.{ltb, leb, eqb}
+use Prim.Native.Nat.{ℕ, suc, _+_, _-_, _%_}
+use lib.Dec.{ltb, eqb}
 use lib.IntN.{pos}
 use lib.Signed.{ltZ}
 use lib.ListN.{length, replicate}

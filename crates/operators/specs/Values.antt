@@ -1,13 +1,12 @@
 -- What a formula comes to. Operands are worked out left first, and each operand's type is tested as soon as it is worked out: a
 -- minus sign, NOT, and every operator but `+` and the comparisons want whole numbers; `+` and comparisons want the right side to be
 -- of the left's type. Arguments are tested likewise, one by one, before the next is begun.
-use mathlib.Core.Bool.{Bool, true, false, cond, not, _&&_}
+use mathlib.Core.Bool.{Bool, true, false, cond, not}
 use mathlib.Core.List.{List, [], _∷_, _++_}
 use Prim.Native.Nat.{ℕ, zero, suc}
 use lib.Dec.{ltb, eqb}
 use lib.ListN.{length}
 use Rattle.whole.specs.Whole.{applied, negated, flipped, say}
-use Rattle.whole.specs.declared.arithmetic.Answer.{Answer}
 use Rattle.whole.specs.declared.arithmetic.Answer.the-variants.{Whole}
 use Rattle.whole.specs.declared.arithmetic.Operator.{Operator}
 use Rattle.whole.specs.declared.arithmetic.Operator.the-variants.{
@@ -40,7 +39,7 @@ use Rattle.grammar.specs.Functions.{wants}
 use Rattle.grammar.specs.Formulas.{countOf}
 use Rattle.grammar.specs.declared.functions.Want.{Want}
 use Rattle.grammar.specs.declared.functions.Want.the-variants as want
-use Rattle.variables.specs.Strings.{Value, whole, text, Room, Outcome, value, fault, then, make, letAllGo, produced}
+use Rattle.variables.specs.Strings.{Value, whole, text, Room, Outcome, value, fault, then, make, produced}
 use Rattle.variables.specs.Variables.{Variables, wordOf, bytesOf}
 use Rattle.strings.specs.Functions.{answered, called}
 

@@ -13,9 +13,9 @@ use Rattle.words.specs.Vocabulary.{reserved}
 use Rattle.words.specs.Names.{tellingOf}
 use Rattle.words.specs.declared.symbols.Token.the-variants.{EndOfLine}
 use Rattle.scanner.specs.Tokens.{markOf, wordToken, numberToken, hexFrom, hexToken, textToken, signToken, tokenAt, _upto_}
-use Rattle.grammar.specs.Trees.{Formula, number, twoSided}
+use Rattle.grammar.specs.Trees.{number, twoSided}
 use Rattle.grammar.specs.Functions.{formFor, anyFor}
-use Rattle.grammar.specs.Formulas.{Reading, good, countOf, formulaAt, climbAt, operandAt, argumentsAt, formulaOf}
+use Rattle.grammar.specs.Formulas.{good, countOf, formulaAt, climbAt, operandAt, argumentsAt, formulaOf}
 use Rattle.expressions.specs.Types.{allMeet, sortOf, sortsOf, depthOf, deepestOf}
 use Rattle.statements.specs.Statements.{itemsAt, printAt, forAt, inputAt, begunAt, partAt, readLine}
 use Rattle.statements.specs.Parts.{deepest, allSome, statementsOf, withinIf, deepestIn, allTyped}

@@ -13,7 +13,6 @@ use statements::statement_at;
 use words::Place;
 use words::Scanned;
 use words::Sign;
-use words::Token;
 use words::Word;
 
 // A line does not read, is nested too deep, or reads; then whether all its types are right.

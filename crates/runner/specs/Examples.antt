@@ -3,7 +3,6 @@ use mathlib.Core.Path.{_≡_, refl}
 use mathlib.Core.List.{List, [], _∷_, map}
 use Prim.Native.Nat.{ℕ}
 use Prim.Native.String.{String}
-use lib.ListN.{length}
 use Rattle.whole.specs.Bytes.{bytes, leading}
 use Rattle.whole.specs.Digits.{isDigit, valueFrom, signedValue}
 use Rattle.whole.specs.Whole.{num, fit}
@@ -23,7 +22,7 @@ use Rattle.expressions.specs.Types.{depthOf, deepestOf}
 use Rattle.statements.specs.Statements.{itemsAt, printAt, forAt, inputAt, begunAt, partAt, readLine}
 use Rattle.statements.specs.Parts.{deepest, statementsOf, withinIf, deepestIn}
 use Rattle.variables.specs.Strings.{make, letGo, letAllGo, produced}
-use Rattle.variables.specs.Variables.{NumberVariable, wordOf, bytesOf, stringBytes, hasNumber, hasString, setNumber, setString, joinedStrings}
+use Rattle.variables.specs.Variables.{wordOf, bytesOf, stringBytes, hasNumber, hasString, setNumber, setString, joinedStrings}
 use Rattle.strings.specs.Functions.{argument, startsWith, found, placeOf}
 use Rattle.operators.specs.Values.{isBefore, wantAt, valueOf, valuesOf}
 use Rattle.machine.specs.Machine.{columnAfter, write, sought, passed}

@@ -2,7 +2,7 @@
 use mathlib.Core.Bool.{Bool, true, false, cond}
 use mathlib.Core.List.{List, [], _∷_, _++_}
 use Prim.Native.Nat.{ℕ, zero, suc, _+_, _-_}
-use lib.Dec.{ltb, eqb}
+use lib.Dec.{ltb}
 use lib.ListN.{length, drop, replicate}
 use Rattle.whole.specs.Digits.{leadingDigits, leadingValue}
 use Rattle.whole.specs.Errors.{numberOf}
@@ -13,12 +13,10 @@ use Rattle.loader.specs.Loading.{loadOf}
 use Rattle.loader.specs.Refusals.{refusalNumber}
 use Rattle.loader.specs.declared.loading.Loaded.{Loaded}
 use Rattle.loader.specs.declared.loading.Loaded.the-variants as loaded
-use Rattle.loader.specs.declared.refusals.Refusal.{Refusal}
 use Rattle.loader.specs.declared.refusals.Refusal.the-variants.{SpaceTooLong}
-use Rattle.words.specs.declared.places.Place.{Place}
 use Rattle.words.specs.Places.{place, lineNumber}
 use Rattle.words.specs.declared.places.LineNumber.{LineNumber}
-use Rattle.grammar.specs.Trees.{Statement, Part, last, more}
+use Rattle.grammar.specs.Trees.{Part, more}
 use Rattle.statements.specs.Statements.{LineReading, doesNotRead, reads, readLine}
 use Rattle.statements.specs.Parts.{statementsOf, deepestIn}
 use Rattle.variables.specs.Variables.{Variables, stringBytes, joinedStrings}
@@ -27,7 +25,7 @@ use Rattle.variables.specs.declared.tables.Tables.{Tables}
 use Rattle.runner.specs.declared.running.Ran as code
 use Rattle.runner.specs.declared.running.Outcome.{Outcome}
 use Rattle.runner.specs.declared.running.Outcome.the-variants.{Ended, Stopped, Out, Failed, Refused}
-use Rattle.machine.specs.Machine.{Rest, nothing, part, Position, Machine, fresh, withStep, headOf, tailOf}
+use Rattle.machine.specs.Machine.{Rest, nothing, part, Machine, fresh, withStep, headOf, tailOf}
 use Rattle.turns.specs.Steps.{Next, goesOn, enters, ends, stops, fails, doStatement}
 
 pub record Ran : Type 0 where

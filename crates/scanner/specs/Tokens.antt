@@ -36,7 +36,7 @@ use Rattle.words.specs.declared.symbols.Token.the-variants.{
   Unreadable,
 }
 use Rattle.scanner.specs.Runs.{passes}
-use Rattle.scanner.specs.declared.runs.Run.the-variants.{Word, Hex, Unquoted}
+use Rattle.scanner.specs.declared.runs.Run.the-variants.{Word, Unquoted}
 use Rattle.scanner.specs.declared.tokens.Mark.{Mark}
 use Rattle.scanner.specs.declared.tokens.Mark.the-variants.{Dollar, Percent, Bare}
 

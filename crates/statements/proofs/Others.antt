@@ -2,7 +2,7 @@
 use mathlib.Core.Path.{_≡_, refl, sym, ap, _∙_}
 use mathlib.Core.Bool.{Bool, true, false}
 use mathlib.Core.List.{List, [], _∷_, map}
-use mathlib.Core.Logic.{_⊎_, inl, inr}
+use mathlib.Core.Logic.{inl, inr}
 use Prim.Native.Nat.{ℕ, zero, suc}
 use denote.Enum.Declared.{tagOf}
 use types.Run.{OneOf, miss}
@@ -15,7 +15,7 @@ use Rattle.words.specs.declared.symbols.Word.{Word}
 use Rattle.words.specs.declared.symbols.Word.the-variants.{Let, Print, If, Then, Else, Goto, Gosub, Return, For, To, Step, Next, Line, Input, End, Stop, Rem, While, Wend, Data, Read, Restore}
 use Rattle.grammar.specs.Tests.{choose}
 use Rattle.grammar.specs.Formulas.{after}
-use Rattle.statements.specs.Statements.{Begun, bad, byWord, byMark, numberAt, byToken}
+use Rattle.statements.specs.Statements.{bad, byWord, byMark, numberAt, byToken}
 use Rattle.statements.specs.Parts.{deepest}
 use Rattle.statements.specs.Answers.{nameOf, isQuoted, formedRead, begunAnswer}
 use Rattle.statements.specs.declared.reading.NameFound.the-variants.{None}

@@ -4,7 +4,7 @@ use mathlib.Core.Bool.{Bool, true, _&&_}
 use mathlib.Core.List.{List, [], _∷_, _++_}
 use Prim.Native.Nat.{ℕ, max}
 use Rattle.grammar.specs.Trees.{Formula, Variable, Item, comma, semicolon, shown, Statement, empty, assign, print, ifThen, ifElse, goto, gosub, return, for, next, nextOf, lineInput, end, stop, remark, Part, last, more}
-use Rattle.expressions.specs.Types.{isWhole, isText, isSome, isOf, sortOf, depthOf}
+use Rattle.expressions.specs.Types.{isWhole, isSome, isOf, sortOf, depthOf}
 use Rattle.expressions.specs.declared.sorts.Sort.the-variants.{Whole, Text}
 use Rattle.grammar.specs.declared.tests.NamedLine.{NamedLine}
 use Rattle.grammar.specs.declared.tests.NamedLine.the-variants.{Names, NoLine}

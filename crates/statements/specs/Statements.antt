@@ -1,5 +1,5 @@
 -- How statements read, each from the token t that it begins with, and the parts that they make.
-use mathlib.Core.Bool.{Bool, true, false, cond, _||_}
+use mathlib.Core.Bool.{Bool, true, false, _||_}
 use mathlib.Core.List.{List, [], _∷_}
 use Prim.Native.Nat.{ℕ, zero, suc}
 use Rattle.words.specs.Names.{nameBytes, tellingOf}

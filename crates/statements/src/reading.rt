@@ -8,7 +8,7 @@ ghost use Rattle.grammar.specs.Trees.{Formula, Variable, goto, next, nextOf};
 ghost use Rattle.grammar.specs.Formulas.{Reading, good, after, formulaOf};
 ghost use Rattle.expressions.specs.Types.{sortOf, depthOf};
 ghost use Rattle.statements.specs.Statements.{bad, done, choice, onFormula, variableOf, assignAt, isSeparator, printAt, ifAt, stepAt, limitAt, forAt, targetAt, inputAt, byWord, byMark, numberAt, begunAt};
-ghost use Rattle.expressions.specs.Types.{isWhole, isOf};
+ghost use Rattle.expressions.specs.Types.{isWhole};
 ghost use Rattle.statements.specs.Parts.{isNumber};
 ghost use Rattle.expressions.specs.Answers.{cappedDepth};
 ghost use Rattle.statements.specs.Answers.{nameOf, isQuoted, formedRead, begunAnswer, boundOf};

@@ -1,14 +1,11 @@
 -- What each statement does, in the order of the paper's tests. `after` is where the run goes on after the statement.
-use mathlib.Core.Bool.{Bool, true, false, cond, not, _&&_, _||_}
-use mathlib.Core.List.{List, [], _∷_, _++_}
-use Prim.Native.Nat.{ℕ, zero, suc, _+_, _-_}
-use Prim.Native.Char.{code}
+use mathlib.Core.Bool.{Bool, true, false, cond}
+use mathlib.Core.List.{List, [], _∷_}
+use Prim.Native.Nat.{ℕ, _+_, _-_}
 use lib.Dec.{ltb, leb, eqb}
-use lib.IntN.{ℤ, pos}
-use lib.Signed.{ltZ}
 use lib.ListN.{length, drop}
 use Rattle.whole.specs.Texts as texts
-use Rattle.whole.specs.Whole.{num, applied}
+use Rattle.whole.specs.Whole.{applied}
 use Rattle.whole.specs.declared.arithmetic.Answer.{Answer}
 use Rattle.whole.specs.declared.arithmetic.Answer.the-variants.{Whole, Fault}
 use Rattle.whole.specs.declared.arithmetic.Operator.the-variants.{Add}
@@ -27,12 +24,11 @@ use Rattle.words.specs.Names.{alike}
 use Rattle.words.specs.declared.names.Kind.{Kind}
 use Rattle.words.specs.declared.names.Kind.the-variants as kind
 use Rattle.words.specs.declared.names.Telling.{Telling}
-use Rattle.words.specs.declared.places.LineNumber.{LineNumber}
 use Rattle.loader.specs.Lines.{Line, linesOf, linesFrom, fromNumber}
 use Rattle.grammar.specs.Trees as tree
 use Rattle.grammar.specs.Trees.{Formula, Variable, Item, Statement, Part}
-use Rattle.variables.specs.Strings.{Value, whole, text, Room, Outcome, value, fault, make, letGo}
-use Rattle.variables.specs.Variables.{Variables, wordOf, setNumber, setString, numbersFull, stringsFull}
+use Rattle.variables.specs.Strings.{Value, whole, text, Outcome, value, fault, make}
+use Rattle.variables.specs.Variables.{wordOf, setNumber, setString, numbersFull, stringsFull}
 use Rattle.operators.specs.Values.{valueOf}
 use Rattle.machine.specs.Machine.{
   nothing,

@@ -1,6 +1,6 @@
 // The text of a whole number, built in a buffer by value: a string holds 0 to 255 bytes.
 ghost use mathlib.Core.Path.{_≡_};
-ghost use mathlib.Core.List.{List, [], _∷_, _++_};
+ghost use mathlib.Core.List.{List, [], _++_};
 ghost use Prim.Native.Nat.{ℕ, suc, _+_, _^_, _≤_, _<_};
 ghost use lib.ListN.{length};
 ghost use Rattle.whole.specs.Texts.{held, withByte, digitByte, numeral, shown, printed, hexadecimal};

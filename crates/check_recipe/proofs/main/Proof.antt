@@ -1,7 +1,5 @@
 -- The bytes of the recipe are the first ones of the room.
-use mathlib.Core.Path.{_≡_, sym, ap, _∙_}
 use borrow.Author.Needs.{needs}
-use Rattle.io.specs.Counts.{Counts}
 use Rattle.check_recipe.proofs.main.Statement.{statement}
 use Rattle.check_recipe.proofs.main.Tie as tie
 

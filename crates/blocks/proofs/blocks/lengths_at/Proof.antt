@@ -1,7 +1,6 @@
 -- The part of the block is copied over as many zeros.
-use mathlib.Core.Path.{_≡_, ap, _∙_}
-use Prim.Native.Nat.{_+_, _-_, _≤_}
-use native.Mathlib.Omega.{arith}
+use mathlib.Core.Path.{_∙_}
+use Prim.Native.Nat.{_-_}
 use borrow.Author.Needs.{needs}
 use Rattle.blocks.proofs.Parts.{part-copied}
 use Rattle.blocks.proofs.blocks.lengths_at.Statement.{statement}

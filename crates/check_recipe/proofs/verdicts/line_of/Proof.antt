@@ -1,5 +1,5 @@
 -- The line is that of what the check answers.
-use mathlib.Core.Path.{_≡_, sym, ap, _∙_}
+use mathlib.Core.Path.{ap, _∙_}
 use borrow.Author.Needs.{needs}
 use Rattle.whole.specs.Texts.{held}
 use Rattle.check_recipe.specs.Answers.{lineOf}

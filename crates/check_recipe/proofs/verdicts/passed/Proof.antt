@@ -1,11 +1,8 @@
 -- A word that was put into an empty text, and an end, are a line (`line-put`).
-use mathlib.Core.Path.{_≡_, sym, ap, _∙_}
 use mathlib.Core.List.{[]}
 use native.Mathlib.Omega.{arith}
 use borrow.Author.Needs.{needs}
 use Rattle.whole.specs.Bytes.{bytes}
-use Rattle.whole.specs.Texts.{held, withByte}
-use Rattle.console.specs.Lines.{withBytes}
 use Rattle.console.proofs.Writing.{line-put}
 use Rattle.check_recipe.proofs.verdicts.passed.Statement.{statement}
 use Rattle.check_recipe.proofs.verdicts.passed.Tie as tie

@@ -1,5 +1,4 @@
 -- Each verdict has its line.
-use mathlib.Core.Path.{_≡_, sym, ap, _∙_}
 use borrow.Author.Needs.{needs}
 use Rattle.check_recipe.proofs.verdicts.told.Statement.{statement}
 use Rattle.check_recipe.proofs.verdicts.told.Tie as tie

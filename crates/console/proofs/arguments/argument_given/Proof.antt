@@ -1,7 +1,5 @@
 -- A number that is given is within its limit.
-use mathlib.Core.Path.{sym}
 use borrow.Author.Needs.{needs}
-use Rattle.console.specs.Arguments.{Limited}
 use Rattle.console.proofs.Values.{given-limited}
 use Rattle.console.proofs.arguments.argument_given.Statement.{statement}
 use Rattle.console.proofs.arguments.argument_given.Tie as tie

@@ -1,5 +1,5 @@
 -- The fewest digits that hold a number are its numeral (`decimal-digits`).
-use mathlib.Core.Path.{_≡_, sym, ap, _∙_}
+use mathlib.Core.Path.{ap, _∙_}
 use borrow.Author.Needs.{needs}
 use Rattle.console.specs.Lines.{withBytes, decimal}
 use Rattle.console.proofs.Writing.{decimal-digits}

@@ -6,13 +6,6 @@ use Rattle.dialogue.proofs.Asking.{fills-none, fills-number, fills-stri
 use borrow.Author.Needs.{needs}
 use Rattle.dialogue.proofs.inputting.fill.Statement.{statement}
 use Rattle.dialogue.proofs.inputting.fill.Tie as tie
-use Rattle.dialogue.proofs.inputting.fill.Reads as reads
-use Rattle.dialogue.proofs.inputting.fill.Lts as lts
-use Rattle.space.proofs.copy_in.Reads as copy-in-reads
-use Rattle.turns.proofs.stored_or_full.Reads as stored-or-full-reads
-use Rattle.turns.proofs.with_string.Reads as with-string-reads
-use Rattle.turns.proofs.fails.Reads as fails-reads
-use Rattle.words.proofs.telling_of.Reads as telling-of-reads
 
 sub-if1 : tie.Need-sub-if1
 sub-if1 c = search needs

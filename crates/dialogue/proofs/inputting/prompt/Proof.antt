@@ -8,13 +8,6 @@ use Rattle.dialogue.proofs.Asking.{asks-full, asks-on, printed-settled,
 use borrow.Author.Needs.{needs}
 use Rattle.dialogue.proofs.inputting.prompt.Statement.{statement}
 use Rattle.dialogue.proofs.inputting.prompt.Tie as tie
-use Rattle.dialogue.proofs.inputting.prompt.Reads as reads
-use Rattle.dialogue.proofs.inputting.prompt.Lts as lts
-use Rattle.machine.proofs.write.Reads as write-reads
-use Rattle.dialogue.proofs.inputting.take_in.Reads as take-in-reads
-use Rattle.dialogue.proofs.outputting.with_printer.Reads as with-printer-reads
-use Rattle.turns.proofs.fails.Reads as fails-reads
-use Rattle.scanner.proofs.token_at.Reads as token-at-reads
 
 write-requires : tie.Need-write-requires
 write-requires c κs = search needs

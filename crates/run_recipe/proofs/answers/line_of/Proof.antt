@@ -1,5 +1,4 @@
 -- A word, three fields and an end are a line (`line-held`).
-use mathlib.Core.Path.{_≡_, sym, ap, _∙_}
 use mathlib.Core.List.{[], _∷_}
 use native.Mathlib.Omega.{arith}
 use borrow.Author.Needs.{needs}

@@ -1,5 +1,4 @@
 -- A word that was put into an empty text is what the text holds (`held-bytes`).
-use mathlib.Core.Path.{_≡_, sym, ap, _∙_}
 use mathlib.Core.List.{[]}
 use native.Mathlib.Omega.{arith}
 use borrow.Author.Needs.{needs}
