@@ -17,13 +17,13 @@ use Rattle.words.specs.declared.symbols.Token.{Token}
 use Rattle.words.specs.declared.symbols.Token.the-variants as token
 use Rattle.scanner.specs.Tokens.{tokenAt}
 use Rattle.grammar.specs.Tests.{onName}
-use Rattle.variables.specs.Memory.{sumOf}
+use Rattle.variables.specs.Tables.{sumOf}
 use Rattle.variables.specs.declared.tables.Slot.{Slot}
 use Rattle.variables.specs.declared.tables.Slot.the-variants as slot
 use Rattle.variables.specs.declared.tables.Tables.{Tables}
 use Rattle.asking.specs.Asking.{stringAsked, asked, askOf}
-use Rattle.asking.specs.declared.asking.Asked.{Asked}
-use Rattle.asking.specs.declared.asking.Asked.the-variants.{Text, Refused}
+use Rattle.asking.specs.declared.questions.Asked.{Asked}
+use Rattle.asking.specs.declared.questions.Asked.the-variants.{Text, Refused}
 
 -- ---- a string, by its entry
 

@@ -15,12 +15,12 @@ use Rattle.words.specs.declared.symbols.Scanned.{Scanned}
 use Rattle.scanner.specs.Tokens.{tokenAt}
 use Rattle.grammar.specs.Tests.{onName}
 use Rattle.variables.specs.Variables.{wordOf}
-use Rattle.variables.specs.Memory.{namesIn, numbersIn, slotIn, sumOf}
+use Rattle.variables.specs.Tables.{namesIn, numbersIn, slotIn, sumOf}
 use Rattle.variables.specs.declared.tables.Tables.{Tables}
 use Rattle.variables.specs.declared.tables.Slot.{Slot}
 use Rattle.variables.specs.declared.tables.Slot.the-variants as slot
-use Rattle.asking.specs.declared.asking.Asked.{Asked}
-use Rattle.asking.specs.declared.asking.Asked.the-variants.{Whole, Text, Refused}
+use Rattle.asking.specs.declared.questions.Asked.{Asked}
+use Rattle.asking.specs.declared.questions.Asked.the-variants.{Whole, Text, Refused}
 
 -- the whole of what is given is one name
 abbrev pub isWholeName : List ℕ → Scanned → Name → Bool

@@ -1,5 +1,5 @@
 // Asking for one variable after a run.
-mod asking;
+mod questions;
 
-pub use asking::Asked;
-pub use asking::ask;
+pub use questions::Asked;
+pub use questions::ask;

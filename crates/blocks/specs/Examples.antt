@@ -2,7 +2,7 @@
 use mathlib.Core.Path.{_≡_, refl}
 use mathlib.Core.List.{[], _∷_}
 use lib.ListN.{replicate}
-use Rattle.variables.specs.Memory.{emptyTables}
+use Rattle.variables.specs.Tables.{emptyTables}
 use Rattle.blocks.specs.Blocks.{wordsFrom, wordBytes, tablesIn, blockOf}
 
 -- a block of zeros holds no variables

@@ -1,6 +1,6 @@
 // The variable tables as the block of bytes that a host keeps between a run and its questions.
-mod blocks;
+mod layout;
 
-pub use blocks::Block;
-pub use blocks::block_of;
-pub use blocks::tables_in;
+pub use layout::Block;
+pub use layout::block_of;
+pub use layout::tables_in;

@@ -13,8 +13,8 @@ use Rattle.loader.specs.declared.lines.LineFound.the-variants.{Is, None}
 use Rattle.grammar.specs.Trees.{Statement, Part}
 use Rattle.statements.specs.Statements.{Begun, bad, done, choice, begunAt, reads, readLine}
 use Rattle.statements.specs.Parts.{namedLine, statementsOf}
-use Rattle.statements.specs.Answers.{begunAnswer}
-use Rattle.reader.specs.Answers.{followOf}
+use Rattle.statements.specs.bridge.Answers.{begunAnswer}
+use Rattle.reader.specs.bridge.Answers.{followOf}
 use Rattle.reader.specs.declared.lines.Follow.{Follow}
 use Rattle.reader.specs.declared.lines.Follow.the-variants as follow
 use Rattle.statements.specs.declared.reading.StatementRead.{StatementRead}
@@ -22,7 +22,7 @@ use Rattle.grammar.specs.declared.tests.NamedLine.{NamedLine}
 use Rattle.grammar.specs.declared.tests.NamedLine.the-variants.{Names, NoLine}
 use Rattle.reader.proofs.Visits.{Question, asked, answered, Ahead, line-ahead, Onward, Visit, visit}
 use Rattle.checker.specs.Check.{present, missing, anyMissing}
-use Rattle.checker.specs.Answers.{namesOf}
+use Rattle.checker.specs.bridge.Answers.{namesOf}
 
 -- ---- the search for a line
 

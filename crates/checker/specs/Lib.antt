@@ -1,3 +1,3 @@
 pub mod Check
-pub mod Answers
 pub mod Examples
+pub mod bridge

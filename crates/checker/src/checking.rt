@@ -5,7 +5,7 @@ ghost use Rattle.grammar.specs.Trees.{Part};
 ghost use Rattle.statements.specs.Statements.{reads, readLine};
 ghost use Rattle.statements.specs.Parts.{statementsOf};
 ghost use Rattle.checker.specs.Check.{missing, anyMissing, faultIn, checkOf};
-ghost use Rattle.checker.specs.Answers.{namesOf};
+ghost use Rattle.checker.specs.bridge.Answers.{namesOf};
 use grammar::NamedLine;
 use loader::LineFound;
 use loader::Loaded;

@@ -13,23 +13,22 @@ use Rattle.words.specs.declared.symbols.Word.the-variants.{Else}
 use Rattle.loader.specs.Lines.{Line}
 use Rattle.grammar.specs.Tests.{isKeyword}
 use Rattle.grammar.specs.Trees.{Formula, Part, ifThen, ifElse}
-use Rattle.statements.specs.Statements.{goodPart}
-use Rattle.statements.specs.Answers.{partOf}
+use Rattle.statements.specs.Statements.{goodPart, partOf}
 use Rattle.reader.specs.Lines.{elseAt}
 use Rattle.reader.specs.declared.branches.Branch.the-variants as way
 use Rattle.variables.specs.declared.values.Worked.the-variants.{Whole, Text, Fault}
 use Rattle.machine.specs.Machine as spec
 use Rattle.machine.specs.Machine.{part}
-use Rattle.machine.specs.Holding.{linesAt, bodyOf, positionOf, Positioned, Sound}
-use Rattle.machine.specs.declared.machine.Machine.{Machine}
+use Rattle.machine.specs.bridge.Holding.{linesAt, bodyOf, positionOf, Positioned, Sound}
+use Rattle.machine.specs.declared.state.Machine.{Machine}
 use Rattle.machine.specs.declared.positions.Position.{Position}
 use Rattle.machine.specs.declared.positions.Turned.{Turned}
 use Rattle.machine.specs.declared.positions.Next.the-variants as next
 use Rattle.machine.specs.declared.records.Record.{Record}
 use Rattle.turns.specs.Steps as step
 use Rattle.turns.specs.Steps.{goesOn, branch, lineOver, doStatement}
-use Rattle.turns.specs.Turns.{turnedTo, Turns, anyRecords, Valued, Standing}
-use Rattle.control.specs.Answers.{takenTurn}
+use Rattle.turns.specs.bridge.Turns.{turnedTo, Turns, anyRecords, Valued, Standing}
+use Rattle.control.specs.bridge.Answers.{takenTurn}
 use Rattle.turns.proofs.Keeping.{sound-kept, leaves-unprinted}
 use Rattle.turns.proofs.Leading.{turns-on}
 use Rattle.turns.proofs.Wholes.{turns-fault, turns-text, turns-whole}

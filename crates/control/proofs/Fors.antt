@@ -23,8 +23,8 @@ use Rattle.statements.specs.Statements.{Begun, bad, done, onFormula, variableOf
 use Rattle.variables.specs.declared.values.Worked.the-variants.{Whole}
 use Rattle.machine.specs.Machine as spec
 use Rattle.machine.specs.Machine.{below, missing, noting, roomOf}
-use Rattle.machine.specs.Holding.{positionOf, Positioned, foundIn, Sound, Same}
-use Rattle.machine.specs.declared.machine.Machine.{Machine}
+use Rattle.machine.specs.bridge.Holding.{positionOf, Positioned, foundIn, Sound, Same}
+use Rattle.machine.specs.declared.state.Machine.{Machine}
 use Rattle.machine.specs.declared.positions.Position.{Position}
 use Rattle.machine.specs.declared.positions.Turned.{Turned}
 use Rattle.machine.specs.declared.positions.Next.the-variants as next
@@ -35,8 +35,8 @@ use Rattle.machine.specs.declared.records.Sought.the-variants.{LoopOf}
 use Rattle.machine.proofs.Searching.{loop-found, loop-missing}
 use Rattle.turns.specs.Steps as step
 use Rattle.turns.specs.Steps.{goesOn, workedWhole, pushed, doStatement}
-use Rattle.turns.specs.Turns.{turnedTo, afterOf, Turns, Formed, Valued, Told, FoundBelow, numberSet}
-use Rattle.control.specs.Answers.{Counts, pushedTurn, droppedTo, loopRecord, loopTurn, loopsFrom, stepsFrom, limitsFrom, stepOf, Stepped, Limited}
+use Rattle.turns.specs.bridge.Turns.{turnedTo, afterOf, Turns, Formed, Valued, Told, FoundBelow, numberSet}
+use Rattle.control.specs.bridge.Answers.{Counts, pushedTurn, droppedTo, loopRecord, loopTurn, loopsFrom, stepsFrom, limitsFrom, stepOf, Stepped, Limited}
 use Rattle.turns.specs.declared.setting.Stored.{Stored}
 use Rattle.turns.proofs.Keeping.{sound-kept, same-noting, leaves-unprinted}
 use Rattle.turns.proofs.Leading.{turns-fails, turns-then}

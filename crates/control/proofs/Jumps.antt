@@ -16,8 +16,8 @@ use Rattle.loader.specs.declared.lines.LineSpan.{LineSpan}
 use Rattle.loader.specs.declared.lines.LineFound.the-variants.{Is, None}
 use Rattle.grammar.specs.Trees as tree
 use Rattle.machine.specs.Machine as spec
-use Rattle.machine.specs.Holding.{linesAt, positionOf, Positioned, blankRecord, recordOf, recordsIn, isSought, seeksCall, foundFrom, foundIn, Sound, Same}
-use Rattle.machine.specs.declared.machine.Machine.{Machine}
+use Rattle.machine.specs.bridge.Holding.{linesAt, positionOf, Positioned, blankRecord, recordOf, recordsIn, isSought, seeksCall, foundFrom, foundIn, Sound, Same}
+use Rattle.machine.specs.declared.state.Machine.{Machine}
 use Rattle.machine.specs.declared.positions.Position.{Position}
 use Rattle.machine.specs.declared.positions.Next.{Next}
 use Rattle.machine.specs.declared.positions.Next.the-variants as next
@@ -31,8 +31,8 @@ use Rattle.machine.proofs.Searching.{call-at, call-found, call-missing}
 use Rattle.machine.proofs.Standing.{found-begins, found-none}
 use Rattle.turns.specs.Steps as step
 use Rattle.turns.specs.Steps.{enters, fails, toLine, pushed, returned, doStatement}
-use Rattle.turns.specs.Turns.{turnedTo, Comes, Turns, anyRecords, Told, FoundBelow, withDepth}
-use Rattle.control.specs.Answers.{pushedTurn}
+use Rattle.turns.specs.bridge.Turns.{turnedTo, Comes, Turns, anyRecords, Told, FoundBelow, withDepth}
+use Rattle.control.specs.bridge.Answers.{pushedTurn}
 use Rattle.turns.proofs.Keeping.{leaves-unprinted}
 use Rattle.turns.proofs.Leading.{Led, turns-fails, turns-enters, turns-unwritten}
 

@@ -12,24 +12,24 @@ use Rattle.words.specs.declared.symbols.Scanned.{Scanned}
 use Rattle.words.specs.declared.symbols.Token.the-variants.{Named}
 use Rattle.grammar.specs.Trees as tree
 use Rattle.grammar.specs.Formulas.{after}
-use Rattle.grammar.specs.Answers.{lineOf}
+use Rattle.grammar.specs.bridge.Answers.{lineOf}
 use Rattle.grammar.specs.declared.tests.NamedLine.the-variants.{Names}
 use Rattle.statements.specs.Statements.{Begun, bad, done, variableOf, forAt}
 use Rattle.machine.specs.Machine as spec
-use Rattle.machine.specs.Holding.{positionOf, isSought, Positioned, Sound}
-use Rattle.machine.specs.declared.machine.Machine.{Machine}
+use Rattle.machine.specs.bridge.Holding.{positionOf, isSought, Positioned, Sound}
+use Rattle.machine.specs.declared.state.Machine.{Machine}
 use Rattle.machine.specs.declared.positions.Turned.{Turned}
 use Rattle.machine.specs.declared.positions.Next.the-variants as next
 use Rattle.machine.specs.declared.records.Record.{Record}
 use Rattle.machine.specs.declared.records.Found.{Found}
 use Rattle.machine.specs.declared.records.Sought.the-variants as sought
 use Rattle.turns.specs.Steps.{nextOn, doStatement}
-use Rattle.turns.specs.Turns.{turnedTo, afterOf, Turns, anyRecords, Told}
-use Rattle.turns.specs.Doing.{Begins, Does, loopAt, jumpAt, callAt}
+use Rattle.turns.specs.bridge.Turns.{turnedTo, afterOf, Turns, anyRecords, Told}
+use Rattle.turns.specs.bridge.Doing.{Begins, Does, loopAt, jumpAt, callAt}
 use Rattle.machine.proofs.Beginning.{by-for}
 use Rattle.turns.proofs.Beginning.{on-line}
 use Rattle.turns.proofs.Doing.{any-told, fails-turn}
-use Rattle.control.specs.Answers.{Counts}
+use Rattle.control.specs.bridge.Answers.{Counts}
 
 -- NEXT with a string's name
 pub next-text : {text : List ℕ} {m : Machine} {input space room : List ℕ} → Sound m input space room → (told : List Record → Type 0) (v : tree.Variable) (after : spec.Position) → v .kind ≡ kind.Text

@@ -13,13 +13,14 @@ use Rattle.whole.specs.declared.errors.Error.{Error}
 use Rattle.whole.specs.declared.errors.Error.the-variants.{NextWithoutFor, OutOfMemory}
 use Rattle.words.specs.declared.names.Telling.{Telling}
 use Rattle.variables.specs.Variables.{wordOf}
-use Rattle.variables.specs.Memory.{slotIn, wordAt}
+use Rattle.variables.specs.bridge.Memory.{wordAt}
+use Rattle.variables.specs.Tables.{slotIn}
 use Rattle.variables.proofs.Holding.{held-looked}
 use Rattle.variables.proofs.Looking.{looked-word}
 use Rattle.machine.specs.Machine as spec
 use Rattle.machine.specs.Machine.{passed}
-use Rattle.machine.specs.Holding.{positionOf, Positioned, recordsIn, isSought, seeksCall, Sound, Same}
-use Rattle.machine.specs.declared.machine.Machine.{Machine}
+use Rattle.machine.specs.bridge.Holding.{positionOf, Positioned, recordsIn, isSought, seeksCall, Sound, Same}
+use Rattle.machine.specs.declared.state.Machine.{Machine}
 use Rattle.machine.specs.declared.positions.Position.{Position}
 use Rattle.machine.specs.declared.positions.Next.the-variants as next
 use Rattle.machine.specs.declared.records.Record.{Record}
@@ -29,7 +30,7 @@ use Rattle.machine.proofs.Stacking.{loop-top}
 use Rattle.machine.proofs.Searching.{loop-found, loop-missing}
 use Rattle.turns.specs.Steps as step
 use Rattle.turns.specs.Steps.{goesOn, turned, nextOn}
-use Rattle.turns.specs.Turns.{turnedTo, Turns, Told, withDepth, numberSet}
+use Rattle.turns.specs.bridge.Turns.{turnedTo, Turns, Told, withDepth, numberSet}
 use Rattle.turns.proofs.Keeping.{leaves-unprinted}
 use Rattle.turns.proofs.Leading.{Leads, turns-fails, turns-on, turns-unwritten}
 use Rattle.turns.proofs.Storing.{storedMet, leads-number}

@@ -2,9 +2,9 @@
 ghost use mathlib.Core.List.{List};
 ghost use Prim.Native.Nat.{ℕ, _≤_};
 ghost use lib.ListN.{length};
-ghost use Rattle.machine.specs.Holding.{Settled, Sound};
-ghost use Rattle.turns.specs.Turns.{FoundBelow};
-ghost use Rattle.turns.specs.Doing.{Begins, Does, loopAt, nextAt, jumpAt, callAt};
+ghost use Rattle.machine.specs.bridge.Holding.{Settled, Sound};
+ghost use Rattle.turns.specs.bridge.Turns.{FoundBelow};
+ghost use Rattle.turns.specs.bridge.Doing.{Begins, Does, loopAt, nextAt, jumpAt, callAt};
 use crate::jumping::gosub;
 use crate::jumping::goto;
 use crate::looping::for_loop;

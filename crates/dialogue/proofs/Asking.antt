@@ -33,14 +33,14 @@ use Rattle.grammar.specs.Formulas.{after, quotedBytes}
 use Rattle.statements.specs.Statements.{Begun, bad, done, variableOf, targetAt, inputAt}
 use Rattle.statements.proofs.Findings.{by-name, by-text}
 use Rattle.variables.specs.Strings.{Room, make, fault, value, text, withString}
-use Rattle.variables.specs.Memory.{Held, spaceStored}
-use Rattle.formulas.specs.Memory.{Scans}
+use Rattle.variables.specs.bridge.Memory.{Held, spaceStored}
+use Rattle.formulas.specs.bridge.Memory.{Scans}
 use Rattle.machine.specs.Machine as spec
 use Rattle.machine.specs.Machine.{roomOf, withInput, noting}
-use Rattle.machine.specs.Holding.{positionOf, Positioned, printedAs, Settled, Sound, Same}
-use Rattle.machine.specs.Taking.{takenAt}
-use Rattle.machine.specs.declared.machine.Machine.{Machine}
-use Rattle.machine.specs.declared.machine.Printer.{Printer}
+use Rattle.machine.specs.bridge.Holding.{positionOf, Positioned, printedAs, Settled, Sound, Same}
+use Rattle.machine.specs.bridge.Taking.{takenAt}
+use Rattle.machine.specs.declared.state.Machine.{Machine}
+use Rattle.machine.specs.declared.state.Printer.{Printer}
 use Rattle.machine.specs.declared.positions.Next.{Next}
 use Rattle.machine.specs.declared.positions.Next.the-variants as next
 use Rattle.machine.specs.declared.positions.Turned.{Turned}
@@ -50,8 +50,8 @@ use Rattle.machine.proofs.Takes.{took, untaken}
 use Rattle.machine.proofs.Writing.{not-printed, room-length, written-grows, room-above, fitting-after, write-full}
 use Rattle.turns.specs.Steps as step
 use Rattle.turns.specs.Steps.{goesOn, fails, firstLine, takeLine, lineTaken, inputLine, filled, doStatement}
-use Rattle.turns.specs.Turns.{turnedTo, afterOf, Leaves, Leads, Turns, anyRecords, withPrinter, withTaken, stringSet, storedTurn}
-use Rattle.dialogue.specs.Asking.{takesLine, fillsIn}
+use Rattle.turns.specs.bridge.Turns.{turnedTo, afterOf, Leaves, Leads, Turns, anyRecords, withPrinter, withTaken, stringSet, storedTurn}
+use Rattle.dialogue.specs.bridge.Asking.{takesLine, fillsIn}
 use Rattle.turns.proofs.Keeping.{settled-kept, sound-kept, same-kept, same-noting, room-held, leaves-unprinted}
 use Rattle.turns.proofs.Leading.{leads-on, turns-fails, turns-then}
 use Rattle.turns.proofs.Storing.{string-settled, string-long, leads-string, sound-tables, turns-stored}

@@ -35,15 +35,15 @@ use Rattle.grammar.specs.Tests.{isSymbol, endsStatement}
 use Rattle.grammar.specs.Trees.{Item, comma, semicolon, shown}
 use Rattle.grammar.specs.Formulas.{after}
 use Rattle.statements.specs.Statements.{items, isSeparator}
-use Rattle.expressions.specs.Answers.{weight}
-use Rattle.statements.specs.Answers.{itemsOf}
+use Rattle.statements.specs.bridge.Answers.{itemsOf}
+use Rattle.expressions.specs.bridge.Answers.{weight}
 use Rattle.statements.proofs.Fuel.{items-unrolled}
 use Rattle.expressions.proofs.Weights.{after-lighter, symbol-reads}
 use Rattle.expressions.proofs.Grammar.{formula-lighter}
 use Rattle.statements.proofs.Views.{comma-view, semicolon-view, none-view, show-view}
-use Rattle.formulas.specs.Memory.{Scans}
-use Rattle.turns.specs.Turns.{Formed}
-use Rattle.dialogue.specs.Showing.{ItemAt}
+use Rattle.formulas.specs.bridge.Memory.{Scans}
+use Rattle.turns.specs.bridge.Turns.{Formed}
+use Rattle.dialogue.specs.bridge.Showing.{ItemAt}
 
 -- what ends a statement separates no items
 pub ends-separates-not : (t : Token) → endsStatement t ≡ true → (isSymbol Comma t ≡ false) × (isSymbol Semicolon t ≡ false)

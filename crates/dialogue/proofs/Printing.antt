@@ -16,15 +16,15 @@ use Rattle.space.specs.Moves.{copied}
 use Rattle.space.proofs.Frames.{copied-past}
 use Rattle.machine.specs.Machine as spec
 use Rattle.machine.specs.Machine.{withOutput}
-use Rattle.machine.specs.Holding.{printedAs, Settled, Fitting, Sound, Same}
-use Rattle.machine.specs.declared.machine.Machine.{Machine}
-use Rattle.machine.specs.declared.machine.Printer.{Printer}
+use Rattle.machine.specs.bridge.Holding.{printedAs, Settled, Fitting, Sound, Same}
+use Rattle.machine.specs.declared.state.Machine.{Machine}
+use Rattle.machine.specs.declared.state.Printer.{Printer}
 use Rattle.machine.specs.declared.positions.Next.{Next}
 use Rattle.machine.specs.declared.records.Record.{Record}
 use Rattle.machine.proofs.Writing.{not-printed, room-length, write-full, write-printed}
 use Rattle.turns.specs.Steps as step
 use Rattle.turns.specs.Steps.{fails, written}
-use Rattle.turns.specs.Turns.{turnedTo, Leads, Leaves, withPrinter}
+use Rattle.turns.specs.bridge.Turns.{turnedTo, Leads, Leaves, withPrinter}
 use Rattle.turns.proofs.Keeping.{settled-kept}
 
 -- a text's bytes are the first ones of its buffer

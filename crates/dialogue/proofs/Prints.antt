@@ -15,18 +15,18 @@ use Rattle.grammar.specs.Tests.{endsStatement}
 use Rattle.grammar.specs.Trees as tree
 use Rattle.grammar.specs.Trees.{Item, comma, semicolon, shown}
 use Rattle.statements.specs.Statements.{items, isSeparator}
-use Rattle.statements.specs.Answers.{itemsOf}
+use Rattle.statements.specs.bridge.Answers.{itemsOf}
 use Rattle.machine.specs.Machine as spec
-use Rattle.machine.specs.Holding.{positionOf, Positioned, printedAs, Settled, Fitting, Sound, Same}
-use Rattle.machine.specs.declared.machine.Machine.{Machine}
-use Rattle.machine.specs.declared.machine.Printer.{Printer}
+use Rattle.machine.specs.bridge.Holding.{positionOf, Positioned, printedAs, Settled, Fitting, Sound, Same}
+use Rattle.machine.specs.declared.state.Machine.{Machine}
+use Rattle.machine.specs.declared.state.Printer.{Printer}
 use Rattle.machine.specs.declared.positions.Next.the-variants as next
 use Rattle.machine.specs.declared.records.Record.{Record}
 use Rattle.machine.proofs.Writing.{room-length, written-grows, room-above, fitting-after}
 use Rattle.turns.specs.Steps as step
 use Rattle.turns.specs.Steps.{goesOn, printItems, doStatement}
-use Rattle.turns.specs.Turns.{turnedTo, afterOf, Leads, Turns, anyRecords, withPrinter}
-use Rattle.dialogue.specs.Showing.{Itemed, showItem, Shows, lineEnd, endWritten, endedTurn, endedRoom}
+use Rattle.turns.specs.bridge.Turns.{turnedTo, afterOf, Leads, Turns, anyRecords, withPrinter}
+use Rattle.dialogue.specs.bridge.Showing.{Itemed, showItem, Shows, lineEnd, endWritten, endedTurn, endedRoom}
 use Rattle.dialogue.specs.declared.outputting.Shown.the-variants as answer
 use Rattle.turns.proofs.Leading.{Led, leads-on, leads-self, turns-fails, turns-on}
 use Rattle.dialogue.proofs.Printing.{printedMet, leads-written, Printed, printed-none, printed-more, printed-leaves}

@@ -21,17 +21,17 @@ use Rattle.statements.specs.Statements.{isSeparator}
 use Rattle.variables.specs.declared.values.Worked.{Worked}
 use Rattle.variables.specs.declared.values.Worked.the-variants.{Whole, Text, Fault}
 use Rattle.machine.specs.Machine as spec
-use Rattle.machine.specs.Holding.{printedAs, Settled, Fitting, Same}
-use Rattle.machine.specs.declared.machine.Machine.{Machine}
-use Rattle.machine.specs.declared.machine.Printer.{Printer}
+use Rattle.machine.specs.bridge.Holding.{printedAs, Settled, Fitting, Same}
+use Rattle.machine.specs.declared.state.Machine.{Machine}
+use Rattle.machine.specs.declared.state.Printer.{Printer}
 use Rattle.machine.specs.declared.positions.Next.the-variants as next
 use Rattle.machine.specs.declared.printing.Printed.{Printed}
 use Rattle.machine.specs.declared.records.Record.{Record}
 use Rattle.machine.proofs.Writing.{room-length, written-grows, room-above, fitting-after}
 use Rattle.turns.specs.Steps as step
 use Rattle.turns.specs.Steps.{written, shownValue}
-use Rattle.turns.specs.Turns.{turnedTo, afterOf, Valued, Leads, withPrinter}
-use Rattle.dialogue.specs.Showing.{shownAs, ShowsWorked, ItemAt, showItem, shownMet, printerOf, Onward, Shows, endWritten}
+use Rattle.turns.specs.bridge.Turns.{turnedTo, afterOf, Valued, Leads, withPrinter}
+use Rattle.dialogue.specs.bridge.Showing.{shownAs, ShowsWorked, ItemAt, showItem, shownMet, printerOf, Onward, Shows, endWritten}
 use Rattle.dialogue.specs.declared.outputting.Shown.{Shown}
 use Rattle.dialogue.specs.declared.outputting.Shown.the-variants as answer
 use Rattle.turns.proofs.Leading.{leads-on, leads-self}

@@ -17,7 +17,7 @@ use Rattle.grammar.specs.Trees.{Formula, minus, complement, twoSided, Arguments
 use Rattle.grammar.specs.Functions.{takes}
 use Rattle.grammar.specs.Formulas.{Reading, bad, good, mapped, after, closed, countOf}
 use Rattle.expressions.specs.Types.{callSort, sortOf, sortsOf, depthOf, deepestOf}
-use Rattle.expressions.specs.Answers.{sortsBy, fitOf, cappedDepth, deeper, answerOf, frontedRead, joinedRead, closedRead, Kept, listedAt}
+use Rattle.expressions.specs.bridge.Answers.{sortsBy, fitOf, cappedDepth, deeper, answerOf, frontedRead, joinedRead, closedRead, Kept, listedAt}
 use Rattle.expressions.specs.declared.calls.Fit.the-variants.{Gives, NoForm}
 use Rattle.expressions.specs.declared.calls.Sorts.{Sorts}
 use Rattle.expressions.specs.declared.calls.Sorts.the-variants as sorts

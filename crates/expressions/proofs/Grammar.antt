@@ -39,7 +39,7 @@ use Rattle.grammar.specs.Tests.{isSymbol}
 use Rattle.grammar.specs.Trees.{Formula, minus, complement, twoSided, Arguments, none, also}
 use Rattle.grammar.specs.Functions.{takes}
 use Rattle.grammar.specs.Formulas.{notLevel, tightest, rightLevel, minusStands, notStands, tightOperator, Reading, bad, good, mapped, after, closed, countOf, called, formulaAt, climbAt, operandAt, argumentsAt, enough, formulaOf}
-use Rattle.expressions.specs.Answers.{weight}
+use Rattle.expressions.specs.bridge.Answers.{weight}
 use Rattle.grammar.specs.declared.tests.OperatorFound.{OperatorFound}
 use Rattle.grammar.specs.declared.tests.OperatorFound.the-variants.{Is, None}
 use Rattle.expressions.proofs.Weights.{symbol-reads, operator-reads, after-lighter}

@@ -28,12 +28,12 @@ use Rattle.words.specs.declared.symbols.Function.the-variants.{
 }
 use Rattle.grammar.specs.Functions.{formsOf, formFor, anyFor, takes, wants}
 use Rattle.expressions.specs.Types.{meets, allMeet, callGives}
-use Rattle.grammar.specs.Answers.{packedWants, wantedOf}
-use Rattle.expressions.specs.Answers.{sortsBy, fitOf}
-use Rattle.grammar.specs.declared.functions.Want.{Want}
-use Rattle.grammar.specs.declared.functions.Want.the-variants as want
-use Rattle.grammar.specs.declared.functions.Wanted.{Wanted}
-use Rattle.grammar.specs.declared.functions.Wanted.the-variants as wanted
+use Rattle.grammar.specs.bridge.Answers.{packedWants, wantedOf}
+use Rattle.expressions.specs.bridge.Answers.{sortsBy, fitOf}
+use Rattle.grammar.specs.declared.wanting.Want.{Want}
+use Rattle.grammar.specs.declared.wanting.Want.the-variants as want
+use Rattle.grammar.specs.declared.wanting.Wanted.{Wanted}
+use Rattle.grammar.specs.declared.wanting.Wanted.the-variants as wanted
 use Rattle.expressions.specs.declared.calls.Sorts.{Sorts}
 use Rattle.expressions.specs.declared.calls.Sorts.the-variants as sorts
 use Rattle.expressions.specs.declared.calls.Fit.{Fit}
@@ -131,7 +131,7 @@ form-length (w ∷ ws) n e =
 
 -- how many are wanted, and what
 abbrev pub tagged : Wanted → ℕ
-tagged w = denote.Enum.Declared.tagOf Rattle.grammar.proofs.functions.Wanted.the-type w
+tagged w = denote.Enum.Declared.tagOf Rattle.grammar.proofs.wanting.Wanted.the-type w
 
 abbrev pub unpacked : Wanted → List Want
 unpacked wanted.NoForm = []

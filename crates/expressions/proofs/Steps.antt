@@ -31,7 +31,7 @@ use Rattle.grammar.specs.Tests.{isSymbol}
 use Rattle.grammar.specs.Trees.{Formula, twoSided, Arguments, also, none}
 use Rattle.grammar.specs.Formulas.{notLevel, tightest, rightLevel, minusStands, notStands, tightOperator, Reading, bad, good, bySign, mapped, after, formulaAt, climbAt, operandAt, argumentsAt, enough, formulaOf}
 use Rattle.expressions.specs.Types.{ofKind, sortOf, depthOf}
-use Rattle.expressions.specs.Answers.{weight, cappedDepth, answerOf, frontedRead, joinedRead, closedRead, Kept, callAt, listedAt}
+use Rattle.expressions.specs.bridge.Answers.{weight, cappedDepth, answerOf, frontedRead, joinedRead, closedRead, Kept, callAt, listedAt}
 use Rattle.expressions.specs.declared.calls.Sorts.{Sorts}
 use Rattle.expressions.specs.declared.calls.Sorts.the-variants.{Zero}
 use Rattle.expressions.specs.declared.readers.FormulaRead.{FormulaRead}

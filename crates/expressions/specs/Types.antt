@@ -11,8 +11,8 @@ use Rattle.words.specs.declared.symbols.Function.{Function}
 use Rattle.grammar.specs.Trees.{Formula, number, variable, text, inside, minus, complement, twoSided, call, Arguments, none, also}
 use Rattle.grammar.specs.Functions.{wants, gives}
 use Rattle.grammar.specs.Formulas.{countOf}
-use Rattle.grammar.specs.declared.functions.Want.{Want}
-use Rattle.grammar.specs.declared.functions.Want.the-variants as want
+use Rattle.grammar.specs.declared.wanting.Want.{Want}
+use Rattle.grammar.specs.declared.wanting.Want.the-variants as want
 use Rattle.expressions.specs.declared.sorts.Sort.{Sort}
 use Rattle.expressions.specs.declared.sorts.Sort.the-variants.{Whole, Text, Wrong}
 use mathlib.Core.Bool.{Bool, true, false}

@@ -2,7 +2,7 @@
 ghost use mathlib.Core.Path.{_≡_};
 ghost use mathlib.Core.List.{List, [], _∷_, _++_};
 ghost use Rattle.expressions.specs.Types.{meets, callGives};
-ghost use Rattle.expressions.specs.Answers.{sortsBy, fitOf};
+ghost use Rattle.expressions.specs.bridge.Answers.{sortsBy, fitOf};
 use crate::sorts::Sort;
 use crate::sorts::of_kind;
 use grammar::Want;

@@ -6,7 +6,7 @@ ghost use Rattle.scanner.specs.Tokens.{tokenAt};
 ghost use Rattle.grammar.specs.Trees.{Formula, Arguments, also};
 ghost use Rattle.expressions.specs.Types.{sortOf, depthOf};
 ghost use Rattle.grammar.specs.Formulas.{formulaAt, operandAt, formulaOf};
-ghost use Rattle.expressions.specs.Answers.{weight, cappedDepth, deeper, answerOf, frontedRead, joinedRead, closedRead, Kept, callAt, listedAt};
+ghost use Rattle.expressions.specs.bridge.Answers.{weight, cappedDepth, deeper, answerOf, frontedRead, joinedRead, closedRead, Kept, callAt, listedAt};
 use crate::calls::Fit;
 use crate::calls::Sorts;
 use crate::calls::call_fit;

@@ -15,7 +15,7 @@ use Rattle.scanner.specs.Tokens.{tokenAt}
 use Rattle.space.proofs.Parts.{front-less}
 use Rattle.grammar.specs.Trees.{Formula, twoSided}
 use Rattle.grammar.specs.Formulas.{rightLevel, tightOperator, good, after, enough}
-use Rattle.expressions.specs.Answers.{weight, formulaIn, climbOf, operandOf}
+use Rattle.expressions.specs.bridge.Answers.{weight, formulaIn, climbOf, operandOf}
 use Rattle.grammar.specs.declared.tests.OperatorFound.{OperatorFound}
 use Rattle.grammar.specs.declared.tests.OperatorFound.the-variants.{Is, None}
 use Rattle.expressions.proofs.Weights.{operator-reads, after-lighter}
@@ -24,11 +24,11 @@ use Rattle.expressions.proofs.Views.{made, formula-view, climb-stops, climb-goe
 use Rattle.variables.specs.Strings.{Room, Outcome, fault}
 use Rattle.variables.specs.Variables.{Variables}
 use Rattle.operators.specs.Values.{valueOf}
-use Rattle.variables.specs.Memory.{textLength, Looked, Held, Agrees, GoesOn, Framed}
-use Rattle.operators.specs.Memory.{takesLeft, turnBy, turnAs, SidesMet}
-use Rattle.formulas.specs.Memory.{Scans, Reads, OperandReads, Ready, Evaluated}
-use Rattle.operators.specs.declared.operators.Turn.{Turn}
-use Rattle.operators.specs.declared.operators.Turn.the-variants as turn
+use Rattle.variables.specs.bridge.Memory.{textLength, Looked, Held, Agrees, GoesOn, Framed}
+use Rattle.operators.specs.bridge.Memory.{takesLeft, turnBy, turnAs, SidesMet}
+use Rattle.formulas.specs.bridge.Memory.{Scans, Reads, OperandReads, Ready, Evaluated}
+use Rattle.operators.specs.declared.sides.Turn.{Turn}
+use Rattle.operators.specs.declared.sides.Turn.the-variants as turn
 use Rattle.variables.specs.declared.values.Worked.{Worked}
 use Rattle.variables.specs.declared.values.Worked.the-variants as worked
 use Rattle.operators.proofs.Sides.{sides-agree, sides-refused}

@@ -5,12 +5,12 @@ use Prim.Native.Nat.{ℕ, suc, _+_, _≤_, _<_}
 use native.Mathlib.Omega.{arith}
 use lib.ListN.{take, drop}
 use Rattle.space.proofs.Parts.{part-below}
-use Rattle.grammar.specs.declared.functions.Want.{Want}
-use Rattle.grammar.specs.declared.functions.Want.the-variants as want
+use Rattle.grammar.specs.declared.wanting.Want.{Want}
+use Rattle.grammar.specs.declared.wanting.Want.the-variants as want
 use Rattle.variables.specs.Strings.{text, value}
 use Rattle.operators.specs.Values.{meets}
-use Rattle.functions.specs.Memory.{countOf, withArgument, meetsWant}
-use Rattle.strings.specs.Memory.{argumentLength, argumentIn, givenLength, valuesIn}
+use Rattle.functions.specs.bridge.Memory.{countOf, withArgument, meetsWant}
+use Rattle.strings.specs.bridge.Memory.{argumentLength, argumentIn, givenLength, valuesIn}
 use Rattle.strings.specs.declared.arguments.Argument.{Argument}
 use Rattle.strings.specs.declared.arguments.Argument.the-variants as argument
 use Rattle.strings.specs.declared.arguments.Given.{Given}

@@ -20,7 +20,7 @@ use Rattle.scanner.specs.Tokens.{reads, tokenAt}
 use Rattle.scanner.proofs.Ends.{scanned-ends}
 use Rattle.grammar.specs.Trees.{Formula, number, variable, text, minus, complement, none}
 use Rattle.grammar.specs.Formulas.{notLevel, tightest, good, after, quotedBytes}
-use Rattle.expressions.specs.Answers.{weight, formulaIn, operandOf, argumentsOf}
+use Rattle.expressions.specs.bridge.Answers.{weight, formulaIn, operandOf, argumentsOf}
 use Rattle.expressions.specs.declared.readers.FormulaRead.the-variants.{Bad}
 use Rattle.expressions.proofs.Weights.{weight-enough, symbol-reads, after-lighter}
 use Rattle.expressions.proofs.Answering.{not-read}
@@ -32,18 +32,9 @@ use Rattle.variables.specs.Strings.{Room, Outcome, value, fault, make, letAllGo
 use Rattle.variables.specs.Variables.{Variables}
 use Rattle.strings.specs.Functions.{answered}
 use Rattle.operators.specs.Values.{wholeThen, variableValue, valueOf}
-use Rattle.variables.specs.Memory.{
-  textLength,
-  answeredAs,
-  Looked,
-  Agrees,
-  GoesOn,
-  Made,
-  namesIn,
-  numbersIn,
-  stringsIn,
-}
-use Rattle.formulas.specs.Memory.{wholeAs, closedAs, Scans, Reads, OperandReads, Evaluated}
+use Rattle.variables.specs.bridge.Memory.{textLength, answeredAs, Looked, Agrees, GoesOn, Made, stringsIn}
+use Rattle.variables.specs.Tables.{namesIn, numbersIn}
+use Rattle.formulas.specs.bridge.Memory.{wholeAs, closedAs, Scans, Reads, OperandReads, Evaluated}
 use Rattle.variables.specs.declared.values.Worked.{Worked}
 use Rattle.variables.specs.declared.values.Worked.the-variants as worked
 use Rattle.operators.proofs.Sides.{answer-gives}

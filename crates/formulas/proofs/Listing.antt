@@ -19,8 +19,8 @@ use Rattle.grammar.specs.Trees.{Formula, call, Arguments, none, also}
 use Rattle.grammar.specs.Functions.{takes, wants}
 use Rattle.grammar.specs.Formulas as formulas
 use Rattle.grammar.specs.Formulas.{good}
-use Rattle.expressions.specs.Answers.{weight, formulaIn, argumentsOf}
-use Rattle.grammar.specs.declared.functions.Want.{Want}
+use Rattle.expressions.specs.bridge.Answers.{weight, formulaIn, argumentsOf}
+use Rattle.grammar.specs.declared.wanting.Want.{Want}
 use Rattle.expressions.proofs.Sorting.{few}
 use Rattle.expressions.proofs.Weights.{symbol-reads, after-lighter}
 use Rattle.expressions.proofs.Fuel.{arguments-unrolled}
@@ -30,10 +30,10 @@ use Rattle.variables.specs.Variables.{Variables}
 use Rattle.strings.specs.Functions.{called}
 use Rattle.operators.specs.Values as values
 use Rattle.operators.specs.Values.{stopped, wantAt, valueOf, valuesOf}
-use Rattle.functions.specs.Memory.{countOf, wantBy, takenAs}
-use Rattle.strings.specs.Memory.{argumentLength, argumentIn, givenLength, valuesIn, Placed}
-use Rattle.variables.specs.Memory.{Looked, Held, Agrees, Made}
-use Rattle.formulas.specs.Memory.{Scans, Reads, Ready, Evaluated}
+use Rattle.functions.specs.bridge.Memory.{countOf, wantBy, takenAs}
+use Rattle.strings.specs.bridge.Memory.{argumentLength, argumentIn, givenLength, valuesIn, Placed}
+use Rattle.variables.specs.bridge.Memory.{Looked, Held, Agrees, Made}
+use Rattle.formulas.specs.bridge.Memory.{Scans, Reads, Ready, Evaluated}
 use Rattle.strings.specs.declared.arguments.Given.{Given}
 use Rattle.strings.specs.declared.arguments.Given.the-variants as given
 use Rattle.functions.specs.declared.arguments.Taken.{Taken}

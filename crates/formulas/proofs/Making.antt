@@ -12,8 +12,9 @@ use Rattle.space.proofs.Frames.{copied-bytes, moved-bytes}
 use Rattle.space.proofs.Kept.{Kept, copied-kept, moved-kept}
 use Rattle.words.specs.declared.symbols.Scanned.{Scanned}
 use Rattle.variables.specs.Strings.{value, whole, make}
-use Rattle.variables.specs.Memory.{sumOf, bytesAt, Made}
-use Rattle.formulas.specs.Memory.{wholeAs, notWhole}
+use Rattle.variables.specs.bridge.Memory.{bytesAt, Made}
+use Rattle.variables.specs.Tables.{sumOf}
+use Rattle.formulas.specs.bridge.Memory.{wholeAs, notWhole}
 use Rattle.variables.specs.declared.tables.Slot.the-variants as slot
 use Rattle.variables.specs.declared.values.Worked.{Worked}
 use Rattle.variables.specs.declared.values.Worked.the-variants as worked

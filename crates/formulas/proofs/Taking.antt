@@ -32,13 +32,13 @@ use Rattle.words.specs.declared.symbols.Sign.the-variants.{Comma}
 use Rattle.words.proofs.Choices.{by-test}
 use Rattle.grammar.specs.Tests.{isSymbol}
 use Rattle.grammar.specs.Functions.{takes, wants}
-use Rattle.grammar.specs.declared.functions.Want.{Want}
+use Rattle.grammar.specs.declared.wanting.Want.{Want}
 use Rattle.variables.specs.Strings.{Value, whole, text, Room, Outcome, value, fault}
 use Rattle.operators.specs.Values as values
 use Rattle.operators.specs.Values.{stopped, wantAt, tested}
-use Rattle.variables.specs.Memory.{textLength, Held, Agrees, GoesOn}
-use Rattle.functions.specs.Memory.{countOf, withArgument, wantBy, meetsWant, takenBefore, takenAs}
-use Rattle.strings.specs.Memory.{argumentLength, argumentIn}
+use Rattle.variables.specs.bridge.Memory.{textLength, Held, Agrees, GoesOn}
+use Rattle.functions.specs.bridge.Memory.{countOf, withArgument, wantBy, meetsWant, takenBefore, takenAs}
+use Rattle.strings.specs.bridge.Memory.{argumentLength, argumentIn}
 use Rattle.strings.specs.declared.arguments.Argument.{Argument}
 use Rattle.strings.specs.declared.arguments.Argument.the-variants as argument
 use Rattle.strings.specs.declared.arguments.Given.{Given}

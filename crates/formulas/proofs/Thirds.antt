@@ -13,7 +13,7 @@ use Rattle.grammar.specs.Tests.{isSymbol}
 use Rattle.grammar.specs.Trees.{Formula, call, Arguments, none, also}
 use Rattle.grammar.specs.Functions.{anyFor, takes}
 use Rattle.grammar.specs.Formulas.{good, after, countOf, formulaOf}
-use Rattle.expressions.specs.Answers.{formulaIn, argumentsOf, answerOf}
+use Rattle.expressions.specs.bridge.Answers.{formulaIn, argumentsOf, answerOf}
 use Rattle.expressions.specs.declared.readers.FormulaRead.the-variants as formula
 use Rattle.expressions.specs.declared.sorts.Sort.{Sort}
 use Rattle.expressions.proofs.Fuel.{formula-level}

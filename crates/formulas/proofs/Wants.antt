@@ -28,7 +28,7 @@ use Rattle.words.specs.declared.symbols.Function.the-variants.{
 }
 use Rattle.grammar.specs.Functions.{formFor, anyFor, takes, wants}
 use Rattle.operators.specs.Values.{wantAt}
-use Rattle.functions.specs.Memory.{wantBy}
+use Rattle.functions.specs.bridge.Memory.{wantBy}
 
 -- ---- what holds of each place of one argument, of two, and of two or three
 

@@ -35,12 +35,12 @@ use Rattle.words.specs.declared.symbols.Function.the-variants.{
 }
 use Rattle.words.specs.declared.symbols.Scanned.{Scanned}
 use Rattle.grammar.specs.Functions.{gives}
-use Rattle.variables.specs.Memory.{answeredAs}
+use Rattle.variables.specs.bridge.Memory.{answeredAs}
 use Rattle.variables.specs.Strings.{letAllGo}
 use Rattle.variables.specs.declared.values.Worked.{Worked}
 use Rattle.variables.specs.declared.values.Worked.the-variants as worked
 use Rattle.strings.specs.Functions.{within, placeOf}
-use Rattle.strings.specs.Memory.{Placed, argumentLength, argumentWord, firstOf, secondOf, thirdOf, areThree, valuesIn}
+use Rattle.strings.specs.bridge.Memory.{Placed, argumentLength, argumentWord, firstOf, secondOf, thirdOf, areThree, valuesIn}
 use Rattle.strings.specs.declared.arguments.Given.{Given}
 use Rattle.strings.proofs.Givens.{word-first, bytes-first, bytes-second, bytes-third, count-three, texts-at}
 use Rattle.strings.proofs.Produced.{refused, made-as, answer-made, let-go}

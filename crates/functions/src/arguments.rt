@@ -1,6 +1,6 @@
 // The arguments of a function, taken one by one as they are worked out.
 ghost use mathlib.Core.Path.{_≡_};
-ghost use Rattle.functions.specs.Memory.{countOf, withArgument, wantBy, meetsWant, takenBefore, takenAs};
+ghost use Rattle.functions.specs.bridge.Memory.{countOf, withArgument, wantBy, meetsWant, takenBefore, takenAs};
 use grammar::Want;
 use grammar::is_symbol;
 use strings::Argument;

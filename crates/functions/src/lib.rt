@@ -1,7 +1,7 @@
 // Functions: their arguments taken, and what they make of them.
 mod arguments;
-mod functions;
+mod calls;
 
 pub use arguments::Taken;
 pub use arguments::take_argument;
-pub use functions::called;
+pub use calls::called;

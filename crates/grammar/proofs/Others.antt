@@ -51,7 +51,7 @@ use Rattle.words.specs.declared.symbols.Token.the-variants.{
   Unreadable,
 }
 use Rattle.words.specs.declared.symbols.Word.{Word}
-use Rattle.grammar.specs.Answers.{lineOf}
+use Rattle.grammar.specs.bridge.Answers.{lineOf}
 use Rattle.grammar.specs.Formulas.{signOperator, operatorOf}
 use Rattle.grammar.specs.Tests.{isSymbol, isKeyword, endsLine}
 use Rattle.grammar.specs.declared.tests.NamedLine.the-variants.{NoLine}

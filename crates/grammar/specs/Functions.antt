@@ -24,8 +24,8 @@ use Rattle.words.specs.declared.symbols.Function.the-variants.{
   Sgn,
   Fre,
 }
-use Rattle.grammar.specs.declared.functions.Want.{Want}
-use Rattle.grammar.specs.declared.functions.Want.the-variants.{Whole, Text, Either}
+use Rattle.grammar.specs.declared.wanting.Want.{Want}
+use Rattle.grammar.specs.declared.wanting.Want.the-variants.{Whole, Text, Either}
 
 -- the lists of arguments that a function takes
 abbrev pub formsOf : Function → List (List Want)

@@ -1,5 +1,5 @@
-pub mod Answers
 pub mod Formulas
 pub mod Functions
 pub mod Tests
 pub mod Trees
+pub mod bridge

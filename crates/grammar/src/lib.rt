@@ -1,14 +1,8 @@
 // What the readers ask of tokens, the operators' levels, and what functions take and give.
-mod functions;
 mod levels;
 mod tests;
+mod wanting;
 
-pub use functions::Want;
-pub use functions::Wanted;
-pub use functions::gives;
-pub use functions::wants_one;
-pub use functions::wants_three;
-pub use functions::wants_two;
 pub use levels::LOOSEST;
 pub use levels::NOT_LEVEL;
 pub use levels::TIGHTEST;
@@ -24,3 +18,9 @@ pub use tests::is_keyword;
 pub use tests::is_symbol;
 pub use tests::line_of;
 pub use tests::tight_operator;
+pub use wanting::Want;
+pub use wanting::Wanted;
+pub use wanting::gives;
+pub use wanting::wants_one;
+pub use wanting::wants_three;
+pub use wanting::wants_two;

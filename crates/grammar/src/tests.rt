@@ -2,7 +2,7 @@
 ghost use mathlib.Core.Path.{_≡_};
 ghost use Rattle.grammar.specs.Tests.{signRank, wordRank, isSymbol, isKeyword, endsStatement, endsLine};
 ghost use Rattle.grammar.specs.Formulas.{signOperator, operatorOf, tightOperator};
-ghost use Rattle.grammar.specs.Answers.{lineOf};
+ghost use Rattle.grammar.specs.bridge.Answers.{lineOf};
 use crate::levels::level_of;
 use whole::Operator;
 use words::LineNumber;

@@ -6,7 +6,7 @@ use Prim.Native.Nat.{ℕ, _+_, _-_, _*_, _<_}
 use native.Mathlib.Omega.{arith}
 use lib.ListN.{length, replicate, length-append, length-map}
 use Rattle.words.specs.declared.names.Telling.{Telling}
-use Rattle.variables.specs.Memory.{nameBytes, numbersTable, stringsTable}
+use Rattle.variables.specs.Tables.{nameBytes, numbersTable, stringsTable}
 use Rattle.variables.specs.Variables.{NumberVariable, StringVariable}
 use Rattle.variables.specs.declared.tables.Tables.{Tables}
 use Rattle.runner.specs.Run.{Ran, isRefused, tablesOf, answerOf, spaceAfter, roomAfter}

@@ -12,8 +12,8 @@ use Rattle.runner.specs.Run.{numberIn, lineIn, placeIn}
 use Rattle.runner.specs.declared.running.Ran.{Ran}
 use Rattle.runner.specs.declared.running.Outcome.{Outcome}
 use Rattle.runner.specs.declared.running.Outcome.the-variants.{Ended, Stopped, Out, Failed, Refused}
-use Rattle.asking.specs.declared.asking.Asked.{Asked}
-use Rattle.asking.specs.declared.asking.Asked.the-variants as asked
+use Rattle.asking.specs.declared.questions.Asked.{Asked}
+use Rattle.asking.specs.declared.questions.Asked.the-variants as asked
 
 -- ---- a run
 

@@ -5,12 +5,12 @@ use Rattle.whole.specs.Whole.{num}
 use Rattle.whole.specs.declared.errors.Error.the-variants.{TypeMismatch}
 use Rattle.loader.specs.declared.refusals.Refusal.the-variants.{ForeignByte}
 use Rattle.words.specs.Places.{place, lineNumber}
-use Rattle.variables.specs.Memory.{emptyTables}
+use Rattle.variables.specs.Tables.{emptyTables}
 use Rattle.checker.specs.declared.checking.Verdict.the-variants.{Faulty}
 use Rattle.runner.specs.declared.running.Ran.{Ran}
 use Rattle.runner.specs.declared.running.Outcome.{Outcome}
 use Rattle.runner.specs.declared.running.Outcome.the-variants.{Stopped, Refused}
-use Rattle.asking.specs.declared.asking.Asked.the-variants as asked
+use Rattle.asking.specs.declared.questions.Asked.the-variants as asked
 use Rattle.host.specs.Answers.{answerIn, verdictIn, extendedOf, foundIn}
 
 -- a run with an outcome, after 7 steps, 18 bytes written and 5 taken

@@ -15,7 +15,7 @@ use Rattle.grammar.specs.Trees.{Formula, number, Variable, Item, assign, print,
 use Rattle.grammar.specs.Formulas as formulas
 use Rattle.grammar.specs.Formulas.{Reading, good, after, enough, formulaOf}
 use Rattle.statements.specs.Statements.{Begun, bad, done, choice, onFormula, variableOf, assignAt, Items, noItems, items, itemsAt, printed, printAt, ifAt, forAt, targetAt, inputAt, byToken, begunAt}
-use Rattle.statements.specs.Answers.{itemsOf}
+use Rattle.statements.specs.bridge.Answers.{itemsOf}
 use Rattle.statements.proofs.Findings.{by-name, by-line, by-text}
 
 -- ---- what holds of each way, and where nothing reads, holds

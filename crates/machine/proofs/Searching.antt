@@ -9,7 +9,7 @@ use Rattle.words.specs.declared.names.Telling.{Telling}
 use Rattle.words.proofs.Choices.{by-test}
 use Rattle.machine.specs.Machine as spec
 use Rattle.machine.specs.Machine.{loop, call, missing, sought}
-use Rattle.machine.specs.Holding.{positionOf, blankRecord, recordsIn, seeksNothing, isSought, seeksCall, foundFrom, foundIn}
+use Rattle.machine.specs.bridge.Holding.{positionOf, blankRecord, recordsIn, seeksNothing, isSought, seeksCall, foundFrom, foundIn}
 use Rattle.machine.specs.declared.records.Record.{Record}
 use Rattle.machine.specs.declared.records.Found.the-variants as found
 use Rattle.machine.specs.declared.records.Sought.{Sought}

@@ -53,14 +53,13 @@ use Rattle.scanner.specs.Tokens.{tokenAt}
 use Rattle.grammar.specs.Tests.{isKeyword, onName}
 use Rattle.grammar.specs.Trees.{Statement, next, nextOf, Part, last, more}
 use Rattle.grammar.specs.Formulas.{after}
-use Rattle.statements.specs.Statements.{Begun, bad, done, variableOf, forAt, byWord, byMark, byToken, begunAt, goodPart}
-use Rattle.statements.specs.Answers.{partOf}
+use Rattle.statements.specs.Statements.{Begun, bad, done, variableOf, forAt, byWord, byMark, byToken, begunAt, goodPart, partOf}
 use Rattle.statements.proofs.Findings.{by-name, by-line}
 use Rattle.statements.proofs.Views.{Final, plain, thens, elses, more-view, final-view}
 use Rattle.machine.specs.declared.records.Sought.{Sought}
 use Rattle.machine.specs.declared.records.Sought.the-variants as sought
 use Rattle.machine.specs.Machine.{headOf}
-use Rattle.machine.specs.Seeking.{soughtBy, Seeks, soughtLoop}
+use Rattle.machine.specs.bridge.Seeking.{soughtBy, Seeks, soughtLoop}
 use Rattle.machine.proofs.Beginning.{if-so, by-assign, by-items, by-condition, by-for, by-input, begun-token}
 use Rattle.machine.proofs.Tokens.{tokenTag, wordTag, by-named}
 

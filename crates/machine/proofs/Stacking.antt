@@ -10,7 +10,7 @@ use lib.ListN.{length, getD, set, length-map}
 use lib.Seq.{set-out, getD-set-same, getD-set-other}
 use Rattle.whole.proofs.Numbers.{less}
 use Rattle.machine.specs.Machine.{loop, call}
-use Rattle.machine.specs.Holding.{positionOf, blankRecord, recordOf, recordsIn}
+use Rattle.machine.specs.bridge.Holding.{positionOf, blankRecord, recordOf, recordsIn}
 use Rattle.machine.specs.declared.records.Record.{Record}
 
 -- ---- the array that holds them

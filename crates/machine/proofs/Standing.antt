@@ -29,8 +29,7 @@ use Rattle.words.specs.declared.symbols.Token.the-variants.{
 }
 use Rattle.scanner.specs.Tokens.{tokenAt}
 use Rattle.grammar.specs.Trees.{Part}
-use Rattle.statements.specs.Statements.{bad, byToken, begunAt, badPart, goodPart}
-use Rattle.statements.specs.Answers.{partOf}
+use Rattle.statements.specs.Statements.{bad, byToken, begunAt, badPart, goodPart, partOf}
 use Rattle.statements.proofs.Parts.{partBy, unrolled}
 use Rattle.loader.specs.Lines.{Line, linesOf, numberOf, located, firstOf, lineAt, has, fromNumber, findLine}
 use Rattle.loader.specs.Loading.{loadOf}
@@ -42,7 +41,7 @@ use Rattle.loader.specs.declared.loading.Loaded.the-variants.{Fine}
 use Rattle.loader.proofs.Extents.{cut, walked}
 use Rattle.loader.proofs.Found.{digits-inside, from-suffix, from-has, from-at}
 use Rattle.loader.proofs.Rising.{Rising, recipe, rising-suffix}
-use Rattle.machine.specs.Holding.{linesAt, bodyOf, Begins}
+use Rattle.machine.specs.bridge.Holding.{linesAt, bodyOf, Begins}
 
 -- ---- parts
 

@@ -15,7 +15,7 @@ use Rattle.words.proofs.Choices.{by-test}
 use Rattle.loader.specs.Lines.{extentAt}
 use Rattle.loader.specs.declared.lines.Extent.{Extent}
 use Rattle.loader.proofs.Extents.{passed, lines-out, walked, walked-size}
-use Rattle.machine.specs.Taking.{takenAt}
+use Rattle.machine.specs.bridge.Taking.{takenAt}
 use Rattle.machine.specs.declared.taking.InputLine.the-variants.{Is, Fault}
 
 module _ (input : List ℕ) (p : ℕ) where

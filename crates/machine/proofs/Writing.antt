@@ -17,8 +17,8 @@ use Rattle.space.proofs.Frames.{copied-lies, copied-past, copied-length, copied
 use Rattle.space.proofs.Overlaid.{overlaid-front}
 use Rattle.machine.specs.Machine as spec
 use Rattle.machine.specs.Machine.{columnAfter, full, printed, withOutput}
-use Rattle.machine.specs.Holding.{printedAs, Fitting}
-use Rattle.machine.specs.declared.machine.Printer.{Printer}
+use Rattle.machine.specs.bridge.Holding.{printedAs, Fitting}
+use Rattle.machine.specs.declared.state.Printer.{Printer}
 use Rattle.machine.specs.declared.printing.Printed.{Printed}
 
 -- ---- the column

@@ -1,4 +1,2 @@
 pub mod Machine
-pub mod Holding
-pub mod Taking
-pub mod Seeking
+pub mod bridge

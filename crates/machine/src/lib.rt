@@ -1,15 +1,13 @@
 // What a run has besides the memory that is lent.
 mod loops;
-mod machine;
 mod positions;
 mod printing;
 mod records;
 mod sought;
+mod state;
 mod taking;
 
 pub use loops::passed;
-pub use machine::Machine;
-pub use machine::Printer;
 pub use positions::Next;
 pub use positions::Position;
 pub use positions::Turned;
@@ -24,5 +22,7 @@ pub use records::find_record;
 pub use records::record_at;
 pub use records::with_record;
 pub use sought::sought_record;
+pub use state::Machine;
+pub use state::Printer;
 pub use taking::InputLine;
 pub use taking::take_line;

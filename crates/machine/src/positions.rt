@@ -1,6 +1,6 @@
 // Where a run goes on.
-use crate::machine::Machine;
 use crate::records::Record;
+use crate::state::Machine;
 use whole::Error;
 use words::Place;
 

@@ -4,8 +4,8 @@ ghost use Prim.Native.Nat.{_+_, _-_, _%_, _<_, _^_};
 ghost use lib.ListN.{length, replicate};
 ghost use Rattle.space.specs.Moves.{copied};
 ghost use Rattle.machine.specs.Machine.{columnAfter};
-ghost use Rattle.machine.specs.Holding.{printedAs, Fitting};
-use crate::machine::Printer;
+ghost use Rattle.machine.specs.bridge.Holding.{printedAs, Fitting};
+use crate::state::Printer;
 use space::Offset;
 use space::copy_in;
 

@@ -2,9 +2,9 @@
 ghost use mathlib.Core.Path.{_≡_};
 ghost use Prim.Native.Nat.{_≤_};
 ghost use lib.ListN.{getD, set, replicate};
-ghost use Rattle.machine.specs.Holding.{blankRecord, seeksNothing, isSought, seeksCall, foundIn};
-use crate::machine::Machine;
+ghost use Rattle.machine.specs.bridge.Holding.{blankRecord, seeksNothing, isSought, seeksCall, foundIn};
 use crate::positions::Position;
+use crate::state::Machine;
 use words::Place;
 use words::Telling;
 use words::same_name;

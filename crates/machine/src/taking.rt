@@ -1,6 +1,6 @@
 // Taking a line of the input.
 ghost use mathlib.Core.Path.{_≡_};
-ghost use Rattle.machine.specs.Taking.{takenAt};
+ghost use Rattle.machine.specs.bridge.Taking.{takenAt};
 use loader::Extent;
 use loader::extent_at;
 use whole::Error;

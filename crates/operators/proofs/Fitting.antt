@@ -18,8 +18,8 @@ use Rattle.words.proofs.Choices.{by-test}
 use Rattle.variables.specs.Strings.{Value, whole, text, Room, Outcome, value, fault, make, produced}
 use Rattle.strings.specs.Functions.{answered}
 use Rattle.operators.specs.Values.{isBefore, onTexts, joined}
-use Rattle.variables.specs.Memory.{textLength, Held, Agrees, GoesOn}
-use Rattle.operators.specs.Memory.{RightMet, SidesMet}
+use Rattle.variables.specs.bridge.Memory.{textLength, Held, Agrees, GoesOn}
+use Rattle.operators.specs.bridge.Memory.{RightMet, SidesMet}
 use Rattle.variables.specs.declared.values.Worked.{Worked}
 use Rattle.variables.specs.declared.values.Worked.the-variants as worked
 

@@ -10,9 +10,9 @@ use lib.ListN.{length, take, drop, getD}
 use Rattle.whole.proofs.Numbers.{less}
 use Rattle.words.specs.Spellings.{sameBytes}
 use Rattle.operators.specs.Values.{isBefore}
-use Rattle.operators.specs.Memory.{orderOf, isLessOrder, isSameOrder, isGreaterOrder}
-use Rattle.operators.specs.declared.operators.Order.{Order}
-use Rattle.operators.specs.declared.operators.Order.the-variants as order
+use Rattle.operators.specs.bridge.Memory.{orderOf, isLessOrder, isSameOrder, isGreaterOrder}
+use Rattle.operators.specs.declared.sides.Order.{Order}
+use Rattle.operators.specs.declared.sides.Order.the-variants as order
 use Rattle.variables.proofs.Bytewise.{part-end, part-next}
 
 -- ---- by their first bytes

@@ -21,9 +21,9 @@ use Rattle.words.specs.declared.symbols.Scanned.{Scanned}
 use Rattle.variables.specs.Strings.{Value, Room, Outcome, whole, text, value, fault, then, make, letGo, letAllGo, produced}
 use Rattle.strings.specs.Functions.{answered}
 use Rattle.operators.specs.Values.{isBefore, onTexts, wantsWhole, joined, sides}
-use Rattle.variables.specs.Memory.{Agrees, Held, GoesOn, answeredAs, textLength}
-use Rattle.operators.specs.Memory.{RightMet, SidesMet, takesLeft, joinedLength, orderOf, isLessOrder, isSameOrder, isGreaterOrder, holdsIn}
-use Rattle.operators.specs.declared.operators.Order.{Order}
+use Rattle.variables.specs.bridge.Memory.{Agrees, Held, GoesOn, answeredAs, textLength}
+use Rattle.operators.specs.bridge.Memory.{RightMet, SidesMet, takesLeft, joinedLength, orderOf, isLessOrder, isSameOrder, isGreaterOrder, holdsIn}
+use Rattle.operators.specs.declared.sides.Order.{Order}
 use Rattle.variables.proofs.Lookups.{part-kept}
 use Rattle.variables.proofs.Bytewise.{part-length}
 use Rattle.operators.proofs.Orders.{less-told, same-told, greater-told}

@@ -1,6 +1,6 @@
 // Two-sided operators over values.
-mod operators;
+mod sides;
 
-pub use operators::Turn;
-pub use operators::joined;
-pub use operators::turn_of;
+pub use sides::Turn;
+pub use sides::joined;
+pub use sides::turn_of;

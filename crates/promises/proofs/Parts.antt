@@ -18,14 +18,14 @@ use Rattle.words.specs.declared.symbols.Token.the-variants as token
 use Rattle.words.proofs.Choices.{by-test}
 use Rattle.scanner.specs.Tokens.{tokenAt}
 use Rattle.grammar.specs.Tests.{onName}
-use Rattle.variables.specs.Memory.{slotIn, sumOf}
+use Rattle.variables.specs.Tables.{slotIn, sumOf}
 use Rattle.variables.specs.declared.tables.Slot.{Slot}
 use Rattle.variables.specs.declared.tables.Slot.the-variants as slot
 use Rattle.variables.specs.declared.tables.Tables.{Tables}
 use Rattle.space.specs.declared.offsets.Offset.{Offset}
 use Rattle.asking.specs.Asking.{isWholeName, stringAsked, asked, askOf}
-use Rattle.asking.specs.declared.asking.Asked.{Asked}
-use Rattle.asking.specs.declared.asking.Asked.the-variants.{Whole, Text, Refused}
+use Rattle.asking.specs.declared.questions.Asked.{Asked}
+use Rattle.asking.specs.declared.questions.Asked.the-variants.{Whole, Text, Refused}
 
 -- a part that is answered ends within so many bytes
 abbrev Inside : ℕ → Asked → Type 0

@@ -22,7 +22,7 @@ use Rattle.variables.specs.Variables.{stringBytes}
 use Rattle.checker.specs.declared.checking.Verdict.the-variants as verdict
 use Rattle.runner.specs.Run as run
 use Rattle.runner.specs.Run.{runOf, answerOf}
-use Rattle.asking.specs.declared.asking.Asked.the-variants.{Text}
+use Rattle.asking.specs.declared.questions.Asked.the-variants.{Text}
 use Rattle.runner.specs.declared.running.Outcome.the-variants.{Failed, Refused}
 use Rattle.promises.specs.Calls.{
   RunCall,

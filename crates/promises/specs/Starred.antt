@@ -27,7 +27,7 @@ use Rattle.variables.specs.Strings.{make, letGo, letAllGo, produced}
 use Rattle.variables.specs.Variables.{wordOf, bytesOf, stringBytes, hasNumber, hasString, setNumber, setString, joinedStrings}
 use Rattle.strings.specs.Functions.{argument, startsWith, found, placeOf}
 use Rattle.operators.specs.Values.{isBefore, wantAt, valueOf, valuesOf}
-use Rattle.variables.specs.Memory.{namesFrom, namesIn, numbersIn, slotFrom, sumOf, emptyTables, nameBytes}
+use Rattle.variables.specs.Tables.{namesFrom, namesIn, numbersIn, slotFrom, sumOf, emptyTables, nameBytes}
 use Rattle.machine.specs.Machine.{columnAfter, write, sought, passed}
 use Rattle.turns.specs.Steps.{printItems, returned}
 use Rattle.checker.specs.Check.{present, anyMissing, firstFault, checkOf}
@@ -35,8 +35,8 @@ use Rattle.checker.specs.declared.checking.Verdict.{Verdict}
 use Rattle.checker.specs.declared.checking.Verdict.the-variants.{Passed, Faulty}
 use Rattle.asking.specs.Asking.{askOf}
 use Rattle.runner.specs.Run.{Ran, enter, running, answerOf, spaceAfter, runOf}
-use Rattle.asking.specs.declared.asking.Asked.{Asked}
-use Rattle.asking.specs.declared.asking.Asked.the-variants.{Whole, Text}
+use Rattle.asking.specs.declared.questions.Asked.{Asked}
+use Rattle.asking.specs.declared.questions.Asked.the-variants.{Whole, Text}
 use Rattle.runner.specs.declared.running.Outcome.{Outcome}
 use Rattle.runner.specs.declared.running.Outcome.the-variants.{Ended, Failed}
 

@@ -17,7 +17,7 @@ use Rattle.grammar.specs.Trees as tree
 use Rattle.grammar.specs.Trees.{Formula, Arguments, Variable, Item, Statement, Part}
 use Rattle.grammar.specs.Functions.{wants}
 use Rattle.grammar.specs.Formulas.{countOf}
-use Rattle.grammar.specs.declared.functions.Want.{Want}
+use Rattle.grammar.specs.declared.wanting.Want.{Want}
 use Rattle.variables.specs.Strings.{Value, whole, text, Room, value, produced}
 use Rattle.variables.specs.Variables.{Variables, bytesOf, stringBytes}
 use Rattle.strings.specs.Functions.{called}

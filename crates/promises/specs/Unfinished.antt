@@ -5,7 +5,7 @@ use Prim.Native.Nat.{ℕ, _+_, _≤_}
 use lib.ListN.{length}
 use Rattle.words.specs.declared.names.Telling.{Telling}
 use Rattle.grammar.specs.Trees.{Formula, Arguments}
-use Rattle.grammar.specs.declared.functions.Want.{Want}
+use Rattle.grammar.specs.declared.wanting.Want.{Want}
 use Rattle.variables.specs.Strings.{Value, whole, text, Room, Outcome, value, fault}
 use Rattle.variables.specs.Variables.{StringVariable, Variables, bytesOf, stringBytes, setString}
 use Rattle.operators.specs.Values.{Taken, taken, stopped, valueOf, valuesOf}

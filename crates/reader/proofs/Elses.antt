@@ -11,11 +11,11 @@ use Rattle.words.specs.declared.symbols.Word.the-variants.{Else}
 use Rattle.words.proofs.Choices.{by-test}
 use Rattle.grammar.specs.Tests.{choose, isSymbol, isKeyword, endsLine}
 use Rattle.grammar.specs.Trees.{Formula, Statement, ifElse, Part, last, more}
-use Rattle.statements.specs.Statements.{Begun, bad, done, choice, begunAt, PartReading, badPart, goodPart, mappedPart, following, branched}
-use Rattle.statements.specs.Answers.{begunAnswer, partOf}
+use Rattle.statements.specs.Statements.{Begun, bad, done, choice, begunAt, PartReading, badPart, goodPart, mappedPart, following, branched, partOf}
+use Rattle.statements.specs.bridge.Answers.{begunAnswer}
 use Rattle.statements.specs.declared.reading.StatementRead.{StatementRead}
 use Rattle.reader.specs.Lines.{elseAt, elseAfter, elseOf}
-use Rattle.reader.specs.Answers.{followsDone, followOf}
+use Rattle.reader.specs.bridge.Answers.{followsDone, followOf}
 use Rattle.reader.specs.declared.branches.Branch.{Branch}
 use Rattle.reader.specs.declared.branches.Branch.the-variants as branch
 use Rattle.reader.specs.declared.lines.Follow.{Follow}

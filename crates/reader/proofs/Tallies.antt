@@ -11,8 +11,8 @@ use Rattle.grammar.specs.Trees.{Formula, Statement, ifThen, ifElse, Part, last,
 use Rattle.expressions.specs.Types.{sortOf, depthOf}
 use Rattle.statements.specs.Parts.{formulasOf, deepest, rightlyTyped, statementsOf, withinIf, deepestIn, allTyped}
 use Rattle.expressions.specs.Types.{isWhole}
-use Rattle.expressions.specs.Answers.{cappedDepth}
-use Rattle.reader.specs.Answers.{verdictOf}
+use Rattle.expressions.specs.bridge.Answers.{cappedDepth}
+use Rattle.reader.specs.bridge.Answers.{verdictOf}
 use Rattle.expressions.proofs.Answering.{max-assoc}
 
 -- ---- lists of statements

@@ -11,10 +11,10 @@ use Rattle.words.specs.declared.symbols.Word.the-variants.{Else}
 use Rattle.words.proofs.Choices.{by-test}
 use Rattle.grammar.specs.Tests.{choose, isSymbol, isKeyword, endsLine}
 use Rattle.grammar.specs.Trees.{Formula, Statement, ifThen, ifElse, Part, last, more}
-use Rattle.statements.specs.Statements.{Begun, bad, done, choice, begunAt, PartReading, badPart, goodPart, mappedPart, following, branched, doesNotRead, reads, whole, readLine}
+use Rattle.statements.specs.Statements.{Begun, bad, done, choice, begunAt, PartReading, badPart, goodPart, mappedPart, following, branched, doesNotRead, reads, whole, readLine, partOf}
 use Rattle.statements.specs.Parts.{statementsOf, withinIf}
-use Rattle.statements.specs.Answers.{begunAnswer, partOf}
-use Rattle.reader.specs.Answers.{followsDone, followOf}
+use Rattle.statements.specs.bridge.Answers.{begunAnswer}
+use Rattle.reader.specs.bridge.Answers.{followsDone, followOf}
 use Rattle.reader.specs.declared.lines.Follow.{Follow}
 use Rattle.reader.specs.declared.lines.Follow.the-variants as follow
 use Rattle.statements.specs.declared.reading.StatementRead.{StatementRead}

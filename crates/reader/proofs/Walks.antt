@@ -13,13 +13,13 @@ use Rattle.words.proofs.Choices.{by-test}
 use Rattle.grammar.specs.Tests.{choose, isSymbol, isKeyword, endsLine}
 use Rattle.grammar.specs.Trees.{Formula, Statement, ifElse, Part, last, more}
 use Rattle.expressions.specs.Types.{sortOf, depthOf}
-use Rattle.statements.specs.Statements.{Begun, bad, done, choice, begunAt, PartReading, badPart, goodPart, mappedPart, following, branched, whole, readLine}
+use Rattle.statements.specs.Statements.{Begun, bad, done, choice, begunAt, PartReading, badPart, goodPart, mappedPart, following, branched, whole, readLine, partOf}
 use Rattle.statements.specs.Parts.{formulasOf, deepest, rightlyTyped, statementsOf, withinIf, deepestIn, allTyped}
 use Rattle.expressions.specs.Types.{isWhole}
 use Rattle.reader.specs.Lines.{judgedReading, judgedOf}
-use Rattle.expressions.specs.Answers.{weight, cappedDepth}
-use Rattle.statements.specs.Answers.{begunAnswer, partOf}
-use Rattle.reader.specs.Answers.{verdictOf, Tallied, followsDone, followOf}
+use Rattle.expressions.specs.bridge.Answers.{weight, cappedDepth}
+use Rattle.statements.specs.bridge.Answers.{begunAnswer}
+use Rattle.reader.specs.bridge.Answers.{verdictOf, Tallied, followsDone, followOf}
 use Rattle.statements.specs.declared.reading.StatementRead.{StatementRead}
 use Rattle.statements.specs.declared.reading.StatementRead.the-variants as statement
 use Rattle.reader.specs.declared.lines.Judged.{Judged}

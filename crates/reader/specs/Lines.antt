@@ -9,8 +9,7 @@ use Rattle.words.specs.declared.symbols.Word.the-variants.{Else}
 use Rattle.grammar.specs.Tests.{isKeyword}
 use Rattle.grammar.specs.Trees.{Part}
 use Rattle.statements.specs.Parts.{statementsOf, deepestIn, allTyped}
-use Rattle.statements.specs.Statements.{LineReading, doesNotRead, reads, readLine, PartReading, badPart, goodPart}
-use Rattle.statements.specs.Answers.{partOf}
+use Rattle.statements.specs.Statements.{LineReading, doesNotRead, reads, readLine, PartReading, badPart, goodPart, partOf}
 use Rattle.reader.specs.declared.branches.Branch.{Branch}
 use Rattle.reader.specs.declared.branches.Branch.the-variants as branch
 use Rattle.reader.specs.declared.lines.Judged.{Judged}

@@ -2,7 +2,7 @@
 ghost use mathlib.Core.Path.{_≡_};
 ghost use Prim.Native.Nat.{_^_, _≤_};
 ghost use Rattle.reader.specs.Lines.{judgedOf};
-ghost use Rattle.reader.specs.Answers.{followOf, followsDone, verdictOf, Tallied};
+ghost use Rattle.reader.specs.bridge.Answers.{followOf, followsDone, verdictOf, Tallied};
 use expressions::FormulaRead;
 use expressions::larger;
 use grammar::ends_line;

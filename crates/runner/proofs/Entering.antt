@@ -17,20 +17,19 @@ use Rattle.loader.specs.declared.lines.LineSpan.{LineSpan}
 use Rattle.loader.specs.declared.lines.LineFound.the-variants.{Is, None}
 use Rattle.loader.specs.declared.loading.Loaded.the-variants.{Fine}
 use Rattle.grammar.specs.Trees.{Part}
-use Rattle.statements.specs.Statements.{goodPart, LineReading, doesNotRead, reads, readLine}
+use Rattle.statements.specs.Statements.{goodPart, LineReading, doesNotRead, reads, readLine, partOf}
 use Rattle.statements.specs.Parts.{statementsOf, deepestIn}
 use Rattle.reader.specs.Lines.{judgedReading, judgedOf}
-use Rattle.statements.specs.Answers.{partOf}
 use Rattle.reader.specs.declared.lines.Judged.{Judged}
 use Rattle.reader.specs.declared.lines.Judged.the-variants.{Unreadable, TooDeep, Reads}
 use Rattle.statements.proofs.Views.{line-view}
 use Rattle.machine.specs.Machine.{Machine}
-use Rattle.machine.specs.Holding.{linesAt, bodyOf, positionOf, Begins, Positioned}
+use Rattle.machine.specs.bridge.Holding.{linesAt, bodyOf, positionOf, Begins, Positioned}
 use Rattle.machine.specs.declared.positions.Position.{Position}
 use Rattle.machine.proofs.Standing.{true-part, Reaches, reaches-next, Told, line-told, told-as, reached-some, reached-none}
 use Rattle.runner.specs.Run as run
 use Rattle.runner.specs.Run.{enter, judgedLine, faulty, opened}
-use Rattle.runner.specs.Standings.{Reached, AtAs, OverAs, StandsAs}
+use Rattle.runner.specs.bridge.Standings.{Reached, AtAs, OverAs, StandsAs}
 use Rattle.runner.specs.declared.running.Outcome.the-variants.{Ended, Failed}
 use Rattle.runner.specs.declared.running.Standing.{Standing}
 

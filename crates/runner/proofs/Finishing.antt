@@ -15,17 +15,17 @@ use Rattle.loader.specs.declared.loading.Loaded.the-variants as loaded
 use Rattle.loader.specs.declared.refusals.Refusal.{Refusal}
 use Rattle.loader.specs.declared.refusals.Refusal.the-variants.{SpaceTooLong}
 use Rattle.variables.specs.Variables.{stringBytes, joinedStrings}
-use Rattle.variables.specs.Memory.{stringsHeld}
+use Rattle.variables.specs.bridge.Memory.{stringsHeld}
 use Rattle.variables.specs.declared.tables.Tables.{Tables}
 use Rattle.variables.proofs.Holding.{cleaned, strings-live}
 use Rattle.variables.proofs.Told.{numbers-told, strings-told}
 use Rattle.machine.specs.Machine as spec
-use Rattle.machine.specs.Holding.{variablesOf, Settled, Sound, Same}
-use Rattle.machine.specs.declared.machine.Machine.{Machine}
+use Rattle.machine.specs.bridge.Holding.{variablesOf, Settled, Sound, Same}
+use Rattle.machine.specs.declared.state.Machine.{Machine}
 use Rattle.machine.specs.declared.records.Record.{Record}
 use Rattle.runner.specs.Run as run
 use Rattle.runner.specs.Run.{endsWith, isRefused, tablesOf, answerOf, spaceAfter, roomAfter, runOf}
-use Rattle.runner.specs.Standings.{runIn, endedAs, RanAs, refusedAs}
+use Rattle.runner.specs.bridge.Standings.{runIn, endedAs, RanAs, refusedAs}
 use Rattle.runner.specs.declared.running.Outcome.{Outcome}
 use Rattle.runner.specs.declared.running.Outcome.the-variants.{Refused}
 use Rattle.runner.specs.declared.running.Ran.{Ran}

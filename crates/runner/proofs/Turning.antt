@@ -9,13 +9,12 @@ use Rattle.words.specs.declared.places.Place.{Place}
 use Rattle.words.specs.declared.symbols.Scanned.{Scanned}
 use Rattle.loader.specs.declared.lines.LineSpan.{LineSpan}
 use Rattle.grammar.specs.Trees.{Part}
-use Rattle.statements.specs.Statements.{goodPart}
-use Rattle.statements.specs.Answers.{partOf}
+use Rattle.statements.specs.Statements.{goodPart, partOf}
 use Rattle.machine.specs.Machine.{headOf, tailOf}
 use Rattle.machine.specs.Machine as spec
-use Rattle.machine.specs.Holding.{linesAt, Parted, foundIn, entryAt, Sound, Same}
-use Rattle.machine.specs.Seeking.{soughtBy}
-use Rattle.machine.specs.declared.machine.Machine.{Machine}
+use Rattle.machine.specs.bridge.Holding.{linesAt, Parted, foundIn, entryAt, Sound, Same}
+use Rattle.machine.specs.bridge.Seeking.{soughtBy}
+use Rattle.machine.specs.declared.state.Machine.{Machine}
 use Rattle.machine.specs.declared.positions.Next.{Next}
 use Rattle.machine.specs.declared.positions.Next.the-variants as next
 use Rattle.machine.specs.declared.positions.Turned.{Turned}
@@ -26,9 +25,9 @@ use Rattle.machine.proofs.Standing as standing
 use Rattle.machine.proofs.Standing.{told-as}
 use Rattle.turns.specs.Steps as step
 use Rattle.turns.specs.Steps.{doStatement}
-use Rattle.turns.specs.Turns.{Comes, Turns, Told, FoundBelow, Standing}
+use Rattle.turns.specs.bridge.Turns.{Comes, Turns, Told, FoundBelow, Standing}
 use Rattle.control.proofs.Jumps.{found-low}
-use Rattle.runner.specs.Standings.{GoesTo, nextOf, stepped, Stood, Turnable, TurnAs}
+use Rattle.runner.specs.bridge.Standings.{GoesTo, nextOf, stepped, Stood, Turnable, TurnAs}
 
 -- ---- one step more changes nothing else
 

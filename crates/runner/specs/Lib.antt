@@ -1,3 +1,3 @@
 pub mod Run
-pub mod Standings
 pub mod Examples
+pub mod bridge

@@ -20,7 +20,7 @@ use Rattle.grammar.specs.Trees.{Part, more}
 use Rattle.statements.specs.Statements.{LineReading, doesNotRead, reads, readLine}
 use Rattle.statements.specs.Parts.{statementsOf, deepestIn}
 use Rattle.variables.specs.Variables.{Variables, stringBytes, joinedStrings}
-use Rattle.variables.specs.Memory.{numbersTable, stringsTable}
+use Rattle.variables.specs.Tables.{numbersTable, stringsTable}
 use Rattle.variables.specs.declared.tables.Tables.{Tables}
 use Rattle.runner.specs.declared.running.Ran as code
 use Rattle.runner.specs.declared.running.Outcome.{Outcome}

@@ -16,9 +16,9 @@ use Rattle.grammar.specs.Trees.{Formula, Variable, Item, comma, semicolon, show
 use Rattle.grammar.specs.Formulas as formulas
 use Rattle.grammar.specs.Formulas.{Reading, good, after, enough, formulaOf}
 use Rattle.statements.specs.Statements.{Begun, bad, done, choice, Items, noItems, items, withItem, isSeparator, afterShown, itemsAt, begunAt}
+use Rattle.statements.specs.bridge.Answers.{itemsOf}
 use Rattle.statements.specs.Parts.{withinIf}
-use Rattle.expressions.specs.Answers.{weight}
-use Rattle.statements.specs.Answers.{itemsOf}
+use Rattle.expressions.specs.bridge.Answers.{weight}
 use Rattle.expressions.proofs.Weights.{reads-if, after-lighter, symbol-reads, keyword-reads}
 use Rattle.expressions.proofs.Grammar.{formula-lighter}
 use Rattle.statements.proofs.Findings.{by-text, line-reads}

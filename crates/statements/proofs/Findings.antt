@@ -26,8 +26,8 @@ use Rattle.scanner.specs.Tokens.{reads}
 use Rattle.grammar.specs.Tests.{onName, onText, onLine}
 use Rattle.grammar.specs.Trees.{goto, gosub}
 use Rattle.statements.specs.Statements.{Begun, bad, done}
-use Rattle.grammar.specs.Answers.{lineOf}
-use Rattle.statements.specs.Answers.{nameOf, isQuoted, begunAnswer}
+use Rattle.grammar.specs.bridge.Answers.{lineOf}
+use Rattle.statements.specs.bridge.Answers.{nameOf, isQuoted, begunAnswer}
 use Rattle.grammar.specs.declared.tests.NamedLine.{NamedLine}
 use Rattle.grammar.specs.declared.tests.NamedLine.the-variants.{Names, NoLine}
 use Rattle.statements.specs.declared.reading.NameFound.{NameFound}

@@ -10,8 +10,8 @@ use Rattle.grammar.specs.Tests.{choose, isSymbol, endsStatement}
 use Rattle.grammar.specs.Trees.{Formula, comma, semicolon, shown}
 use Rattle.grammar.specs.Formulas.{Reading, bad, good, after, enough, formulaOf}
 use Rattle.statements.specs.Statements.{Items, items, withItem, isSeparator, afterShown, itemsAt}
-use Rattle.expressions.specs.Answers.{weight}
-use Rattle.statements.specs.Answers.{itemsOf}
+use Rattle.statements.specs.bridge.Answers.{itemsOf}
+use Rattle.expressions.specs.bridge.Answers.{weight}
 use Rattle.expressions.proofs.Weights.{symbol-reads, after-lighter, weight-enough}
 use Rattle.expressions.proofs.Grammar.{formula-lighter}
 

@@ -17,7 +17,7 @@ use Rattle.grammar.specs.Tests.{choose}
 use Rattle.grammar.specs.Formulas.{after}
 use Rattle.statements.specs.Statements.{bad, byWord, byMark, numberAt, byToken}
 use Rattle.statements.specs.Parts.{deepest}
-use Rattle.statements.specs.Answers.{nameOf, isQuoted, formedRead, begunAnswer}
+use Rattle.statements.specs.bridge.Answers.{nameOf, isQuoted, formedRead, begunAnswer}
 use Rattle.statements.specs.declared.reading.NameFound.the-variants.{None}
 use Rattle.statements.specs.declared.reading.StatementRead.the-variants as statement
 use Rattle.statements.proofs.Findings.{jump-same}

@@ -13,9 +13,8 @@ use Rattle.scanner.specs.Tokens.{reads, tokenAt}
 use Rattle.grammar.specs.Tests.{isSymbol, isKeyword, endsStatement}
 use Rattle.grammar.specs.Trees.{Formula, Part}
 use Rattle.grammar.specs.Formulas.{enough}
-use Rattle.statements.specs.Statements.{Begun, bad, done, choice, begunAt, PartReading, badPart, goodPart, mappedPart, following, branched, onBegun, partAt}
-use Rattle.expressions.specs.Answers.{weight}
-use Rattle.statements.specs.Answers.{partOf}
+use Rattle.statements.specs.Statements.{Begun, bad, done, choice, begunAt, PartReading, badPart, goodPart, mappedPart, following, branched, onBegun, partAt, partOf}
+use Rattle.expressions.specs.bridge.Answers.{weight}
 use Rattle.expressions.proofs.Weights.{symbol-reads, keyword-reads, after-lighter, weight-enough}
 use Rattle.statements.proofs.Beginning.{Within, begun-within}
 

@@ -17,8 +17,8 @@ use Rattle.expressions.specs.Types.{sortOf, depthOf}
 use Rattle.statements.specs.Statements.{Items, noItems, items, withItem, isSeparator, itemsAt, printed, printAt}
 use Rattle.statements.specs.Parts.{itemFormulas, deepest, allSome}
 use Rattle.expressions.specs.Types.{isSome}
-use Rattle.expressions.specs.Answers.{cappedDepth}
-use Rattle.statements.specs.Answers.{formedRead, begunAnswer}
+use Rattle.expressions.specs.bridge.Answers.{cappedDepth}
+use Rattle.statements.specs.bridge.Answers.{formedRead, begunAnswer}
 use Rattle.statements.specs.declared.reading.StatementRead.{StatementRead}
 use Rattle.statements.specs.declared.reading.StatementRead.the-variants as statement
 use Rattle.statements.proofs.Fuel.{turn}

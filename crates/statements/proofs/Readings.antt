@@ -18,8 +18,8 @@ use Rattle.expressions.specs.Types.{sortOf, depthOf}
 use Rattle.statements.specs.Statements.{bad, done, choice, targetAt, inputAt, byToken, begunAt}
 use Rattle.expressions.specs.Types.{isWhole, isOf}
 use Rattle.statements.specs.Parts.{isNumber, deepest}
-use Rattle.statements.specs.Answers.{isQuoted, formedRead, boundOf, begunAnswer}
-use Rattle.expressions.specs.Answers.{cappedDepth}
+use Rattle.statements.specs.bridge.Answers.{isQuoted, formedRead, boundOf, begunAnswer}
+use Rattle.expressions.specs.bridge.Answers.{cappedDepth}
 use Rattle.expressions.specs.declared.sorts.Sort.{Sort}
 use Rattle.grammar.specs.declared.tests.NamedLine.the-variants.{NoLine}
 use Rattle.statements.specs.declared.reading.Bound.{Bound}

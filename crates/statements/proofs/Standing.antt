@@ -21,8 +21,8 @@ use Rattle.grammar.specs.Trees.{Formula, number, Variable, Item, semicolon, Sta
 use Rattle.grammar.specs.Formulas as formulas
 use Rattle.grammar.specs.Formulas.{Reading, good, after, quotedBytes, enough, formulaOf}
 use Rattle.statements.specs.Statements.{Begun, bad, done, choice, onFormula, variableOf, assignAt, Items, noItems, items, itemsAt, printed, printAt, ifAt, forAt, targetAt, inputAt, byWord, byMark, numberAt, byToken, begunAt}
-use Rattle.grammar.specs.Answers.{lineOf}
-use Rattle.statements.specs.Answers.{isQuoted, itemsOf}
+use Rattle.grammar.specs.bridge.Answers.{lineOf}
+use Rattle.statements.specs.bridge.Answers.{isQuoted, itemsOf}
 use Rattle.grammar.specs.declared.tests.NamedLine.the-variants.{Names}
 use Rattle.statements.proofs.Findings.{by-name, by-line, by-text}
 

@@ -15,9 +15,9 @@ use Rattle.grammar.specs.Tests.{choose, isSymbol, isKeyword, endsStatement, end
 use Rattle.grammar.specs.Trees.{Formula, Item, comma, semicolon, shown, Statement, ifThen, ifElse, Part, last, more}
 use Rattle.grammar.specs.Formulas as formulas
 use Rattle.grammar.specs.Formulas.{Reading, good, after, formulaOf}
-use Rattle.statements.specs.Statements.{Begun, bad, done, choice, Items, noItems, items, withItem, isSeparator, afterShown, begunAt, PartReading, badPart, goodPart, mappedPart, branched, reads, whole, readLine}
+use Rattle.statements.specs.Statements.{Begun, bad, done, choice, Items, noItems, items, withItem, isSeparator, afterShown, begunAt, PartReading, badPart, goodPart, mappedPart, branched, reads, whole, readLine, partOf}
+use Rattle.statements.specs.bridge.Answers.{itemsOf}
 use Rattle.statements.specs.Parts.{statementsOf, withinIf}
-use Rattle.statements.specs.Answers.{itemsOf, partOf}
 use Rattle.statements.proofs.Fuel.{items-unrolled}
 use Rattle.statements.proofs.Standing.{Stands, Chosen, begun-seen}
 use Rattle.statements.proofs.Parts.{partBy, unrolled}

@@ -250,6 +250,10 @@ partAt (suc n) s first p =
     (λ statement t. following p statement t (λ q. partAt n s false q))
     (λ c t. branched p c (partAt n s true (t .next .0)) (λ q. partAt n s true q))
 
+-- the bytes of the line bound how deep it goes
+unfoldable pub partOf : List ℕ → Bool → ℕ → PartReading
+partOf s first p = partAt (enough s) s first p
+
 -- ---- a line
 
 pub data LineReading : Type 0 where

@@ -10,12 +10,12 @@ use Rattle.scanner.specs.Tokens.{tokenAt}
 use Rattle.grammar.specs.Tests.{isKeyword}
 use Rattle.grammar.specs.Formulas.{after, formulaOf}
 use Rattle.statements.specs.Statements.{printAt, ifAt}
-use Rattle.turns.specs.Turns.{Formed}
-use Rattle.turns.specs.Doing.{Begins}
+use Rattle.turns.specs.bridge.Turns.{Formed}
+use Rattle.turns.specs.bridge.Doing.{Begins}
 use Rattle.machine.proofs.Beginning.{if-so, by-items, by-condition, by-input}
-use Rattle.dialogue.specs.Showing.{Itemed}
-use Rattle.dialogue.specs.Asking.{Asks}
-use Rattle.steps.specs.Doing.{lineAt}
+use Rattle.dialogue.specs.bridge.Showing.{Itemed}
+use Rattle.dialogue.specs.bridge.Asking.{Asks}
+use Rattle.steps.specs.bridge.Doing.{lineAt}
 
 module _ (s : List ℕ) (short : length s ≤ 255) (q : Place) {t : Scanned} (scanned : t ≡ tokenAt s q) where
   pub print-itemed : Begins (printAt s t) → Itemed s t

@@ -53,27 +53,27 @@ use Rattle.grammar.specs.Tests.{isSymbol, isKeyword, endsStatement}
 use Rattle.grammar.specs.Trees as tree
 use Rattle.grammar.specs.Trees.{Part, last, more}
 use Rattle.grammar.specs.Formulas.{good, after, formulaOf}
-use Rattle.statements.specs.Statements.{Begun, bad, done, choice, items, printAt, ifAt, inputAt, begunAt, PartReading, goodPart}
-use Rattle.statements.specs.Answers.{itemsOf, partOf}
+use Rattle.statements.specs.Statements.{Begun, bad, done, choice, items, printAt, ifAt, inputAt, begunAt, PartReading, goodPart, partOf}
+use Rattle.statements.specs.bridge.Answers.{itemsOf}
 use Rattle.statements.proofs.Parts.{partBy, unrolled}
 use Rattle.statements.proofs.Views.{Final, plain, thens, elses, more-view, final-view}
 use Rattle.machine.specs.Machine as spec
 use Rattle.machine.specs.Machine.{Rest, nothing, part, headOf, tailOf}
-use Rattle.machine.specs.Holding.{linesAt, positionOf, Parted, Positioned, Sound}
-use Rattle.machine.specs.Seeking.{soughtBy}
-use Rattle.machine.specs.declared.machine.Machine.{Machine}
+use Rattle.machine.specs.bridge.Holding.{linesAt, positionOf, Parted, Positioned, Sound}
+use Rattle.machine.specs.bridge.Seeking.{soughtBy}
+use Rattle.machine.specs.declared.state.Machine.{Machine}
 use Rattle.machine.specs.declared.positions.Turned.{Turned}
 use Rattle.machine.specs.declared.positions.Next.the-variants as next
 use Rattle.machine.specs.declared.records.Record.{Record}
 use Rattle.machine.specs.declared.records.Found.{Found}
 use Rattle.machine.proofs.Standing.{true-part}
 use Rattle.turns.specs.Steps.{doStatement}
-use Rattle.turns.specs.Turns.{turnedTo, afterOf, Turns, anyRecords, Told, Standing}
-use Rattle.turns.specs.Doing.{Begins, Does}
+use Rattle.turns.specs.bridge.Turns.{turnedTo, afterOf, Turns, anyRecords, Told, Standing}
+use Rattle.turns.specs.bridge.Doing.{Begins, Does}
 use Rattle.machine.proofs.Beginning.{if-so, by-items, by-condition, by-input}
 use Rattle.turns.proofs.Doing.{any-told, goes-turn}
 use Rattle.machine.proofs.Tokens.{wordTag}
-use Rattle.steps.specs.Doing.{lineAt, ledBy, ReadsAs, LeadAs}
+use Rattle.steps.specs.bridge.Doing.{lineAt, ledBy, ReadsAs, LeadAs}
 use Rattle.steps.specs.declared.leading.Lead.{Lead}
 
 -- ---- what is left of a part after its first statement, which a token ends

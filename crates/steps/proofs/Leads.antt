@@ -55,7 +55,7 @@ use Rattle.grammar.specs.Trees.{empty}
 use Rattle.statements.specs.Statements.{Begun, bad, done, choice, byWord, byMark, byToken}
 use Rattle.machine.proofs.Beginning.{begun-token}
 use Rattle.machine.proofs.Tokens.{tokenTag, wordTag}
-use Rattle.steps.specs.Doing.{ledBy, ReadsAs, LeadAs}
+use Rattle.steps.specs.bridge.Doing.{ledBy, ReadsAs, LeadAs}
 
 -- by its first token
 pub lead-by : (line : List ℕ) (at : Place) {t : Scanned} {x : Token} → t ≡ tokenAt line at → t .token ≡ x

@@ -2,13 +2,12 @@
 ghost use mathlib.Core.Path.{_≡_};
 ghost use mathlib.Core.Bool.{true};
 ghost use Rattle.grammar.specs.Trees.{Part};
-ghost use Rattle.statements.specs.Statements.{goodPart};
-ghost use Rattle.statements.specs.Answers.{partOf};
+ghost use Rattle.statements.specs.Statements.{goodPart, partOf};
 ghost use Rattle.machine.specs.Machine.{headOf, tailOf};
-ghost use Rattle.machine.specs.Holding.{linesAt, Parted, Sound};
-ghost use Rattle.machine.specs.Seeking.{soughtBy};
+ghost use Rattle.machine.specs.bridge.Holding.{linesAt, Parted, Sound};
+ghost use Rattle.machine.specs.bridge.Seeking.{soughtBy};
 ghost use Rattle.turns.specs.Steps.{doStatement};
-ghost use Rattle.turns.specs.Turns.{Turns, Told, Standing, FoundBelow};
+ghost use Rattle.turns.specs.bridge.Turns.{Turns, Told, Standing, FoundBelow};
 use crate::leading::lead_at;
 use control::call;
 use control::choose;

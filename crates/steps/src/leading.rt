@@ -1,5 +1,5 @@
 // How a statement is led.
-ghost use Rattle.steps.specs.Doing.{LeadAs};
+ghost use Rattle.steps.specs.bridge.Doing.{LeadAs};
 use scanner::token_at;
 use words::Place;
 use words::Scanned;

@@ -39,7 +39,7 @@ use Rattle.variables.specs.declared.values.Worked.{Worked}
 use Rattle.variables.specs.declared.values.Worked.the-variants as worked
 use Rattle.strings.specs.Functions as definition
 use Rattle.strings.specs.Functions.{ranged, within, word, bytes, fillRight, fillByte, midLength, called}
-use Rattle.strings.specs.Memory.{MadeOf, Placed, argumentLength, argumentWord, firstOf, secondOf, thirdOf, areThree, valuesIn}
+use Rattle.strings.specs.bridge.Memory.{MadeOf, Placed, argumentLength, argumentWord, firstOf, secondOf, thirdOf, areThree, valuesIn}
 use Rattle.strings.specs.declared.arguments.Argument.the-variants as argument
 use Rattle.strings.specs.declared.arguments.Given.{Given}
 use Rattle.strings.proofs.Givens.{word-first, word-second, word-third, bytes-first, value-second, count-three}

@@ -10,7 +10,7 @@ use lib.Seq.{length-take-le, drop-drop}
 use Rattle.variables.specs.Strings.{Room, letGo, letAllGo}
 use Rattle.strings.specs.Functions as definition
 use Rattle.strings.specs.Functions.{wordIn, bytesIn, word, bytes}
-use Rattle.strings.specs.Memory.{argumentLength, argumentWord, argumentIn, firstOf, secondOf, thirdOf, areThree, givenLength, valuesIn}
+use Rattle.strings.specs.bridge.Memory.{argumentLength, argumentWord, argumentIn, firstOf, secondOf, thirdOf, areThree, givenLength, valuesIn}
 use Rattle.strings.specs.declared.arguments.Argument.{Argument}
 use Rattle.strings.specs.declared.arguments.Argument.the-variants as argument
 use Rattle.strings.specs.declared.arguments.Given.{Given}

@@ -18,8 +18,8 @@ use Rattle.space.proofs.Kept.{Kept, copied-kept, moved-kept}
 use Rattle.space.proofs.Frames.{copied-bytes, moved-bytes}
 use Rattle.variables.specs.Strings.{Room, Outcome, fault, make, produced, letAllGo}
 use Rattle.strings.specs.Functions.{answered, bytes}
-use Rattle.variables.specs.Memory.{Held, Made, answeredAs}
-use Rattle.strings.specs.Memory.{MadeOf, Placed, argumentLength, firstOf, givenLength, valuesIn}
+use Rattle.variables.specs.bridge.Memory.{Held, Made, answeredAs}
+use Rattle.strings.specs.bridge.Memory.{MadeOf, Placed, argumentLength, firstOf, givenLength, valuesIn}
 use Rattle.strings.specs.declared.arguments.Given.{Given}
 use Rattle.variables.specs.declared.values.Worked.{Worked}
 use Rattle.variables.specs.declared.values.Worked.the-variants as worked

@@ -2,7 +2,7 @@
 ghost use mathlib.Core.Path.{_≡_};
 ghost use Prim.Native.Nat.{_≤_};
 ghost use Rattle.strings.specs.Functions.{within};
-ghost use Rattle.strings.specs.Memory.{argumentLength, argumentWord, firstOf, secondOf, thirdOf, areThree, givenLength};
+ghost use Rattle.strings.specs.bridge.Memory.{argumentLength, argumentWord, firstOf, secondOf, thirdOf, areThree, givenLength};
 
 // A whole number, or a text of so many bytes.
 pub enum Argument {

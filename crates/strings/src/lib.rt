@@ -1,6 +1,6 @@
 // The arguments of a function, and what a function that gives a text makes of them.
 mod arguments;
-mod strings;
+mod making;
 
 pub use arguments::Argument;
 pub use arguments::Given;
@@ -11,5 +11,5 @@ pub use arguments::given_length;
 pub use arguments::in_range;
 pub use arguments::second_length;
 pub use arguments::third_length;
-pub use strings::Reply;
-pub use strings::text_called;
+pub use making::Reply;
+pub use making::text_called;

@@ -9,13 +9,13 @@ use Rattle.words.specs.declared.names.Telling.{Telling}
 use Rattle.words.specs.declared.places.Place.{Place}
 use Rattle.words.specs.declared.symbols.Scanned.{Scanned}
 use Rattle.grammar.specs.Trees.{Formula, Variable, assign}
-use Rattle.variables.specs.Memory.{spaceStored}
+use Rattle.variables.specs.bridge.Memory.{spaceStored}
 use Rattle.variables.specs.declared.values.Worked.the-variants.{Whole, Text, Fault}
-use Rattle.machine.specs.Holding.{Sound, positionOf, Positioned}
-use Rattle.machine.specs.declared.machine.Machine.{Machine}
+use Rattle.machine.specs.bridge.Holding.{Sound, positionOf, Positioned}
+use Rattle.machine.specs.declared.state.Machine.{Machine}
 use Rattle.machine.specs.declared.positions.Next.the-variants as next
 use Rattle.turns.specs.Steps.{goesOn, assigned, doStatement}
-use Rattle.turns.specs.Turns.{turnedTo, afterOf, Turns, anyRecords, Valued, numberSet, stringSet, storedTurn}
+use Rattle.turns.specs.bridge.Turns.{turnedTo, afterOf, Turns, anyRecords, Valued, numberSet, stringSet, storedTurn}
 use Rattle.turns.proofs.Keeping.{settled-kept, sound-kept, leaves-unprinted}
 use Rattle.turns.proofs.Leading.{leads-on, turns-fails}
 use Rattle.turns.proofs.Working.{leads-worked}

@@ -9,13 +9,13 @@ use Rattle.words.specs.declared.symbols.Token.{Token}
 use Rattle.grammar.specs.Tests.{onLine}
 use Rattle.grammar.specs.Trees.{Variable}
 use Rattle.grammar.specs.Formulas.{after}
-use Rattle.grammar.specs.Answers.{lineOf}
+use Rattle.grammar.specs.bridge.Answers.{lineOf}
 use Rattle.grammar.specs.declared.tests.NamedLine.the-variants.{Names, NoLine}
 use Rattle.statements.specs.Statements.{Begun, assignAt}
 use Rattle.statements.proofs.Findings.{by-line}
 use Rattle.machine.proofs.Beginning.{by-assign}
-use Rattle.turns.specs.Turns.{Formed}
-use Rattle.turns.specs.Doing.{Begins}
+use Rattle.turns.specs.bridge.Turns.{Formed}
+use Rattle.turns.specs.bridge.Doing.{Begins}
 
 module _ (s : List ℕ) (short : length s ≤ 255) where
   pub assign-formed : (v : Variable) (t : Scanned) → Begins (assignAt s v t) → Formed s (after s t)

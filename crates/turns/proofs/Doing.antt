@@ -11,16 +11,16 @@ use Rattle.grammar.specs.Trees as tree
 use Rattle.grammar.specs.Formulas.{good, after, formulaOf}
 use Rattle.statements.specs.Statements.{Begun, variableOf}
 use Rattle.machine.specs.Machine as spec
-use Rattle.machine.specs.Holding.{positionOf, Positioned, Sound}
-use Rattle.machine.specs.declared.machine.Machine.{Machine}
+use Rattle.machine.specs.bridge.Holding.{positionOf, Positioned, Sound}
+use Rattle.machine.specs.declared.state.Machine.{Machine}
 use Rattle.machine.specs.declared.positions.Turned.{Turned}
 use Rattle.machine.specs.declared.positions.Next.the-variants as next
 use Rattle.machine.specs.declared.records.Record.{Record}
 use Rattle.machine.specs.declared.records.Found.{Found}
 use Rattle.turns.specs.Steps as step
 use Rattle.turns.specs.Steps.{goesOn, ends, stops, fails, doStatement}
-use Rattle.turns.specs.Turns.{turnedTo, afterOf, Turns, anyRecords}
-use Rattle.turns.specs.Doing.{Does, setAt}
+use Rattle.turns.specs.bridge.Turns.{turnedTo, afterOf, Turns, anyRecords}
+use Rattle.turns.specs.bridge.Doing.{Does, setAt}
 use Rattle.machine.proofs.Beginning.{by-assign}
 use Rattle.turns.proofs.Keeping.{leaves-unprinted}
 use Rattle.turns.proofs.Leading.{leads-self, turns-fails, turns-on, turns-ends, turns-stops}

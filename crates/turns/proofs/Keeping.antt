@@ -7,16 +7,16 @@ use native.Mathlib.Nat.{le-refl}
 use native.Mathlib.Omega.{arith}
 use Rattle.variables.specs.Strings.{Room}
 use Rattle.variables.specs.Variables.{Variables}
-use Rattle.variables.specs.Memory.{Held}
+use Rattle.variables.specs.bridge.Memory.{Held}
 use Rattle.variables.specs.declared.tables.Tables.{Tables}
 use Rattle.variables.proofs.Holding.{strings-held-kept, strings-live}
 use Rattle.machine.specs.Machine as spec
 use Rattle.machine.specs.Machine.{roomOf, noting, withVariables}
-use Rattle.machine.specs.Holding.{variablesOf, Settled, Sound, Same}
-use Rattle.machine.specs.declared.machine.Machine.{Machine}
+use Rattle.machine.specs.bridge.Holding.{variablesOf, Settled, Sound, Same}
+use Rattle.machine.specs.declared.state.Machine.{Machine}
 use Rattle.machine.specs.declared.positions.Turned.{Turned}
 use Rattle.machine.specs.declared.records.Record.{Record}
-use Rattle.turns.specs.Turns.{Leaves, withTables}
+use Rattle.turns.specs.bridge.Turns.{Leaves, withTables}
 
 -- other tables hold other variables
 pub same-tables : {text : List ℕ} {rs : List Record} {m : Machine} {input space room : List ℕ} {n : spec.Machine}

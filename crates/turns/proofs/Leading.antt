@@ -8,8 +8,8 @@ use native.Mathlib.Omega.{arith}
 use Rattle.whole.specs.declared.errors.Error.{Error}
 use Rattle.words.specs.declared.places.Place.{Place}
 use Rattle.machine.specs.Machine as spec
-use Rattle.machine.specs.Holding.{linesAt, Begins, positionOf, Positioned, blankRecord, Same}
-use Rattle.machine.specs.declared.machine.Machine.{Machine}
+use Rattle.machine.specs.bridge.Holding.{linesAt, Begins, positionOf, Positioned, blankRecord, Same}
+use Rattle.machine.specs.declared.state.Machine.{Machine}
 use Rattle.machine.specs.declared.positions.Position.{Position}
 use Rattle.machine.specs.declared.positions.Next.{Next}
 use Rattle.machine.specs.declared.positions.Next.the-variants as next
@@ -18,9 +18,9 @@ use Rattle.machine.specs.declared.records.Record.{Record}
 use Rattle.machine.proofs.Stacking.{records-past}
 use Rattle.turns.specs.Steps as step
 use Rattle.turns.specs.Steps.{goesOn, enters, ends, stops, fails}
-use Rattle.turns.specs.Turns.{turnedTo, Comes, Leaves, Turns}
+use Rattle.turns.specs.bridge.Turns.{turnedTo, Comes, Leaves, Turns}
 -- it stands among the definitions, as contracts name it
-pub use Rattle.turns.specs.Turns.{Leads}
+pub use Rattle.turns.specs.bridge.Turns.{Leads}
 
 module _ {text : List ℕ} {rs : List Record} {m : Machine} {input space room : List ℕ} where
   -- at once

@@ -10,17 +10,17 @@ use Rattle.words.specs.declared.places.Place.{Place}
 use Rattle.words.specs.declared.symbols.Scanned.{Scanned}
 use Rattle.words.proofs.Choices.{by-test}
 use Rattle.variables.specs.Variables.{numbersFull, stringsFull}
-use Rattle.variables.specs.Memory.{numbersHeld, stringsHeld, numberStored, stringStored, spaceStored}
+use Rattle.variables.specs.bridge.Memory.{numbersHeld, stringsHeld, numberStored, stringStored, spaceStored}
 use Rattle.variables.specs.declared.tables.Tables.{Tables}
 use Rattle.variables.proofs.StoredNumbers.{NumberKept, number-stored}
 use Rattle.variables.proofs.StoredStrings.{StringKept, string-stored}
 use Rattle.machine.specs.Machine as spec
-use Rattle.machine.specs.Holding.{Settled, Sound, Same, positionOf, Positioned}
-use Rattle.machine.specs.declared.machine.Machine.{Machine}
+use Rattle.machine.specs.bridge.Holding.{Settled, Sound, Same, positionOf, Positioned}
+use Rattle.machine.specs.declared.state.Machine.{Machine}
 use Rattle.machine.specs.declared.records.Record.{Record}
 use Rattle.turns.specs.Steps as step
 use Rattle.turns.specs.Steps.{goesOn, fails, storeNumber, storeString, withNumber, withString}
-use Rattle.turns.specs.Turns.{afterOf, withTables, Turns, numberSet, stringSet, storedTurn}
+use Rattle.turns.specs.bridge.Turns.{afterOf, withTables, Turns, numberSet, stringSet, storedTurn}
 use Rattle.turns.specs.declared.setting.Stored.{Stored}
 use Rattle.turns.proofs.Keeping.{same-tables, leaves-unprinted}
 use Rattle.turns.proofs.Leading.{Leads, Led, turns-fails, turns-on}

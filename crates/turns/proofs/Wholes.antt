@@ -8,14 +8,14 @@ use Rattle.words.specs.declared.symbols.Scanned.{Scanned}
 use Rattle.grammar.specs.Trees.{Formula}
 use Rattle.variables.specs.declared.values.Worked.the-variants.{Whole, Text, Fault}
 use Rattle.machine.specs.Machine as spec
-use Rattle.machine.specs.Holding.{Sound}
-use Rattle.machine.specs.declared.machine.Machine.{Machine}
+use Rattle.machine.specs.bridge.Holding.{Sound}
+use Rattle.machine.specs.declared.state.Machine.{Machine}
 use Rattle.machine.specs.declared.positions.Turned.{Turned}
 use Rattle.machine.specs.declared.positions.Next.the-variants as next
 use Rattle.machine.specs.declared.records.Record.{Record}
 use Rattle.turns.specs.Steps as step
 use Rattle.turns.specs.Steps.{workedWhole}
-use Rattle.turns.specs.Turns.{turnedTo, Turns, Valued}
+use Rattle.turns.specs.bridge.Turns.{turnedTo, Turns, Valued}
 use Rattle.turns.proofs.Keeping.{sound-kept, leaves-unprinted}
 use Rattle.turns.proofs.Leading.{turns-fails, turns-then}
 use Rattle.turns.proofs.Working.{leads-whole}

@@ -8,19 +8,19 @@ use Rattle.words.specs.declared.symbols.Scanned.{Scanned}
 use Rattle.grammar.specs.Trees.{Formula}
 use Rattle.variables.specs.Strings.{Value, whole, text, Outcome, value, fault}
 use Rattle.operators.specs.Values.{valueOf}
-use Rattle.variables.specs.Memory.{Agrees}
-use Rattle.formulas.specs.Memory.{Evaluated}
+use Rattle.variables.specs.bridge.Memory.{Agrees}
+use Rattle.formulas.specs.bridge.Memory.{Evaluated}
 use Rattle.variables.specs.declared.values.Worked.{Worked}
 use Rattle.variables.specs.declared.values.Worked.the-variants.{Whole, Text, Fault}
 use Rattle.variables.proofs.Holding.{held-looked}
 use Rattle.machine.specs.Machine as spec
 use Rattle.machine.specs.Machine.{roomOf, noting}
-use Rattle.machine.specs.Holding.{variablesOf, Settled, Same}
-use Rattle.machine.specs.declared.machine.Machine.{Machine}
+use Rattle.machine.specs.bridge.Holding.{variablesOf, Settled, Same}
+use Rattle.machine.specs.declared.state.Machine.{Machine}
 use Rattle.machine.specs.declared.records.Record.{Record}
 use Rattle.turns.specs.Steps as step
 use Rattle.turns.specs.Steps.{fails, worked, wholeOnly, workedWhole}
-use Rattle.turns.specs.Turns.{Valued}
+use Rattle.turns.specs.bridge.Turns.{Valued}
 use Rattle.turns.proofs.Keeping.{settled-kept, same-kept, same-noting, room-held}
 use Rattle.turns.proofs.Leading.{Leads}
 

@@ -1,3 +1,2 @@
 pub mod Steps
-pub mod Turns
-pub mod Doing
+pub mod bridge

@@ -2,9 +2,9 @@
 ghost use mathlib.Core.Path.{_≡_};
 ghost use Rattle.grammar.specs.Trees.{Formula};
 ghost use Rattle.grammar.specs.Formulas.{good, formulaOf};
-ghost use Rattle.machine.specs.Holding.{Settled};
+ghost use Rattle.machine.specs.bridge.Holding.{Settled};
 ghost use Rattle.machine.specs.declared.positions.Next.the-variants as next;
-ghost use Rattle.turns.specs.Turns.{turnedTo, afterOf, Formed, Valued};
+ghost use Rattle.turns.specs.bridge.Turns.{turnedTo, afterOf, Formed, Valued};
 use formulas::work_out;
 use grammar::is_symbol;
 use machine::Machine;

@@ -7,7 +7,7 @@ use borrow.Author.Tests.{lt-ltb, le-ltb}
 use lib.ListN.{length, take, drop}
 use Rattle.words.specs.declared.symbols.Scanned.{Scanned}
 use Rattle.variables.specs.Strings.{Room, make}
-use Rattle.variables.specs.Memory.{Agrees, Held, textLength, Framed}
+use Rattle.variables.specs.bridge.Memory.{Agrees, Held, textLength, Framed}
 use Rattle.variables.specs.declared.values.Worked.{Worked}
 use Rattle.variables.specs.declared.values.Worked.the-variants as worked
 use Rattle.whole.specs.declared.errors.Error.the-variants.{OutOfStringSpace}

@@ -10,18 +10,8 @@ use Rattle.words.specs.Names.{alike}
 use Rattle.words.specs.declared.names.Telling.{Telling}
 use Rattle.space.specs.Moves.{cleared}
 use Rattle.variables.specs.Variables.{wordOf, bytesOf, stringBytes, joinedStrings}
-use Rattle.variables.specs.Memory.{
-  namesFrom,
-  numbersIn,
-  stringsIn,
-  sumOf,
-  Looked,
-  emptyTables,
-  numbersHeld,
-  stringsHeld,
-  TidyNumbers,
-  TidyStrings,
-}
+use Rattle.variables.specs.bridge.Memory.{stringsIn, Looked, numbersHeld, stringsHeld, TidyNumbers, TidyStrings}
+use Rattle.variables.specs.Tables.{namesFrom, numbersIn, sumOf, emptyTables}
 use Rattle.variables.specs.declared.tables.Numbers.{Numbers}
 use Rattle.variables.specs.declared.tables.Strings.{Strings}
 use Rattle.variables.proofs.Lookups.{names-length, strings-kept, strings-sum}

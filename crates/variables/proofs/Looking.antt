@@ -6,7 +6,8 @@ use lib.ListN.{take}
 use lib.Seq.{take-take}
 use Rattle.words.specs.declared.names.Telling.{Telling}
 use Rattle.variables.specs.Variables.{Variables, wordOf, bytesOf}
-use Rattle.variables.specs.Memory.{namesIn, numbersIn, stringsIn, slotIn, sumOf, SlotBelow, wordAt, bytesAt, Looked}
+use Rattle.variables.specs.bridge.Memory.{stringsIn, SlotBelow, wordAt, bytesAt, Looked}
+use Rattle.variables.specs.Tables.{namesIn, numbersIn, slotIn, sumOf}
 use Rattle.variables.specs.declared.tables.Slot.{Slot}
 use Rattle.variables.specs.declared.tables.Slot.the-variants as slot
 use Rattle.variables.proofs.Lookups.{slot-below, slot-word, no-slot-word, slot-bytes, no-slot-bytes, strings-kept}

@@ -11,7 +11,8 @@ use Rattle.words.proofs.Choices.{by-test}
 use Rattle.words.specs.Names.{alike}
 use Rattle.words.specs.declared.names.Telling.{Telling}
 use Rattle.variables.specs.Variables.{wordOf, bytesOf, stringBytes}
-use Rattle.variables.specs.Memory.{namesFrom, namesIn, numbersIn, stringsIn, slotFrom, slotIn, sumOf}
+use Rattle.variables.specs.bridge.Memory.{stringsIn}
+use Rattle.variables.specs.Tables.{namesFrom, namesIn, numbersIn, slotFrom, slotIn, sumOf}
 use Rattle.variables.specs.declared.tables.Slot.the-variants as slot
 
 -- ---- the names of a table

@@ -6,7 +6,8 @@ use native.Mathlib.Omega.{arith}
 use lib.ListN.{length, take, drop, getD, set, replicate, length-set}
 use lib.Seq.{getD-drop, getD-set-same, getD-set-other, take-set-le, drop-set-lt}
 use Rattle.words.specs.declared.names.Telling.{Telling}
-use Rattle.variables.specs.Memory.{namesFrom, withName}
+use Rattle.variables.specs.bridge.Memory.{withName}
+use Rattle.variables.specs.Tables.{namesFrom}
 use Rattle.variables.proofs.Ways.{names-split}
 use Rattle.variables.proofs.Holding.{blank-after}
 

@@ -9,7 +9,8 @@ use lib.Seq.{length-take-le, take-suc, take-suc-set, take-append-add, getD-drop}
 use Rattle.space.specs.Moves.{overlaid, copied, moved}
 use Rattle.space.proofs.Frames.{copied-lies, copied-length, moved-lies, moved-length}
 use Rattle.space.proofs.Overlaid.{overlaid-front, overlaid-before}
-use Rattle.variables.specs.Memory.{sumOf, spaceReplaced}
+use Rattle.variables.specs.bridge.Memory.{spaceReplaced}
+use Rattle.variables.specs.Tables.{sumOf}
 use Rattle.variables.proofs.Lookups.{sum-within}
 
 -- ---- the bytes that are kept while others move

@@ -10,7 +10,8 @@ use lib.Seq.{getD-set-same, take-set-le}
 use Rattle.words.specs.declared.names.Telling.{Telling}
 use Rattle.space.proofs.Bounds.{by-bound}
 use Rattle.variables.specs.Variables.{setNumber, hasNumber, numbersFull}
-use Rattle.variables.specs.Memory.{namesFrom, numbersIn, numbersHeld, TidyNumbers, withName, numberReplaced, numberStored}
+use Rattle.variables.specs.bridge.Memory.{numbersHeld, TidyNumbers, withName, numberReplaced, numberStored}
+use Rattle.variables.specs.Tables.{namesFrom, numbersIn}
 use Rattle.variables.specs.declared.tables.Numbers.{Numbers}
 use Rattle.variables.specs.declared.assigning.NumberStored.{NumberStored}
 use Rattle.variables.proofs.Lookups.{names-length, First, here, later}

@@ -10,7 +10,8 @@ use lib.Seq.{length-take-le, take-append-seam, drop-append-seam, take-at, drop-a
 use Rattle.words.specs.declared.names.Telling.{Telling}
 use Rattle.space.proofs.Bounds.{by-bound}
 use Rattle.variables.specs.Variables.{setString, hasString, stringsFull}
-use Rattle.variables.specs.Memory.{namesFrom, stringsIn, sumOf, stringsHeld, TidyStrings, withName, stringReplaced, stringStored, spaceReplaced, spaceStored}
+use Rattle.variables.specs.bridge.Memory.{stringsIn, stringsHeld, TidyStrings, withName, stringReplaced, stringStored, spaceReplaced, spaceStored}
+use Rattle.variables.specs.Tables.{namesFrom, sumOf}
 use Rattle.variables.specs.declared.tables.Strings.{Strings}
 use Rattle.variables.specs.declared.assigning.StringStored.{StringStored}
 use Rattle.variables.proofs.Lookups.{names-length, First, here, later, sum-within, strings-kept}

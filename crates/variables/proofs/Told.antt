@@ -6,7 +6,8 @@ use native.Mathlib.Omega.{arith}
 use lib.ListN.{length, take, drop, replicate, length-drop, take-append-drop}
 use lib.Seq.{length-take-le}
 use Rattle.words.specs.declared.names.Telling.{Telling}
-use Rattle.variables.specs.Memory.{namesFrom, numbersIn, stringsIn, sumOf, numbersHeld, stringsHeld, TidyNumbers, TidyStrings, nameBytes, numbersTable, stringsTable}
+use Rattle.variables.specs.bridge.Memory.{stringsIn, numbersHeld, stringsHeld, TidyNumbers, TidyStrings}
+use Rattle.variables.specs.Tables.{namesFrom, numbersIn, sumOf, nameBytes, numbersTable, stringsTable}
 use Rattle.variables.specs.declared.tables.Numbers.{Numbers}
 use Rattle.variables.specs.declared.tables.Strings.{Strings}
 use Rattle.variables.proofs.Lookups.{names-length}

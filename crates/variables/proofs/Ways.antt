@@ -11,7 +11,8 @@ use Rattle.words.proofs.Choices.{by-test}
 use Rattle.words.specs.Names.{alike}
 use Rattle.words.specs.declared.names.Telling.{Telling}
 use Rattle.space.proofs.Bounds.{by-bound}
-use Rattle.variables.specs.Memory.{namesFrom, namesIn, slotFrom, slotIn, numberAppended, numberReplaced, numberStored, stringAppended, stringReplaced, stringStored, spaceReplaced, spaceStored}
+use Rattle.variables.specs.bridge.Memory.{numberAppended, numberReplaced, numberStored, stringAppended, stringReplaced, stringStored, spaceReplaced, spaceStored}
+use Rattle.variables.specs.Tables.{namesFrom, namesIn, slotFrom, slotIn}
 use Rattle.variables.specs.declared.tables.Numbers.{Numbers}
 use Rattle.variables.specs.declared.tables.Strings.{Strings}
 use Rattle.variables.specs.declared.tables.Slot.{Slot}

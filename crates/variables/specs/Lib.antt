@@ -1,3 +1,4 @@
 pub mod Strings
 pub mod Variables
-pub mod Memory
+pub mod Tables
+pub mod bridge

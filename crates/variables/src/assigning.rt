@@ -3,7 +3,7 @@ ghost use mathlib.Core.Path.{_≡_};
 ghost use Prim.Native.Nat.{_+_, _≤_, _<_};
 ghost use lib.ListN.{length, take, drop};
 ghost use Rattle.space.specs.Moves.{cleared};
-ghost use Rattle.variables.specs.Memory.{numberAppended, numberStored, stringAppended, stringReplaced, stringStored, spaceReplaced, spaceStored, Storable};
+ghost use Rattle.variables.specs.bridge.Memory.{numberAppended, numberStored, stringAppended, stringReplaced, stringStored, spaceReplaced, spaceStored, Storable};
 use crate::tables::Numbers;
 use crate::tables::Slot;
 use crate::tables::Strings;

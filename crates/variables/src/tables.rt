@@ -2,7 +2,7 @@
 ghost use mathlib.Core.Path.{_≡_};
 ghost use Prim.Native.Nat.{_<_, min};
 ghost use lib.ListN.{take};
-ghost use Rattle.variables.specs.Memory.{slotIn, sumOf, emptyTables};
+ghost use Rattle.variables.specs.Tables.{slotIn, sumOf, emptyTables};
 use words::Telling;
 
 // The number variables: two bytes of name each, and a word.

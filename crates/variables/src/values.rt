@@ -3,7 +3,7 @@ ghost use mathlib.Core.Path.{_≡_};
 ghost use Prim.Native.Nat.{_+_};
 ghost use lib.Dec.{leb};
 ghost use lib.ListN.{length};
-ghost use Rattle.variables.specs.Memory.{answeredAs, textLength};
+ghost use Rattle.variables.specs.bridge.Memory.{answeredAs, textLength};
 use whole::Answer;
 use whole::Error;
 use words::Scanned;

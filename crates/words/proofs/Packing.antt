@@ -11,7 +11,7 @@ use Rattle.whole.specs.Bytes.{bytes}
 use Rattle.words.specs.Spellings.{Spelt, sameBytes, meaning}
 use Rattle.words.specs.Classes.{capitalOf}
 use Rattle.words.specs.Vocabulary.{reserved, wordOf}
-use Rattle.words.specs.Packed.{packed, unpackedIn, unpacked}
+use Rattle.words.specs.bridge.Packed.{packed, unpackedIn, unpacked}
 use Rattle.words.specs.declared.vocabulary.WordFound.{WordFound}
 use Rattle.words.specs.declared.vocabulary.WordFound.the-variants.{Free}
 use Rattle.words.proofs.Choices.{by-test, both}

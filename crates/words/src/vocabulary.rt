@@ -4,7 +4,7 @@ ghost use mathlib.Core.List.{map};
 ghost use Prim.Native.Nat.{_≤_};
 ghost use Rattle.words.specs.Classes.{capitalOf};
 ghost use Rattle.words.specs.Vocabulary.{formulaWords, functionWords, dollarFunctions, wordOf};
-ghost use Rattle.words.specs.Packed.{packed, unpacked, unpackedIn};
+ghost use Rattle.words.specs.bridge.Packed.{packed, unpacked, unpackedIn};
 use crate::classes::capital;
 use crate::symbols::Function;
 use crate::symbols::Token;

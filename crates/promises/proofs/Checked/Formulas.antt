@@ -14,8 +14,8 @@ use Rattle.grammar.specs.Trees.{Formula, number, variable, text, inside, minus,
 use Rattle.grammar.specs.Functions.{wants, gives}
 use Rattle.grammar.specs.Formulas.{countOf}
 use Rattle.expressions.specs.Types.{ofKind, meets, allMeet, callGives, sortOf, sortsOf}
-use Rattle.grammar.specs.declared.functions.Want.{Want}
-use Rattle.grammar.specs.declared.functions.Want.the-variants as want
+use Rattle.grammar.specs.declared.wanting.Want.{Want}
+use Rattle.grammar.specs.declared.wanting.Want.the-variants as want
 use Rattle.expressions.specs.declared.sorts.Sort.{Sort}
 use Rattle.expressions.specs.declared.sorts.Sort.the-variants.{Whole, Text, Wrong}
 use Rattle.variables.specs.Strings as strings

@@ -19,7 +19,7 @@ use Rattle.grammar.specs.Trees as tree
 use Rattle.grammar.specs.Trees.{Formula, Arguments}
 use Rattle.grammar.specs.Functions.{wants}
 use Rattle.grammar.specs.Formulas.{countOf}
-use Rattle.grammar.specs.declared.functions.Want.{Want}
+use Rattle.grammar.specs.declared.wanting.Want.{Want}
 use Rattle.variables.specs.Strings.{Value, whole, text, Room, Outcome, value, fault, then, make, letAllGo, produced}
 use Rattle.variables.specs.Variables.{Variables, bytesOf}
 use Rattle.strings.specs.Functions.{answered, called}

@@ -7,7 +7,7 @@ use Rattle.promises.proofs.Unique.{same, pair}
 pub passed : Unique machine.passed.Kinds.ps machine.passed.Kinds.r machine.passed.Reads.Pre machine.passed.Reads.Post
 passed κs a p z z′ ws ws′ e e′ = (same e e′, refl)
 
-pub machine-fresh : Unique machine.machine.Machine.fresh.Kinds.ps machine.machine.Machine.fresh.Kinds.r machine.machine.Machine.fresh.Reads.Pre machine.machine.Machine.fresh.Reads.Post
+pub machine-fresh : Unique machine.state.Machine.fresh.Kinds.ps machine.state.Machine.fresh.Kinds.r machine.state.Machine.fresh.Reads.Pre machine.state.Machine.fresh.Reads.Post
 machine-fresh κs a p z z′ ws ws′ e e′ = (same e e′, refl)
 
 pub write : Unique machine.write.Kinds.ps machine.write.Kinds.r machine.write.Reads.Pre machine.write.Reads.Post

@@ -17,8 +17,8 @@ use Rattle.grammar.specs.Trees.{Formula, number, variable, text, inside, minus,
 use Rattle.grammar.specs.Functions.{formsOf, formFor, anyFor, wants, takes}
 use Rattle.grammar.specs.Formulas.{levelOf, notLevel, tightest, countOf}
 use Rattle.expressions.specs.Types.{depthOf, deepestOf}
-use Rattle.grammar.specs.declared.functions.Want.{Want}
-use Rattle.grammar.specs.declared.functions.Want.the-variants as want
+use Rattle.grammar.specs.declared.wanting.Want.{Want}
+use Rattle.grammar.specs.declared.wanting.Want.the-variants as want
 use Rattle.expressions.proofs.Levelled.{Levelled, AllLevelled}
 use Rattle.operators.specs.Values.{wantAt}
 use Rattle.promises.specs.Unfinished.{mostUnfinished}

@@ -17,8 +17,8 @@ use Rattle.grammar.specs.Trees.{Formula, number, Item, comma, semicolon, shown,
 use Rattle.grammar.specs.Formulas as formulas
 use Rattle.grammar.specs.Formulas.{Reading, good, after, enough, formulaOf}
 use Rattle.statements.specs.Statements.{Begun, bad, done, choice, Items, noItems, items, withItem, isSeparator, afterShown, itemsAt, begunAt, PartReading, badPart, goodPart, mappedPart, following, branched, partAt, whole, readLine}
+use Rattle.statements.specs.bridge.Answers.{itemsOf}
 use Rattle.statements.specs.Parts.{itemFormulas, formulasOf, deepest, statementsOf, withinIf, deepestIn}
-use Rattle.statements.specs.Answers.{itemsOf}
 use Rattle.expressions.proofs.Levelled.{Levelled, levelled}
 use Rattle.statements.proofs.Standing.{stepOf, Stands, Seen, begun-seen}
 use Rattle.statements.proofs.Beginning.{Alone, begun-alone}

@@ -23,7 +23,7 @@ use Rattle.variables.specs.Variables.{wordOf, numbersFull, stringsFull}
 use Rattle.operators.specs.Values.{valueOf}
 use Rattle.machine.specs.Machine.{Rest, nothing, part, Position, Record, loop, call, Machine, mostRecords, roomOf, withRecords, withInput, noting, write, commaBlanks, Search, missing, found, sought, below, passed}
 use Rattle.turns.specs.Steps.{Next, goesOn, enters, ends, stops, fails, worked, wholeOnly, workedWhole, withNumber, assigned, written, shownValue, printItems, toLine, pushed, returned, turned, nextOn, takeLine, filled, inputLine, isWholeKind, doStatement}
-use Rattle.control.specs.Answers.{loopsFrom}
+use Rattle.control.specs.bridge.Answers.{loopsFrom}
 use Rattle.promises.specs.Unfinished.{mostUnfinished}
 use Rattle.promises.proofs.Waiting.Rooms.{Good, make-good}
 use Rattle.promises.proofs.Waiting.Needs.{value-good}

@@ -1,9 +1,9 @@
 -- By whether the line is found.
 use mathlib.Core.Path.{sym, _∙_}
 use Rattle.machine.specs.Machine.{call}
-use Rattle.machine.specs.Holding.{positionOf}
+use Rattle.machine.specs.bridge.Holding.{positionOf}
 use Rattle.turns.specs.Steps.{enters, pushed}
-use Rattle.turns.specs.Turns.{afterOf}
+use Rattle.turns.specs.bridge.Turns.{afterOf}
 use borrow.Author.Needs.{needs}
 use Rattle.control.proofs.Jumps.{line-missing, gosub-found}
 use Rattle.control.proofs.jumping.gosub.Statement.{statement}

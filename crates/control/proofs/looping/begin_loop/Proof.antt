@@ -2,7 +2,7 @@
 use mathlib.Core.Path.{_∙_}
 use borrow.Author.Needs.{needs}
 use borrow.Author.Tests.{not-true, not-false}
-use Rattle.turns.specs.Turns.{afterOf}
+use Rattle.turns.specs.bridge.Turns.{afterOf}
 use Rattle.control.proofs.Fors.{loop-full, loop-made}
 use Rattle.control.proofs.looping.begin_loop.Statement.{statement}
 use Rattle.control.proofs.looping.begin_loop.Tie as tie

@@ -1,9 +1,9 @@
 -- By the name's kind, then by the first formula's answer.
 use borrow.Author.Needs.{needs}
 use Rattle.statements.specs.Statements.{variableOf}
-use Rattle.machine.specs.Holding.{positionOf}
-use Rattle.turns.specs.Turns.{afterOf}
-use Rattle.control.specs.Answers.{limitsFrom}
+use Rattle.machine.specs.bridge.Holding.{positionOf}
+use Rattle.turns.specs.bridge.Turns.{afterOf}
+use Rattle.control.specs.bridge.Answers.{limitsFrom}
 use Rattle.turns.proofs.Keeping.{settled-kept, sound-kept}
 use Rattle.turns.proofs.Wholes.{turns-fault, turns-whole, turns-text}
 use Rattle.control.proofs.Fors.{for-read, for-parts, start-formed, limit-read, for-text, for-whole}

@@ -1,8 +1,8 @@
 -- By the formula's answer.
 use borrow.Author.Needs.{needs}
-use Rattle.machine.specs.Holding.{positionOf}
-use Rattle.turns.specs.Turns.{afterOf}
-use Rattle.control.specs.Answers.{stepsFrom}
+use Rattle.machine.specs.bridge.Holding.{positionOf}
+use Rattle.turns.specs.bridge.Turns.{afterOf}
+use Rattle.control.specs.bridge.Answers.{stepsFrom}
 use Rattle.turns.proofs.Keeping.{settled-kept, sound-kept}
 use Rattle.turns.proofs.Wholes.{turns-fault, turns-whole, turns-text}
 use Rattle.control.proofs.looping.with_limit.Statement.{statement}

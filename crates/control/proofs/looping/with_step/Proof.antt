@@ -5,9 +5,9 @@ use borrow.Author.Tests.{not-true, not-false}
 use Rattle.grammar.specs.Trees.{Formula}
 use Rattle.grammar.specs.Formulas.{good, formulaOf}
 use Rattle.words.specs.declared.symbols.Scanned.{Scanned}
-use Rattle.machine.specs.Holding.{positionOf}
-use Rattle.turns.specs.Turns.{afterOf}
-use Rattle.control.specs.Answers.{loopsFrom, stepOf}
+use Rattle.machine.specs.bridge.Holding.{positionOf}
+use Rattle.turns.specs.bridge.Turns.{afterOf}
+use Rattle.control.specs.bridge.Answers.{loopsFrom, stepOf}
 use Rattle.turns.proofs.Wholes.{turns-fault, turns-text}
 use Rattle.control.proofs.Fors.{step-stands, step-left-out, step-formed, turns-by-one, turns-stepped}
 use Rattle.control.proofs.looping.with_step.Statement.{statement}

@@ -1,5 +1,5 @@
-use Rattle.machine.specs.Holding.{positionOf}
-use Rattle.turns.specs.Turns.{afterOf}
+use Rattle.machine.specs.bridge.Holding.{positionOf}
+use Rattle.turns.specs.bridge.Turns.{afterOf}
 use native.Mathlib.Omega.{arith}
 use Rattle.statements.specs.Statements.{variableOf}
 use Rattle.dialogue.proofs.Asking.{fills-none, fills-number, fills-string, fills-storable}

@@ -1,9 +1,9 @@
 use mathlib.Core.Path.{ap, _∙_}
-use Rattle.machine.specs.Holding.{positionOf}
+use Rattle.machine.specs.bridge.Holding.{positionOf}
 use Rattle.machine.specs.declared.printing.Printed.{Printed}
 use Rattle.statements.proofs.Findings.{passed, failed}
 use Rattle.statements.specs.Statements.{variableOf}
-use Rattle.turns.specs.Turns.{afterOf, withPrinter}
+use Rattle.turns.specs.bridge.Turns.{afterOf, withPrinter}
 use Rattle.dialogue.proofs.Asking.{asks-full, asks-on, printed-settled, target-is, not-target}
 use borrow.Author.Needs.{needs}
 use Rattle.dialogue.proofs.inputting.prompt.Statement.{statement}

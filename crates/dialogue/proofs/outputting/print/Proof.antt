@@ -8,8 +8,8 @@ use Rattle.words.specs.declared.symbols.Scanned.{Scanned}
 use Rattle.grammar.specs.Tests.{endsStatement}
 use Rattle.grammar.specs.Trees.{Item}
 use Rattle.statements.specs.Statements.{items}
-use Rattle.expressions.specs.Answers.{weight}
-use Rattle.statements.specs.Answers.{itemsOf}
+use Rattle.statements.specs.bridge.Answers.{itemsOf}
+use Rattle.expressions.specs.bridge.Answers.{weight}
 use Rattle.dialogue.proofs.Items.{Advances, formed-item, advances}
 use Rattle.dialogue.proofs.Prints.{Prints, items-end, prints-begin, prints-on, prints-fails, prints-ends}
 use Rattle.dialogue.proofs.outputting.print.Statement.{statement}

@@ -7,7 +7,7 @@ use lib.ListN.{length}
 use lib.Seq.{length-take-le}
 use Rattle.whole.specs.Texts.{printed}
 use Rattle.space.specs.Moves.{copied}
-use Rattle.machine.specs.Holding.{printedAs}
+use Rattle.machine.specs.bridge.Holding.{printedAs}
 use Rattle.dialogue.proofs.Printing.{held-front}
 use Rattle.dialogue.proofs.outputting.print_number.Statement.{statement}
 use Rattle.dialogue.proofs.outputting.print_number.Tie as tie

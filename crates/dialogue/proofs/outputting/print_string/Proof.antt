@@ -5,7 +5,7 @@ use native.Mathlib.Omega.{arith}
 use borrow.Author.Needs.{needs}
 use lib.ListN.{length, take, drop}
 use Rattle.space.specs.Moves.{copied}
-use Rattle.machine.specs.Holding.{printedAs}
+use Rattle.machine.specs.bridge.Holding.{printedAs}
 use Rattle.dialogue.proofs.outputting.print_string.Statement.{statement}
 use Rattle.dialogue.proofs.outputting.print_string.Tie as tie
 

@@ -8,7 +8,7 @@ use borrow.Fn.Kinds.{In}
 use borrow.Fn.PlainCycle.{Measures, is, falls, and}
 use Rattle.words.specs.declared.symbols.Token.the-variants.{Symbol}
 use Rattle.scanner.proofs.token_at.Reads as token-at-reads
-use Rattle.expressions.specs.Answers.{weight}
+use Rattle.expressions.specs.bridge.Answers.{weight}
 use Rattle.expressions.specs.declared.readers.FormulaRead.{FormulaRead}
 use Rattle.expressions.proofs.Weights.{symbol-reads, operator-reads, after-lighter}
 use Rattle.expressions.proofs.Steps.{heft, ClimbMet, ListMet, after-heft, operand-heft, formula-climbs, climb-bad, climb-ends, climb-lighter, climb-goes, operand-number, operand-hexadecimal, operand-named, operand-quoted, operand-opens, operand-negates, operand-too-tight, operand-complements, operand-no-complement, operand-calls, operand-other, operand-no-sign, call-unopened, call-lists, list-bad, list-ends, list-goes}

@@ -11,7 +11,7 @@ use Rattle.words.specs.declared.symbols.Scanned.{Scanned}
 use Rattle.scanner.proofs.token_at.Reads as token-at-reads
 use Rattle.grammar.specs.Trees.{Formula, none}
 use Rattle.grammar.specs.Formulas.{good}
-use Rattle.expressions.specs.Answers.{weight, formulaIn, argumentsOf}
+use Rattle.expressions.specs.bridge.Answers.{weight, formulaIn, argumentsOf}
 use Rattle.expressions.proofs.Steps.{operand-other, operand-no-sign}
 use Rattle.grammar.proofs.right_level.Reads as right-level-reads
 use Rattle.formulas.proofs.Climbing.{

@@ -1,7 +1,7 @@
 -- What stands in the entry of a name is what the variables have of it.
 use mathlib.Core.Path.{_≡_}
 use Rattle.variables.specs.Variables.{bytesOf}
-use Rattle.variables.specs.Memory.{bytesAt}
+use Rattle.variables.specs.bridge.Memory.{bytesAt}
 use Rattle.words.specs.Names.{nameBytes, tellingOf}
 use Rattle.variables.proofs.Looking.{found-below, looked-word, looked-bytes}
 use Rattle.formulas.proofs.Making.{number-made}

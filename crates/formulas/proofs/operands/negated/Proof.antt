@@ -1,6 +1,6 @@
 -- What is no whole number is a text or an error.
 use mathlib.Core.Path.{_∙_}
-use Rattle.variables.specs.Memory.{answeredAs}
+use Rattle.variables.specs.bridge.Memory.{answeredAs}
 use Rattle.whole.specs.Whole.{negated}
 use Rattle.formulas.proofs.Making.{no-whole}
 use borrow.Author.Needs.{needs}

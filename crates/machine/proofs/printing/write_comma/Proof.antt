@@ -6,7 +6,7 @@ use borrow.Author.Needs.{needs}
 use lib.ListN.{length, replicate}
 use lib.Seq.{length-take-le}
 use Rattle.space.specs.Moves.{copied}
-use Rattle.machine.specs.Holding.{printedAs}
+use Rattle.machine.specs.bridge.Holding.{printedAs}
 use Rattle.machine.proofs.Writing.{take-replicate}
 use Rattle.machine.proofs.printing.write_comma.Statement.{statement}
 use Rattle.machine.proofs.printing.write_comma.Tie as tie

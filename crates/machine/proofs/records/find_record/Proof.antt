@@ -5,7 +5,7 @@ use native.Mathlib.Omega.{arith}
 use borrow.Author.Needs.{needs}
 use borrow.Author.Tests.{not-true, not-false}
 use lib.ListN.{length}
-use Rattle.machine.specs.Holding.{foundFrom, foundIn}
+use Rattle.machine.specs.bridge.Holding.{foundFrom, foundIn}
 use Rattle.machine.proofs.Stacking.{length-mapped}
 use Rattle.machine.proofs.Searching.{nothing-sought, searched, ends-call, ends-none, ends-loop, goes-on, none-left}
 use Rattle.machine.proofs.records.find_record.Statement.{statement}

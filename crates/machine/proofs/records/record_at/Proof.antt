@@ -3,7 +3,7 @@ use mathlib.Core.Path.{_≡_, sym, _∙_}
 use native.Mathlib.Omega.{arith}
 use borrow.Author.Needs.{needs}
 use lib.ListN.{length, List·getD-eq-default}
-use Rattle.machine.specs.Holding.{blankRecord}
+use Rattle.machine.specs.bridge.Holding.{blankRecord}
 use Rattle.machine.proofs.Stacking.{length-mapped}
 use Rattle.machine.proofs.records.record_at.Statement.{statement}
 use Rattle.machine.proofs.records.record_at.Tie as tie

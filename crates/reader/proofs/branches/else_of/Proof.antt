@@ -7,7 +7,7 @@ use native.Mathlib.Omega.{arith}
 use native.Mathlib.Numerals.{add-one}
 use lib.ListN.{length}
 use Rattle.words.specs.Places.{place}
-use Rattle.statements.specs.Answers.{partOf}
+use Rattle.statements.specs.Statements.{partOf}
 use Rattle.expressions.proofs.Weights.{token-weight}
 use Rattle.statements.proofs.Parts.{weightAt}
 use Rattle.reader.specs.Lines.{elseOf}

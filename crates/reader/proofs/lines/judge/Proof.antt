@@ -8,7 +8,7 @@ use lib.ListN.{length}
 use Rattle.words.specs.Places.{place}
 use Rattle.reader.specs.declared.lines.Follow.{Follow}
 use Rattle.reader.specs.Lines.{judgedOf}
-use Rattle.statements.specs.Answers.{partOf}
+use Rattle.statements.specs.Statements.{partOf}
 use Rattle.expressions.proofs.Weights.{token-weight}
 use Rattle.statements.proofs.Parts.{weightAt}
 use Rattle.reader.proofs.Walks.{resume, line-begins, stepped, walk-steps, else-stops, else-steps, Lighter, walk-lighter, waiting-grows}

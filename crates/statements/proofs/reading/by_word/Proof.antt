@@ -2,7 +2,7 @@
 use mathlib.Core.Path.{_∙_, ap}
 use borrow.Author.Needs.{needs}
 use Rattle.statements.specs.Parts.{deepest}
-use Rattle.statements.specs.Answers.{begunAnswer}
+use Rattle.statements.specs.bridge.Answers.{begunAnswer}
 use Rattle.statements.proofs.Others.{word-jumps, word-alone, no-word}
 use Rattle.statements.proofs.reading.by_word.Statement.{statement}
 use Rattle.statements.proofs.reading.by_word.Tie as tie

@@ -3,7 +3,7 @@ use mathlib.Core.Path.{_≡_, refl, sym, _∙_}
 use borrow.Author.Needs.{needs}
 use Rattle.words.specs.declared.places.LineNumber.{LineNumber}
 use Rattle.words.specs.declared.symbols.Token.{Token}
-use Rattle.grammar.specs.Answers.{lineOf}
+use Rattle.grammar.specs.bridge.Answers.{lineOf}
 use Rattle.grammar.specs.Tests.{onLine}
 use Rattle.grammar.specs.declared.tests.NamedLine.{NamedLine}
 use Rattle.grammar.specs.declared.tests.NamedLine.the-variants.{Names, NoLine}

@@ -9,9 +9,9 @@ use Rattle.words.specs.declared.symbols.Scanned.{Scanned}
 use Rattle.grammar.specs.Tests.{endsStatement}
 use Rattle.grammar.specs.Formulas.{enough, formulaOf}
 use Rattle.expressions.specs.Types.{isSome, sortOf, depthOf}
-use Rattle.expressions.specs.Answers.{weight, cappedDepth}
+use Rattle.expressions.specs.bridge.Answers.{weight, cappedDepth}
 use Rattle.statements.specs.Statements.{isSeparator, itemsAt, printAt}
-use Rattle.statements.specs.Answers.{begunAnswer}
+use Rattle.statements.specs.bridge.Answers.{begunAnswer}
 use Rattle.expressions.proofs.Weights.{after-lighter}
 use Rattle.expressions.proofs.Grammar.{formula-lighter}
 use Rattle.expressions.proofs.Answering.{Answered, answered, not-read}

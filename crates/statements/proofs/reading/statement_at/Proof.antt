@@ -4,7 +4,7 @@ use borrow.Author.Needs.{needs}
 use Rattle.words.specs.declared.symbols.Token.{Token}
 use Rattle.statements.specs.Statements.{byToken, begunAt}
 use Rattle.statements.specs.Parts.{deepest}
-use Rattle.statements.specs.Answers.{begunAnswer}
+use Rattle.statements.specs.bridge.Answers.{begunAnswer}
 use Rattle.statements.specs.declared.reading.StatementRead.{StatementRead}
 use Rattle.statements.proofs.Others.{number-begins}
 use Rattle.statements.proofs.Readings.{by-token}

@@ -6,7 +6,7 @@ use borrow.Author.Needs.{needs}
 use Rattle.grammar.specs.Trees.{Formula, Variable}
 use Rattle.grammar.specs.Formulas.{after, formulaOf}
 use Rattle.expressions.specs.Types.{sortOf, depthOf, isWhole}
-use Rattle.expressions.specs.Answers.{cappedDepth}
+use Rattle.expressions.specs.bridge.Answers.{cappedDepth}
 use Rattle.statements.specs.Parts.{isNumber}
 use Rattle.statements.proofs.Findings.{passed, failed}
 use Rattle.statements.proofs.Readings.{bounded, not-bounded, stepped, stepless}

@@ -1,5 +1,5 @@
-use Rattle.machine.specs.Holding.{positionOf}
-use Rattle.turns.specs.Turns.{afterOf}
+use Rattle.machine.specs.bridge.Holding.{positionOf}
+use Rattle.turns.specs.bridge.Turns.{afterOf}
 use Rattle.turns.proofs.Doing.{ends-turn, stops-turn}
 use Rattle.steps.proofs.Beginning.{print-itemed, if-formed, input-asks}
 use Rattle.steps.proofs.Dispatching.{lead-begins, lead-does, print-does, if-does, input-does, other-does}

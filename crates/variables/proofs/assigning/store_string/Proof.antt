@@ -1,7 +1,7 @@
 -- What the search found tells which way storing goes.
 use mathlib.Core.Path.{_≡_, sym, _∙_}
 use borrow.Author.Needs.{needs}
-use Rattle.variables.specs.Memory.{slotIn}
+use Rattle.variables.specs.Tables.{slotIn}
 use Rattle.variables.specs.declared.tables.Slot.the-variants as slot
 use Rattle.variables.proofs.Lookups.{slot-below}
 use Rattle.variables.proofs.Ways.{string-old, string-new, space-old, space-new}

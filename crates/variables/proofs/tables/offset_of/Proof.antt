@@ -4,7 +4,7 @@ use Prim.Native.Nat.{_-_, _*_, _≤_, min}
 use native.Mathlib.Omega.{arith}
 use borrow.Author.Tests.{ltb-true, ltb-false}
 use lib.ListN.{take}
-use Rattle.variables.specs.Memory.{sumOf}
+use Rattle.variables.specs.Tables.{sumOf}
 use Rattle.variables.proofs.Lookups.{sum-next}
 use borrow.Author.Needs.{needs}
 use Rattle.variables.proofs.tables.offset_of.Statement.{statement}

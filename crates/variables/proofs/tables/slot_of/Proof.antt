@@ -7,7 +7,7 @@ use borrow.Author.Needs.{needs}
 use borrow.Author.Tests.{eq-eqb, ne-eqb}
 use lib.ListN.{drop}
 use Rattle.variables.proofs.Lookups.{slot-here, slot-next}
-use Rattle.variables.specs.Memory.{namesIn, namesFrom, slotFrom}
+use Rattle.variables.specs.Tables.{namesIn, namesFrom, slotFrom}
 use Rattle.variables.proofs.tables.slot_of.Statement.{statement}
 use Rattle.variables.proofs.tables.slot_of.Tie as tie
 

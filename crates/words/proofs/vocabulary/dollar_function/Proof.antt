@@ -3,7 +3,7 @@ use mathlib.Core.Path.{sym}
 use mathlib.Core.List.{[]}
 use Rattle.whole.specs.Bytes.{bytes}
 use Rattle.words.specs.Vocabulary.{dollarFunctions}
-use Rattle.words.specs.Packed.{packed, unpackedIn}
+use Rattle.words.specs.bridge.Packed.{packed, unpackedIn}
 use Rattle.words.proofs.Packing.{none-packed}
 use Rattle.words.proofs.vocabulary.dollar_function.Statement.{statement}
 use Rattle.words.proofs.vocabulary.dollar_function.Tie as tie

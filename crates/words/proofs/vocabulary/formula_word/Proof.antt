@@ -2,7 +2,7 @@
 use borrow.Author.Needs.{needs}
 use Rattle.whole.specs.Bytes.{bytes}
 use Rattle.words.specs.Vocabulary.{operatorWords, functionWords}
-use Rattle.words.specs.Packed.{packed, unpackedIn}
+use Rattle.words.specs.bridge.Packed.{packed, unpackedIn}
 use Rattle.words.proofs.Packing.{none-packed}
 use Rattle.words.proofs.vocabulary.formula_word.Statement.{statement}
 use Rattle.words.proofs.vocabulary.formula_word.Tie as tie

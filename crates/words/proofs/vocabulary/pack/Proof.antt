@@ -9,7 +9,7 @@ use lib.ListN.{length, drop}
 use lib.Seq.{drop-length}
 use Rattle.whole.proofs.Reading.{drop-next}
 use Rattle.words.specs.Classes.{capitalOf}
-use Rattle.words.specs.Packed.{packed}
+use Rattle.words.specs.bridge.Packed.{packed}
 use Rattle.words.proofs.vocabulary.pack.Statement.{statement}
 use Rattle.words.proofs.vocabulary.pack.Tie as tie
 

@@ -1,0 +1,31 @@
+-- How the code's answers stand to the definitions. Nothing here needs to be believed.
+use mathlib.Core.Bool.{Bool, true, false}
+use mathlib.Core.List.{List, [], _∷_}
+use Prim.Native.Nat.{ℕ}
+use Rattle.words.specs.declared.symbols.Function.{Function}
+use Rattle.words.specs.declared.symbols.Token.{Token}
+use Rattle.grammar.specs.Tests.{onLine}
+use Rattle.grammar.specs.Functions.{takes, wants}
+use Rattle.grammar.specs.declared.wanting.Want.{Want}
+use Rattle.grammar.specs.declared.wanting.Wanted.{Wanted}
+use Rattle.grammar.specs.declared.wanting.Wanted.the-variants as wanted
+use Rattle.grammar.specs.declared.tests.NamedLine.{NamedLine}
+use Rattle.grammar.specs.declared.tests.NamedLine.the-variants.{Names, NoLine}
+
+-- ---- the line that a token numbers
+
+abbrev pub lineOf : Token → NamedLine
+lineOf t = onLine t Names NoLine
+
+-- ---- a function's arguments
+
+abbrev pub packedWants : Bool → List Want → Wanted
+packedWants false ws = wanted.NoForm
+packedWants true [] = wanted.NoForm
+packedWants true (a ∷ []) = wanted.One a
+packedWants true (a ∷ b ∷ []) = wanted.Two a b
+packedWants true (a ∷ b ∷ c ∷ []) = wanted.Three a b c
+packedWants true (a ∷ b ∷ c ∷ d ∷ ws) = wanted.NoForm
+
+abbrev pub wantedOf : Function → ℕ → Wanted
+wantedOf f n = packedWants (takes f n) (wants f n)

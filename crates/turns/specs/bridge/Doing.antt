@@ -1,0 +1,63 @@
+-- What a statement's code does, by how the statement begins. Nothing here needs to be believed.
+use mathlib.Core.Path.{_≡_}
+use mathlib.Core.Bool.{true, false}
+use mathlib.Core.List.{List}
+use Prim.Native.Nat.{ℕ}
+use Rattle.words.specs.declared.places.Place.{Place}
+use Rattle.words.specs.declared.symbols.Scanned.{Scanned}
+use Rattle.words.specs.declared.symbols.Word.the-variants.{Else}
+use Rattle.grammar.specs.Tests.{isKeyword, endsStatement, onName, onLine}
+use Rattle.grammar.specs.Trees as tree
+use Rattle.grammar.specs.Trees.{Part}
+use Rattle.grammar.specs.Formulas.{after}
+use Rattle.statements.specs.Statements.{Begun, bad, done, choice, variableOf, assignAt, forAt, goodPart, partOf}
+use Rattle.machine.specs.Machine as spec
+use Rattle.machine.specs.bridge.Holding.{linesAt, Positioned, positionOf}
+use Rattle.machine.specs.bridge.Seeking.{soughtBy}
+use Rattle.machine.specs.declared.state.Machine.{Machine}
+use Rattle.machine.specs.declared.positions.Turned.{Turned}
+use Rattle.machine.specs.declared.records.Record.{Record}
+use Rattle.machine.specs.declared.records.Found.{Found}
+use Rattle.machine.specs.declared.records.Sought.the-variants as sought
+use Rattle.turns.specs.Steps.{doStatement}
+use Rattle.turns.specs.bridge.Turns.{afterOf, Turns, Told}
+
+-- it reads: what follows it ends it
+abbrev pub Begins : Begun → Type 0
+Begins bad = ⊥
+Begins (done x u) = endsStatement (u .token) ≡ true
+Begins (choice c u) = Unit {0}
+
+-- what was done is what the definition does, wherever the statement or the IF's parts read
+module _ (text line : List ℕ) (here : Place) (m : Machine) (found : Found) (entry : Record) (input space room : List ℕ) (r : Turned)
+    (space′ room′ : List ℕ) where
+  abbrev pub Does : Begun → Type 0
+  Does bad = Unit {0}
+  Does (done x u) =
+      Positioned text (afterOf here u)
+      → Turns text m input space room (Told (soughtBy x) (m .depth) found entry)
+      (λ n. doStatement text x n (positionOf text (afterOf here u))) r space′ room′
+  Does (choice c way) =
+      (p : Part) (u : Scanned) (after : spec.Position) → after .lines ≡ linesAt text (here .0)
+      → partOf line true (way .next .0) ≡ goodPart p u
+      → (isKeyword Else (u .token) ≡ false
+      → Turns text m input space room (Told sought.Nothing (m .depth) found entry) (λ n. doStatement text (tree.ifThen c p) n after) r space′ room′)
+      × (isKeyword Else (u .token) ≡ true → (q : Part) (v : Scanned) → partOf line true (u .next .0) ≡ goodPart q v
+      → Turns text m input space room (Told sought.Nothing (m .depth) found entry) (λ n. doStatement text (tree.ifElse c p q) n after) r space′ room′)
+
+-- ---- from the token on that a name or a line number is
+
+abbrev pub setAt : List ℕ → Scanned → Begun
+setAt s t = onName (t .token) (λ v. assignAt s (variableOf s v) (after s t)) bad
+
+abbrev pub loopAt : List ℕ → Scanned → Begun
+loopAt s t = onName (t .token) (λ v. forAt s (variableOf s v) (after s t)) bad
+
+abbrev pub nextAt : List ℕ → Scanned → Begun
+nextAt s t = onName (t .token) (λ v. done (tree.nextOf (variableOf s v)) (after s t)) (done tree.next t)
+
+abbrev pub jumpAt : List ℕ → Scanned → Begun
+jumpAt s t = onLine (t .token) (λ l. done (tree.goto l) (after s t)) bad
+
+abbrev pub callAt : List ℕ → Scanned → Begun
+callAt s t = onLine (t .token) (λ l. done (tree.gosub l) (after s t)) bad

@@ -1,0 +1,164 @@
+-- What the code of a statement leaves, beside what the definition says. Nothing here needs to be believed.
+use mathlib.Core.Path.{_≡_}
+use mathlib.Core.Bool.{cond, not}
+use mathlib.Core.List.{List}
+use Prim.Native.Nat.{ℕ, _≤_, _<_}
+use lib.ListN.{length, set, drop}
+use Rattle.whole.specs.declared.errors.Error.the-variants.{OutOfMemory}
+use Rattle.words.specs.declared.names.Telling.{Telling}
+use Rattle.words.specs.declared.places.Place.{Place}
+use Rattle.words.specs.declared.symbols.Scanned.{Scanned}
+use Rattle.words.specs.declared.symbols.Sign.the-variants.{Colon}
+use Rattle.grammar.specs.Tests.{isSymbol}
+use Rattle.grammar.specs.Trees.{Formula}
+use Rattle.grammar.specs.Formulas.{formulaOf}
+use Rattle.variables.specs.Strings.{Room}
+use Rattle.operators.specs.Values.{valueOf}
+use Rattle.formulas.specs.bridge.Memory.{Scans, Reads}
+use Rattle.variables.specs.bridge.Memory.{Held, Agrees, Framed, GoesOn, numberStored, stringStored}
+use Rattle.variables.specs.declared.tables.Tables.{Tables}
+use Rattle.variables.specs.declared.assigning.NumberStored.{NumberStored}
+use Rattle.variables.specs.declared.assigning.StringStored.{StringStored}
+use Rattle.variables.specs.declared.values.Worked.{Worked}
+use Rattle.machine.specs.Machine as spec
+use Rattle.machine.specs.bridge.Holding.{linesAt, bodyOf, Begins, Positioned, positionOf, blankRecord, foundIn, entryAt, variablesOf, Sound, Same}
+use Rattle.machine.specs.declared.state.Machine.{Machine}
+use Rattle.machine.specs.declared.state.Printer.{Printer}
+use Rattle.machine.specs.declared.positions.Position.{Position}
+use Rattle.machine.specs.declared.positions.Turned.{Turned}
+use Rattle.machine.specs.declared.positions.Next.{Next}
+use Rattle.machine.specs.declared.positions.Next.the-variants as next
+use Rattle.machine.specs.declared.records.Record.{Record}
+use Rattle.machine.specs.declared.records.Found.{Found}
+use Rattle.machine.specs.declared.records.Found.the-variants as found
+use Rattle.machine.specs.declared.records.Sought.{Sought}
+use Rattle.turns.specs.Steps as step
+use Rattle.turns.specs.declared.setting.Stored.{Stored}
+use Rattle.turns.specs.Steps.{goesOn, enters, ends, stops, fails}
+
+-- a statement that writes no record
+abbrev pub turnedTo : Machine → Next → Turned
+turnedTo m n = record { machine = m; next = n; slot = 32; held = blankRecord }
+
+-- where the run goes on after a statement of a line that this token follows
+abbrev pub afterOf : Place → Scanned → Position
+afterOf line ahead = record { line = line; at = ahead .next; over = not (isSymbol Colon (ahead .token)) }
+
+-- it goes on where the definition does, and the machine then is the definition's
+abbrev pub Comes : List ℕ → Next → step.Next → (spec.Machine → Type 0) → Type 0
+Comes text (next.On q) (goesOn n p) same = Positioned text q × ((positionOf text q ≡ p) × same n)
+Comes text (next.On q) (enters n ls) same = ⊥
+Comes text (next.On q) (ends n) same = ⊥
+Comes text (next.On q) (stops n) same = ⊥
+Comes text (next.On q) (fails f n) same = ⊥
+Comes text (next.Enter l) (goesOn n p) same = ⊥
+Comes text (next.Enter l) (enters n ls) same = Begins text (l .0) × ((linesAt text (l .0) ≡ ls) × same n)
+Comes text (next.Enter l) (ends n) same = ⊥
+Comes text (next.Enter l) (stops n) same = ⊥
+Comes text (next.Enter l) (fails f n) same = ⊥
+Comes text next.Ends (goesOn n p) same = ⊥
+Comes text next.Ends (enters n ls) same = ⊥
+Comes text next.Ends (ends n) same = same n
+Comes text next.Ends (stops n) same = ⊥
+Comes text next.Ends (fails f n) same = ⊥
+Comes text next.Stops (goesOn n p) same = ⊥
+Comes text next.Stops (enters n ls) same = ⊥
+Comes text next.Stops (ends n) same = ⊥
+Comes text next.Stops (stops n) same = same n
+Comes text next.Stops (fails f n) same = ⊥
+Comes text (next.Fails e) (goesOn n p) same = ⊥
+Comes text (next.Fails e) (enters n ls) same = ⊥
+Comes text (next.Fails e) (ends n) same = ⊥
+Comes text (next.Fails e) (stops n) same = ⊥
+Comes text (next.Fails e) (fails f n) same = (e ≡ f) × same n
+
+-- a step of the definition that comes to what is done next with a machine that the code's holds
+pub record Leads (text : List ℕ) (rs : List Record) (m : Machine) (input space room : List ℕ) (x : step.Next) (go : spec.Machine → step.Next) : Type 0 where
+  pub machine : spec.Machine
+  pub is : x ≡ go machine
+  pub same : Same text rs m input space room machine
+
+-- the memory that is lent, after a statement
+pub record Leaves (m : Machine) (input space room : List ℕ) (r : Turned) (space′ room′ : List ℕ) : Type 0 where
+  pub sound : Sound (r .machine) input space′ room′
+  pub spaceLong : length space′ ≡ length space
+  pub roomLong : length room′ ≡ length room
+  pub steps : r .machine .steps ≡ m .steps
+  pub more : m .printer .written ≤ r .machine .printer .written
+  -- output beyond the bytes written is unchanged
+  pub beyond : drop (r .machine .printer .written) room′ ≡ drop (r .machine .printer .written) room
+
+-- it does what the definition does, whatever records there are that meet what it was told of them
+pub record Turns (text : List ℕ) (m : Machine) (input space room : List ℕ) (told : List Record → Type 0) (does : spec.Machine → step.Next) (r : Turned) (space′ room′ : List ℕ) : Type 0 where
+  pub leaves : Leaves m input space room r space′ room′
+  pub comes : (rs : List Record) → length rs ≡ 32 → told rs → (n : spec.Machine) → Same text rs m input space room n
+      → Comes text (r .next) (does n) (Same text (set rs (r .slot) (r .held)) (r .machine) input space′ room′)
+
+-- nothing is told of the records
+abbrev pub anyRecords : List Record → Type 0
+anyRecords rs = Unit {0}
+
+-- a formula that reads from a token of the line on
+pub record Formed (line : List ℕ) (first : Scanned) : Type 0 where
+  pub short : length line ≤ 255
+  pub scans : Scans line first
+  pub reads : Reads (formulaOf line first)
+
+-- what working out a formula with the machine's tables leaves
+pub record Valued (m : Machine) (f : Formula) (u : Scanned) (before : List ℕ) (r : Worked) (after : List ℕ) : Type 0 where
+  pub framed : Framed before (m .used) r after
+  pub agrees : (room : Room) → Held room before (m .used) → Agrees r after (m .used) (valueOf f (variablesOf m before) room)
+  pub goes : GoesOn r u
+
+-- the line of a text that begins at a place, after its number
+pub record Standing (text line : List ℕ) (here : Place) : Type 0 where
+  pub short : length line ≤ 255
+  pub begins : Begins text (here .0)
+  pub is : line ≡ bodyOf (linesAt text (here .0))
+
+-- what a statement was told of the records: the one that it asks for was looked up
+pub record Told (k : Sought) (depth : ℕ) (slot : Found) (entry : Record) (rs : List Record) : Type 0 where
+  pub at : slot ≡ foundIn k rs depth
+  pub is : entry ≡ entryAt slot rs
+
+-- a record that was found is one of so many
+abbrev pub FoundBelow : ℕ → Found → Type 0
+FoundBelow depth (found.At i) = i < depth
+FoundBelow depth found.None = Unit {0}
+
+-- ---- one part of the code's machine anew
+
+abbrev pub withTables : Machine → Tables → ℕ → Machine
+withTables m t used =
+    record { tables = t; used = used; printer = m .printer; taken = m .taken; steps = m .steps; depth = m .depth }
+
+abbrev pub withPrinter : Machine → Printer → Machine
+withPrinter m p =
+    record { tables = m .tables; used = m .used; printer = p; taken = m .taken; steps = m .steps; depth = m .depth }
+
+abbrev pub withTaken : Machine → ℕ → Machine
+withTaken m n =
+    record { tables = m .tables; used = m .used; printer = m .printer; taken = n; steps = m .steps; depth = m .depth }
+
+abbrev pub withDepth : Machine → ℕ → Machine
+withDepth m d =
+    record { tables = m .tables; used = m .used; printer = m .printer; taken = m .taken; steps = m .steps; depth = d }
+
+-- a variable is set, or there is no room for it
+abbrev pub numberKept : Machine → NumberStored → Stored
+numberKept m s =
+    record { ok = s .ok; machine = withTables m (record { numbers = s .numbers; strings = m .tables .strings }) (m .used) }
+
+abbrev pub numberSet : Machine → Telling → ℕ → Stored
+numberSet m name w = numberKept m (numberStored (m .tables .numbers) name w)
+
+abbrev pub stringKept : Machine → StringStored → Stored
+stringKept m s =
+    record { ok = s .ok; machine = withTables m (record { numbers = m .tables .numbers; strings = s .strings }) (s .used) }
+
+abbrev pub stringSet : Machine → Telling → ℕ → Stored
+stringSet m name len = stringKept m (stringStored (m .tables .strings) (m .used) name len)
+
+abbrev pub storedTurn : Stored → Place → Scanned → Turned
+storedTurn s line ahead =
+    cond (s .ok) (turnedTo (s .machine) (next.On (afterOf line ahead))) (turnedTo (s .machine) (next.Fails OutOfMemory))

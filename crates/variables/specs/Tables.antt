@@ -1,0 +1,68 @@
+-- The variable tables that a host lends and gets back: both hold the variables in order of first assignment, and zeros after them.
+use mathlib.Core.Bool.{cond}
+use mathlib.Core.List.{List, [], _∷_, _++_, map}
+use Prim.Native.Nat.{ℕ, zero, suc, _+_, _-_, _*_}
+use lib.ListN.{length, getD, drop, replicate}
+use Rattle.words.specs.Names.{alike}
+use Rattle.words.specs.declared.names.Telling.{Telling}
+use Rattle.variables.specs.Variables.{NumberVariable, StringVariable}
+use Rattle.variables.specs.declared.tables.Numbers.{Numbers}
+use Rattle.variables.specs.declared.tables.Strings.{Strings}
+use Rattle.variables.specs.declared.tables.Tables.{Tables}
+use Rattle.variables.specs.declared.tables.Slot.{Slot}
+use Rattle.variables.specs.declared.tables.Slot.the-variants as slot
+
+-- ---- the tables that hold some variables
+
+-- names side by side, two bytes each
+unfoldable pub nameBytes : List Telling → List ℕ
+nameBytes [] = []
+nameBytes (n ∷ ns) = n .first ∷ n .second ∷ nameBytes ns
+
+abbrev pub numbersTable : List NumberVariable → Numbers
+numbersTable vs = record {
+  names = nameBytes (map (λ v. v .name) vs) ++ replicate (128 - 2 * length vs) 0;
+  words = map (λ v. v .word) vs ++ replicate (64 - length vs) 0;
+  count = length vs;
+}
+
+abbrev pub stringsTable : List StringVariable → Strings
+stringsTable vs = record {
+  names = nameBytes (map (λ v. v .name) vs) ++ replicate (128 - 2 * length vs) 0;
+  lengths = map (λ v. length (v .bytes)) vs ++ replicate (64 - length vs) 0;
+  count = length vs;
+}
+
+abbrev pub emptyTables : Tables
+emptyTables = record {
+  numbers = record { names = replicate 128 0; words = replicate 64 0; count = 0 };
+  strings = record { names = replicate 128 0; lengths = replicate 64 0; count = 0 };
+}
+
+-- ---- what stands in a table
+
+-- so many names of two bytes each
+unfoldable pub namesFrom : ℕ → List ℕ → List Telling
+namesFrom zero names = []
+namesFrom (suc n) names = record { first = getD names 0 0; second = getD names 1 0 } ∷ namesFrom n (drop 2 names)
+
+-- a table has 64
+unfoldable pub namesIn : List ℕ → List Telling
+namesIn names = namesFrom 64 names
+
+unfoldable pub numbersIn : List Telling → List ℕ → List NumberVariable
+numbersIn [] ws = []
+numbersIn (n ∷ ns) [] = []
+numbersIn (n ∷ ns) (w ∷ ws) = record { name = n; word = w } ∷ numbersIn ns ws
+
+-- the first entry with a name, counted from k
+unfoldable pub slotFrom : ℕ → List Telling → Telling → Slot
+slotFrom k [] name = slot.None
+slotFrom k (n ∷ ns) name = cond (alike n name) (slot.At k) (slotFrom (suc k) ns name)
+
+abbrev pub slotIn : List ℕ → Telling → Slot
+slotIn names name = slotFrom 0 (namesIn names) name
+
+unfoldable pub sumOf : List ℕ → ℕ
+sumOf [] = 0
+sumOf (n ∷ ns) = n + sumOf ns
