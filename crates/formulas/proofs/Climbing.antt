@@ -27,8 +27,8 @@ use Rattle.operators.specs.Values.{valueOf}
 use Rattle.variables.specs.bridge.Memory.{textLength, Looked, Held, Agrees, GoesOn, Framed}
 use Rattle.operators.specs.bridge.Memory.{takesLeft, turnBy, turnAs, SidesMet}
 use Rattle.formulas.specs.bridge.Memory.{Scans, Reads, OperandReads, Ready, Evaluated}
-use Rattle.operators.specs.declared.sides.Turn.{Turn}
-use Rattle.operators.specs.declared.sides.Turn.the-variants as turn
+use Rattle.operators.specs.declared.applying.Turn.{Turn}
+use Rattle.operators.specs.declared.applying.Turn.the-variants as turn
 use Rattle.variables.specs.declared.values.Worked.{Worked}
 use Rattle.variables.specs.declared.values.Worked.the-variants as worked
 use Rattle.operators.proofs.Sides.{sides-agree, sides-refused}

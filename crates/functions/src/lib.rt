@@ -1,7 +1,7 @@
 // Functions: their arguments taken, and what they make of them.
 mod arguments;
-mod calls;
+mod calling;
 
 pub use arguments::Taken;
 pub use arguments::take_argument;
-pub use calls::called;
+pub use calling::called;

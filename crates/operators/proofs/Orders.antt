@@ -11,8 +11,8 @@ use Rattle.whole.proofs.Numbers.{less}
 use Rattle.words.specs.Spellings.{sameBytes}
 use Rattle.operators.specs.Values.{isBefore}
 use Rattle.operators.specs.bridge.Memory.{orderOf, isLessOrder, isSameOrder, isGreaterOrder}
-use Rattle.operators.specs.declared.sides.Order.{Order}
-use Rattle.operators.specs.declared.sides.Order.the-variants as order
+use Rattle.operators.specs.declared.applying.Order.{Order}
+use Rattle.operators.specs.declared.applying.Order.the-variants as order
 use Rattle.variables.proofs.Bytewise.{part-end, part-next}
 
 -- ---- by their first bytes

@@ -23,7 +23,7 @@ use Rattle.strings.specs.Functions.{answered}
 use Rattle.operators.specs.Values.{isBefore, onTexts, wantsWhole, joined, sides}
 use Rattle.variables.specs.bridge.Memory.{Agrees, Held, GoesOn, answeredAs, textLength}
 use Rattle.operators.specs.bridge.Memory.{RightMet, SidesMet, takesLeft, joinedLength, orderOf, isLessOrder, isSameOrder, isGreaterOrder, holdsIn}
-use Rattle.operators.specs.declared.sides.Order.{Order}
+use Rattle.operators.specs.declared.applying.Order.{Order}
 use Rattle.variables.proofs.Lookups.{part-kept}
 use Rattle.variables.proofs.Bytewise.{part-length}
 use Rattle.operators.proofs.Orders.{less-told, same-told, greater-told}

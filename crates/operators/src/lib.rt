@@ -1,6 +1,6 @@
 // Two-sided operators over values.
-mod sides;
+mod applying;
 
-pub use sides::Turn;
-pub use sides::joined;
-pub use sides::turn_of;
+pub use applying::Turn;
+pub use applying::joined;
+pub use applying::turn_of;

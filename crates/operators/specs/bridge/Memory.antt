@@ -15,10 +15,10 @@ use Rattle.grammar.specs.Formulas.{tightOperator}
 use Rattle.grammar.specs.declared.tests.OperatorFound.{OperatorFound}
 use Rattle.grammar.specs.declared.tests.OperatorFound.the-variants.{Is, None}
 use Rattle.operators.specs.Values.{isBefore, wantsWhole, joined}
-use Rattle.operators.specs.declared.sides.Order.{Order}
-use Rattle.operators.specs.declared.sides.Order.the-variants as order
-use Rattle.operators.specs.declared.sides.Turn.{Turn}
-use Rattle.operators.specs.declared.sides.Turn.the-variants as turn
+use Rattle.operators.specs.declared.applying.Order.{Order}
+use Rattle.operators.specs.declared.applying.Order.the-variants as order
+use Rattle.operators.specs.declared.applying.Turn.{Turn}
+use Rattle.operators.specs.declared.applying.Turn.the-variants as turn
 use Rattle.variables.specs.declared.values.Worked.{Worked}
 use Rattle.variables.specs.declared.values.Worked.the-variants as worked
 use Rattle.variables.specs.bridge.Memory.{Agrees, GoesOn, Held}

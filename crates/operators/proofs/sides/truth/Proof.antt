@@ -1,6 +1,0 @@
--- Its two cases are those of the definition.
-use Rattle.operators.proofs.sides.truth.Statement.{statement}
-use Rattle.operators.proofs.sides.truth.Tie as tie
-
-pub truth-spec : {M : Type 1} → statement M
-truth-spec = tie.close (tie.spec (λ c. rw (c .if1 .taken)) (λ c. rw (c .if1 .left)))
