@@ -1,4 +1,5 @@
--- What the code takes from a statement that was read. Nothing here needs to be believed: `Check` says what the check answers.
+-- Bridge: the line that the code takes from a statement that was read.
+-- The contracts of functions inside this crate cite it; no demand and no promise of run, check_recipe or ask rests on it.
 use Rattle.grammar.specs.declared.tests.NamedLine.{NamedLine}
 use Rattle.grammar.specs.declared.tests.NamedLine.the-variants.{NoLine}
 use Rattle.statements.specs.declared.reading.StatementRead.{StatementRead}

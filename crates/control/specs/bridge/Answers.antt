@@ -1,4 +1,5 @@
--- What the code of jumps, IF, FOR and NEXT answers, and what it is asked. Nothing here needs to be believed.
+-- Bridge: what the code of jumps, IF, FOR and NEXT is asked, and what it answers.
+-- The contracts of functions inside this crate cite it; no demand and no promise of run, check_recipe or ask rests on it.
 use mathlib.Core.Path.{_≡_}
 use mathlib.Core.Bool.{true, false, cond}
 use mathlib.Core.List.{List}

@@ -1,4 +1,5 @@
--- LINE INPUT in two steps, as the code takes them. Nothing here needs to be believed.
+-- Bridge: LINE INPUT in two steps, as the code takes them, and what the code is asked.
+-- The contracts of functions that crates use among themselves cite it; no demand and no promise of run, check_recipe or ask rests on it.
 use mathlib.Core.Path.{_≡_}
 use mathlib.Core.List.{List}
 use Prim.Native.Nat.{ℕ, _≤_}

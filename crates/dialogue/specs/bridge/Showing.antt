@@ -1,4 +1,5 @@
--- What the code of a PRINT leaves, item by item. Nothing here needs to be believed.
+-- Bridge: what the code of a PRINT is asked, and what it leaves, item by item.
+-- The contracts of functions that crates use among themselves cite it; no demand and no promise of run, check_recipe or ask rests on it.
 use mathlib.Core.Path.{_≡_}
 use mathlib.Core.Bool.{Bool, true, false, cond}
 use mathlib.Core.List.{List, [], _∷_}

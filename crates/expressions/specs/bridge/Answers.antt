@@ -1,4 +1,5 @@
--- How the code's answers stand to the formulas that are read. Nothing here needs to be believed: `Formulas` says how a formula reads.
+-- Bridge: how the readers' answers stand to the formulas that are read, and how much is left to read.
+-- The contracts of functions that crates use among themselves cite it; no demand and no promise of run, check_recipe or ask rests on it.
 use mathlib.Core.Path.{_≡_}
 use mathlib.Core.Bool.{cond}
 use mathlib.Core.List.{List, [], _∷_}

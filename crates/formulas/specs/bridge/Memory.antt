@@ -1,4 +1,5 @@
--- What working out begins and ends with. Nothing here needs to be believed: `Values` says what a formula comes to.
+-- Bridge: what working out a formula begins and ends with in memory.
+-- The contracts of functions that crates use among themselves cite it; no demand and no promise of run, check_recipe or ask rests on it.
 use mathlib.Core.Path.{_≡_}
 use mathlib.Core.List.{List}
 use Prim.Native.Nat.{ℕ, _≤_}

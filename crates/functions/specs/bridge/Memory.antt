@@ -1,5 +1,5 @@
--- How an argument is taken, and how the code holds a number that a function gives. Nothing here needs to be believed: `Values` of
--- `operators` says which arguments are taken, and `Functions` of `strings` what a function makes of them.
+-- Bridge: how the code takes an argument, and how it holds a number that a function gives.
+-- The contracts of functions that crates use among themselves cite it; no demand and no promise of run, check_recipe or ask rests on it.
 use mathlib.Core.Bool.{Bool, true, false, cond, _&&_}
 use mathlib.Core.List.{List}
 use Prim.Native.Nat.{ℕ}

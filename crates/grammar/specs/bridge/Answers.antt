@@ -1,4 +1,5 @@
--- How the code's answers stand to the definitions. Nothing here needs to be believed.
+-- Bridge: how the code answers which line a token numbers, and what a function wants.
+-- The contracts of functions that crates use among themselves cite it; no demand and no promise of run, check_recipe or ask rests on it.
 use mathlib.Core.Bool.{Bool, true, false}
 use mathlib.Core.List.{List, [], _∷_}
 use Prim.Native.Nat.{ℕ}

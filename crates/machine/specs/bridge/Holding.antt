@@ -1,4 +1,5 @@
--- How the code's machine, records and positions hold the definition's. Nothing here needs to be believed.
+-- Bridge: how the code's machine, records and positions hold the definition's.
+-- The contracts of functions that crates use among themselves cite it; no demand and no promise of run, check_recipe or ask rests on it.
 use mathlib.Core.Path.{_≡_}
 use mathlib.Core.Bool.{Bool, true, false, cond}
 use mathlib.Core.List.{List, [], _∷_, _++_}

@@ -1,4 +1,5 @@
--- The record that a statement asks for.
+-- Bridge: the record that a statement asks the code for.
+-- The contracts of functions that crates use among themselves cite it; no demand and no promise of run, check_recipe or ask rests on it.
 use mathlib.Core.Path.{_≡_}
 use mathlib.Core.List.{List}
 use Prim.Native.Nat.{ℕ}

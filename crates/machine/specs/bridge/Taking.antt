@@ -1,4 +1,5 @@
--- The line of input that is taken from a place on. Nothing here needs to be believed.
+-- Bridge: the line of input that the code takes from a place on.
+-- The contracts of functions that crates use among themselves cite it; no demand and no promise of run, check_recipe or ask rests on it.
 use mathlib.Core.Bool.{cond}
 use mathlib.Core.List.{List, [], _∷_}
 use Prim.Native.Nat.{ℕ, _+_}

@@ -1,4 +1,5 @@
--- What the code makes of a left side and of both sides. Nothing here needs to be believed: `Values` says what an operator makes of values.
+-- Bridge: what the code makes of a left side, and of both sides of an operator.
+-- The contracts of functions that crates use among themselves cite it; no demand and no promise of run, check_recipe or ask rests on it.
 use mathlib.Core.Path.{_≡_}
 use mathlib.Core.Bool.{Bool, true, false, cond, not}
 use mathlib.Core.List.{List}

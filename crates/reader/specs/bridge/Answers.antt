@@ -1,5 +1,5 @@
--- How the code's answers stand to what is read. Nothing here needs to be believed: `Lines` says how a line is judged, and the
--- contract of `judge` cites that alone.
+-- Bridge: what the code knows of the statements of a line so far, and what follows one.
+-- The contracts of functions that crates use among themselves cite it; no demand and no promise of run, check_recipe or ask rests on it.
 use mathlib.Core.Path.{_≡_}
 use mathlib.Core.Bool.{Bool, cond, _&&_}
 use Prim.Native.Nat.{ℕ, _+_, _-_, max}

@@ -1,4 +1,5 @@
--- Where the code stands, beside where the definition does. Nothing here needs to be believed.
+-- Bridge: where the code stands in a run, beside where the definition does.
+-- The contracts of functions inside this crate cite it; no demand and no promise of run, check_recipe or ask rests on it.
 use mathlib.Core.Path.{_≡_}
 use mathlib.Core.Bool.{false}
 use mathlib.Core.List.{List, _++_}

@@ -1,4 +1,5 @@
--- How the code's answers stand to the statements that are read. Nothing here needs to be believed: `Statements` says how they read.
+-- Bridge: how the code's answers stand to the statements that are read.
+-- The contracts of functions that crates use among themselves cite it; no demand and no promise of run, check_recipe or ask rests on it.
 use mathlib.Core.Bool.{Bool, true, false, _&&_}
 use mathlib.Core.List.{List}
 use Prim.Native.Nat.{ℕ, _-_, max}

@@ -1,4 +1,5 @@
--- How a statement is led: its word, given or understood, and the token from which on it then reads. Nothing here needs to be believed.
+-- Bridge: how a statement is led: its word, given or understood, and the token from which on it then reads.
+-- The contracts of functions inside this crate cite it; no demand and no promise of run, check_recipe or ask rests on it.
 use mathlib.Core.Path.{_≡_}
 use mathlib.Core.Bool.{true}
 use mathlib.Core.List.{List}

@@ -1,4 +1,5 @@
--- How the code holds the arguments of a function. Nothing here needs to be believed: `Functions` says what a function makes of them.
+-- Bridge: how the code holds the arguments of a function, and the text that it makes of them.
+-- The contracts of functions that crates use among themselves cite it; no demand and no promise of run, check_recipe or ask rests on it.
 use mathlib.Core.Bool.{Bool, true, false}
 use mathlib.Core.List.{List, [], _∷_}
 use Prim.Native.Nat.{ℕ, _+_, _≤_}

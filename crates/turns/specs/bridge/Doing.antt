@@ -1,4 +1,5 @@
--- What a statement's code does, by how the statement begins. Nothing here needs to be believed.
+-- Bridge: what a statement's code does, by how the statement begins.
+-- The contracts of functions that crates use among themselves cite it; no demand and no promise of run, check_recipe or ask rests on it.
 use mathlib.Core.Path.{_≡_}
 use mathlib.Core.Bool.{true, false}
 use mathlib.Core.List.{List}

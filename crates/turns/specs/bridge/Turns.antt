@@ -1,4 +1,5 @@
--- What the code of a statement leaves, beside what the definition says. Nothing here needs to be believed.
+-- Bridge: what the code of a statement is asked, and what it leaves, beside what the definition says.
+-- The contracts of functions that crates use among themselves cite it; no demand and no promise of run, check_recipe or ask rests on it.
 use mathlib.Core.Path.{_≡_}
 use mathlib.Core.Bool.{cond, not}
 use mathlib.Core.List.{List}

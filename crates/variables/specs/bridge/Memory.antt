@@ -1,5 +1,5 @@
--- How the code's tables and the lent space hold variables and values. Nothing here needs to be believed: `Variables` and `Strings` say
--- what they are.
+-- Bridge: how the code's tables and the lent space hold variables and values.
+-- The contracts of functions that crates use among themselves cite it; no demand and no promise of run, check_recipe or ask rests on it.
 use mathlib.Core.Path.{_≡_}
 use mathlib.Core.Bool.{true, false, cond}
 use mathlib.Core.List.{List, [], _∷_, _++_, map}

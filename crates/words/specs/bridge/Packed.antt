@@ -1,5 +1,5 @@
--- How the code looks a word up: its letters as one number, the first in the lowest byte and a 1 above the last. Nothing here
--- needs to be believed: `Vocabulary` says which words are reserved, and the contract of `word_of` cites that alone.
+-- Bridge: how the code looks a word up: its letters as one number, the first in the lowest byte and a 1 above the last.
+-- The contracts of functions inside this crate cite it; no demand and no promise of run, check_recipe or ask rests on it.
 use mathlib.Core.Bool.{cond}
 use mathlib.Core.List.{List, [], _∷_}
 use Prim.Native.Nat.{ℕ, _+_, _*_}
