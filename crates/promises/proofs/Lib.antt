@@ -9,5 +9,6 @@ pub mod Demands
 pub mod Unique
 pub mod Checked
 pub mod Passing
+pub mod Sentences
 pub mod Looping
 pub mod Waiting

@@ -6,3 +6,4 @@ pub mod StringSpace
 pub mod Faults
 pub mod Starred
 pub mod Passing
+pub mod Sentences
