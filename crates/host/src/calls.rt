@@ -3,6 +3,7 @@ ghost use mathlib.Core.Path.{_≡_};
 ghost use lib.ListN.{length};
 ghost use Rattle.checker.specs.Check.{checkOf};
 ghost use Rattle.asking.specs.Asking.{askOf};
+ghost use Rattle.machine.specs.Machine.{lentBy};
 ghost use Rattle.runner.specs.Run.{runOf};
 ghost use Rattle.blocks.specs.Blocks.{tablesIn};
 ghost use Rattle.host.specs.Answers.{verdictIn, foundIn};
@@ -32,7 +33,7 @@ pub extern "C" fn quernhem_run(
     answer: &mut [u64; 7],
 )
     ensures { λ _. ⌜
-        HasRun (runOf (now (text .entry)) (now (input .entry)) (length (now (space .entry))) (length (now (room .entry))) budget)
+        HasRun (runOf (now (text .entry)) (now (input .entry)) (lentBy (now (space .entry)) (now (room .entry))) budget)
         (now (space .entry)) (now (room .entry)) (now (tables .entry))
         (now (space .exit)) (now (room .exit)) (now (tables .exit)) (now (answer .exit))
         ⌝ }

@@ -53,18 +53,26 @@ pub record Machine : Type 0 where
   pub space : ℕ
   pub highest : ℕ
 
+-- what a run is lent: how many bytes of string space, and how many of room for output
+pub record Lent : Type 0 where
+  pub space : ℕ
+  pub room : ℕ
+
+abbrev pub lentBy : List ℕ → List ℕ → Lent
+lentBy space room = record { space = length space; room = length room }
+
 -- every variable unset, both tables empty, column 0
-abbrev pub fresh : List ℕ → ℕ → ℕ → Machine
-fresh input space outputRoom = record {
+abbrev pub fresh : List ℕ → Lent → Machine
+fresh input lent = record {
   variables = record { numbers = []; strings = [] };
   records = [];
   column = 0;
   output = [];
-  outputRoom = outputRoom;
+  outputRoom = lent .room;
   input = input;
   taken = 0;
   steps = 0;
-  space = space;
+  space = lent .space;
   highest = 0;
 }
 

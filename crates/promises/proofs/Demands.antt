@@ -7,6 +7,7 @@ use Prim.Native.Nat.{ℕ, _-_, _≤_}
 use native.Mathlib.Omega.{arith}
 use lib.ListN.{length, replicate, length-append, length-drop, length-replicate}
 use Rattle.variables.specs.Variables.{StringVariable, stringBytes, joinedStrings}
+use Rattle.machine.specs.Machine.{Lent}
 use Rattle.checker.specs.Check.{checkOf}
 use Rattle.runner.specs.Run as run
 use Rattle.runner.specs.Run.{isRefused, answerOf}
@@ -19,6 +20,7 @@ use Rattle.promises.specs.Calls.{
   spaceAfter,
   roomBefore,
   roomAfter,
+  lentOf,
   budgetOf,
   tablesBefore,
   recipeOf,
@@ -66,9 +68,9 @@ left-long true vs space h = refl
 left-long false vs space h = rw (length-append, length-replicate, joined-long) (omega arith)
 
 -- a law of all runs, of the one that was called for
-of : {P : List ℕ → List ℕ → ℕ → ℕ → ℕ → Type 0} → ((text input : List ℕ) (space room budget : ℕ) → P text input space room budget)
-    → (c : RunCall) → P (textOf c) (inputOf c) (length (spaceBefore c)) (length (roomBefore c)) (budgetOf c)
-of law c = law (textOf c) (inputOf c) (length (spaceBefore c)) (length (roomBefore c)) (budgetOf c)
+of : {P : List ℕ → List ℕ → Lent → ℕ → Type 0} → ((text input : List ℕ) (lent : Lent) (budget : ℕ) → P text input lent budget)
+    → (c : RunCall) → P (textOf c) (inputOf c) (lentOf c) (budgetOf c)
+of law c = law (textOf c) (inputOf c) (lentOf c) (budgetOf c)
 
 -- what is answered exactly when, of what is equal to the answer
 told-exactly : {A P : Type 0} {x y z : A} → x ≡ y → (y ≡ z) ↔ P → (x ≡ z) ↔ P

@@ -372,8 +372,8 @@ statement-has-room program tree.stop m after e r = absurd (false≢true e)
 statement-has-room program tree.remark m after e r = absurd (false≢true e)
 
 pub next-has-room : nextHasRoom
-next-has-room program input space room statements m lines p stands e =
-    let begins = fresh input space room in
+next-has-room program input lent statements m lines p stands e =
+    let begins = fresh input lent in
     let made : StandingMade (at m lines p) =
     rw stands at (stands-made statements program (entering begins (linesOf program)) (entered-made (enter (linesOf program)) begins (linesOf program) tt)) in
     statement-has-room program (headOf p) (withStep m) (record { lines = lines; rest = tailOf p }) e made

@@ -2,12 +2,12 @@
 use mathlib.Core.Path.{_≡_, refl}
 use mathlib.Core.List.{List}
 use Prim.Native.Nat.{ℕ}
-use lib.ListN.{length}
 use Rattle.whole.specs.declared.errors.Error.{Error}
 use Rattle.words.specs.declared.places.LineNumber.{LineNumber}
 use Rattle.words.specs.declared.places.Place.{Place}
 use Rattle.loader.specs.declared.refusals.Refusal.{Refusal}
 use Rattle.variables.specs.declared.tables.Tables.{Tables}
+use Rattle.machine.specs.Machine.{lentBy}
 use Rattle.checker.specs.Check.{checkOf}
 use Rattle.checker.specs.declared.checking.Verdict.the-variants.{Passed, Refused, Faulty}
 use Rattle.runner.specs.Run as run
@@ -22,10 +22,10 @@ Met g tables space room r space′ room′ = (r ≡ guardedAnswer g tables) × (
 
 module _ (text input space room : List ℕ) (budget : ℕ) (tables : Tables) where
   abbrev whole : Guarded
-  whole = guardedRun text input (length space) (length room) budget
+  whole = guardedRun text input (lentBy space room) budget
 
   abbrev ran : run.Ran
-  ran = runOf text input (length space) (length room) budget
+  ran = runOf text input (lentBy space room) budget
 
   -- it passed, and was run,
   pub passed-run : checkOf text ≡ Passed → {a : Ran} {space′ room′ : List ℕ}

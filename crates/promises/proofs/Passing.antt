@@ -13,7 +13,7 @@ use Rattle.grammar.specs.Trees.{Part}
 use Rattle.checker.specs.Check as check
 use Rattle.checker.specs.Check.{firstFault, checkOf}
 use Rattle.checker.specs.declared.checking.Verdict.the-variants.{Passed}
-use Rattle.machine.specs.Machine.{Rest, nothing, part, Position, Machine, fresh, withStep, headOf, tailOf}
+use Rattle.machine.specs.Machine.{Rest, nothing, part, Position, Machine, Lent, fresh, withStep, headOf, tailOf}
 use Rattle.turns.specs.Steps.{Next, goesOn, enters, ends, stops, fails, doStatement}
 use Rattle.runner.specs.Run.{
   Ran,
@@ -114,5 +114,5 @@ loaded-ends-well (loaded.Refused refusal p) text m budget r e = refl
 
 pub checked-runs-end-well : checkedRunsEndWell
 unfolding checkOf runOf
-checked-runs-end-well text input space room budget e =
-    by-choice EndsWell (ltb 16384 space) refl (loaded-ends-well (loadOf text) text (fresh input space room) budget refl e)
+checked-runs-end-well text input lent budget e =
+    by-choice EndsWell (ltb 16384 (lent .space)) refl (loaded-ends-well (loadOf text) text (fresh input lent) budget refl e)

@@ -9,6 +9,7 @@ use denote.Triple.Clauses.{Lasts, atExit}
 use borrow.Fn.Kind.{PK, RK}
 use borrow.Fn.Kinds.{In, Out, Dens, resT, endedOf}
 use Rattle.variables.specs.declared.tables.Tables.{Tables}
+use Rattle.machine.specs.Machine.{Lent, lentBy}
 use Rattle.checker.proofs as checker
 use Rattle.asking.proofs as asking
 use Rattle.runner.proofs as runner
@@ -63,6 +64,9 @@ roomBefore c = c .passed .1 .1 .1 .0 .now
 
 abbrev pub roomAfter : RunCall → List ℕ
 roomAfter c = c .left .1 .1 .1 .0
+
+abbrev pub lentOf : RunCall → Lent
+lentOf c = lentBy (spaceBefore c) (roomBefore c)
 
 abbrev pub budgetOf : RunCall → ℕ
 budgetOf c = c .passed .1 .1 .1 .1 .0

@@ -19,6 +19,7 @@ use Rattle.loader.specs.declared.refusals.Refusal.the-variants.{SpaceTooLong}
 use Rattle.space.specs.declared.offsets.Offset.{Offset}
 use Rattle.variables.specs.Strings.{Room, fault, make}
 use Rattle.variables.specs.Variables.{stringBytes}
+use Rattle.machine.specs.Machine.{Lent}
 use Rattle.checker.specs.declared.checking.Verdict.the-variants as verdict
 use Rattle.runner.specs.Run as run
 use Rattle.runner.specs.Run.{runOf, answerOf}
@@ -33,6 +34,7 @@ use Rattle.promises.specs.Calls.{
   spaceAfter,
   roomBefore,
   roomAfter,
+  lentOf,
   budgetOf,
   tablesBefore,
   CheckCall,
@@ -49,7 +51,7 @@ use Rattle.promises.specs.Unfinished.{Few}
 
 -- what document 01 says of a run on what was passed
 abbrev pub ranOf : RunCall → run.Ran
-ranOf c = runOf (textOf c) (inputOf c) (length (spaceBefore c)) (length (roomBefore c)) (budgetOf c)
+ranOf c = runOf (textOf c) (inputOf c) (lentOf c) (budgetOf c)
 
 -- ---- Demand 1: whatever bytes are given, the runner answers and stops within its budget; what it will not take it refuses by a listed
 -- ---- number and place, and then nothing lent has changed
@@ -72,16 +74,16 @@ abbrev pub stopsWithinBudget : Type 0
 stopsWithinBudget = (c : RunCall) → c .answer .steps ≤ budgetOf c
 
 -- a string space over 16,384 bytes is 106 at place 0, whatever the text; else loading decides, by 100 to 105 and a place
-pub data RefusedFor (text : List ℕ) (space : ℕ) : Refusal → Place → Type 0 where
-  longSpace : 16384 < space → RefusedFor text space SpaceTooLong (place 0)
-  notLoaded : {r : Refusal} {p : Place} → space ≤ 16384 → loadOf text ≡ loaded.Refused r p → RefusedFor text space r p
+pub data RefusedFor (text : List ℕ) (lent : Lent) : Refusal → Place → Type 0 where
+  longSpace : 16384 < lent .space → RefusedFor text lent SpaceTooLong (place 0)
+  notLoaded : {r : Refusal} {p : Place} → lent .space ≤ 16384 → loadOf text ≡ loaded.Refused r p → RefusedFor text lent r p
 
 -- A run is refused with a number and a place if and only if its string space or its text is refused so. It does not say what a text is
 -- refused for: that is `loadOf`. Ruled out: a run that refuses a space of exactly 16,384 bytes; one that runs the lines before the first
 -- bad one.
 abbrev pub refusesExactly : Type 0
 refusesExactly =
-    (c : RunCall) (r : Refusal) (p : Place) → (c .answer .outcome ≡ Refused r p) ↔ RefusedFor (textOf c) (length (spaceBefore c)) r p
+    (c : RunCall) (r : Refusal) (p : Place) → (c .answer .outcome ≡ Refused r p) ↔ RefusedFor (textOf c) (lentOf c) r p
 
 -- the counts are 0, and the tables, the string space and the room for output are as they were lent, to the last byte
 pub record Unchanged (c : RunCall) : Type 0 where
@@ -144,7 +146,7 @@ abbrev pub fourteenExactly : Type 0
 fourteenExactly =
     (c : RunCall) (l : LineNumber)
     → (c .answer .outcome ≡ Failed OutOfStringSpace l)
-    ↔ AsksTooMuch (textOf c) (inputOf c) (length (spaceBefore c)) (length (roomBefore c)) (budgetOf c) l
+    ↔ AsksTooMuch (textOf c) (inputOf c) (lentOf c) (budgetOf c) l
 
 pub record ChecksExactly (c : CheckCall) : Type 0 where
   pub faulty : (e : Error) (n : LineNumber)

@@ -5,6 +5,7 @@ use Rattle.variables.specs.declared.tables.Tables.{Tables}
 use Rattle.checker.specs.Check.{checkOf}
 use Rattle.checker.specs.declared.checking.Verdict.{Verdict}
 use Rattle.checker.specs.declared.checking.Verdict.the-variants.{Passed, Refused, Faulty}
+use Rattle.machine.specs.Machine.{Lent}
 use Rattle.runner.specs.declared.running.Ran as code
 use Rattle.runner.specs.Run.{Ran, answerOf, spaceAfter, roomAfter, runOf}
 use Rattle.promises.specs.declared.guarding.CheckedRun.{CheckedRun}
@@ -19,9 +20,9 @@ guarded Passed go = let-through (go tt)
 guarded (Refused r p) go = held (Refused r p)
 guarded (Faulty e n) go = held (Faulty e n)
 
--- the check's verdict decides, whatever the input, the space, the room and the budget are
-unfoldable pub guardedRun : List ℕ → List ℕ → ℕ → ℕ → ℕ → Guarded
-guardedRun text input space room budget = guarded (checkOf text) (λ _. runOf text input space room budget)
+-- the check's verdict decides, whatever the input is, what is lent, and the budget
+unfoldable pub guardedRun : List ℕ → List ℕ → Lent → ℕ → Guarded
+guardedRun text input lent budget = guarded (checkOf text) (λ _. runOf text input lent budget)
 
 -- ---- what the host has after it
 

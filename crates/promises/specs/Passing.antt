@@ -28,7 +28,7 @@ use Rattle.checker.specs.declared.checking.Verdict.the-variants.{Passed}
 use Rattle.loader.specs.Lines.{Line, linesOf}
 use Rattle.grammar.specs.Trees as tree
 use Rattle.grammar.specs.Trees.{Statement, Part}
-use Rattle.machine.specs.Machine.{Machine, fresh, withStep, headOf, tailOf}
+use Rattle.machine.specs.Machine.{Machine, Lent, fresh, withStep, headOf, tailOf}
 use Rattle.turns.specs.Steps.{Next, goesOn, enters, ends, stops, fails, doStatement}
 use Rattle.runner.specs.Run.{Standing, finished, at, entering, turn, runOf}
 use Rattle.runner.specs.declared.running.Outcome.{Outcome}
@@ -65,7 +65,7 @@ endsWell (Refused r p) = true
 -- recipes that the check has not passed.
 abbrev pub checkedRunsEndWell : Type 0
 checkedRunsEndWell =
-    (text input : List ℕ) (space room budget : ℕ) → checkOf text ≡ Passed → endsWell (runOf text input space room budget .ending) ≡ true
+    (text input : List ℕ) (lent : Lent) (budget : ℕ) → checkOf text ≡ Passed → endsWell (runOf text input lent budget .ending) ≡ true
 
 -- ---- NEXT always has room for its variable
 
@@ -104,6 +104,6 @@ lacksRoom (fails e m) = eqb (numberOf e) 7
 -- the loop that it takes has made the variable. It says nothing of the other errors of a NEXT (1, 6, 13).
 abbrev pub nextHasRoom : Type 0
 nextHasRoom =
-    (text input : List ℕ) (space room statements : ℕ) (m : Machine) (lines : List Line) (p : Part)
-    → standsAfter statements text (entering (fresh input space room) (linesOf text)) ≡ at m lines p → isNext (headOf p) ≡ true
+    (text input : List ℕ) (lent : Lent) (statements : ℕ) (m : Machine) (lines : List Line) (p : Part)
+    → standsAfter statements text (entering (fresh input lent) (linesOf text)) ≡ at m lines p → isNext (headOf p) ≡ true
     → lacksRoom (doStatement text (headOf p) (withStep m) (record { lines = lines; rest = tailOf p })) ≡ false

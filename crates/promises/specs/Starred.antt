@@ -34,6 +34,7 @@ use Rattle.checker.specs.Check.{present, anyMissing, firstFault, checkOf}
 use Rattle.checker.specs.declared.checking.Verdict.{Verdict}
 use Rattle.checker.specs.declared.checking.Verdict.the-variants.{Passed, Faulty}
 use Rattle.asking.specs.Asking.{askOf}
+use Rattle.runner.specs.Examples.{lending}
 use Rattle.runner.specs.Run.{Ran, enter, running, answerOf, spaceAfter, runOf}
 use Rattle.asking.specs.declared.questions.Asked.{Asked}
 use Rattle.asking.specs.declared.questions.Asked.the-variants.{Whole, Text}
@@ -136,6 +137,6 @@ seenOf e r = record {
   verdict = checkOf (bytes (e .recipe));
 }
 
-pub starred-hold : map (λ (e : Example). seenOf e (runOf (bytes (e .recipe)) [] (e .space) 1000 (e .budget))) starred ≡ map (λ (e : Example). e .seen) starred
+pub starred-hold : map (λ (e : Example). seenOf e (runOf (bytes (e .recipe)) [] (lending (e .space)) (e .budget))) starred ≡ map (λ (e : Example). e .seen) starred
 unfolding starred bytes leading isDigit valueFrom sameBytes meaning capitalOf isLetter isHex hexDigit signs pairs classOf reserved tellingOf markOf wordToken numberToken hexFrom hexToken textToken signToken tokenAt linesFrom numberOf isPlain numbered judged loadLines loadOf formFor anyFor countOf formulaAt climbAt operandAt argumentsAt formulaOf allMeet sortOf sortsOf depthOf deepestOf itemsAt printAt forAt inputAt begunAt partAt readLine deepest allSome statementsOf withinIf deepestIn allTyped signedValue num fit places trimmed digitByte numeral shown fromNumber make letGo letAllGo produced wordOf bytesOf stringBytes argument startsWith found placeOf isBefore wantAt valueOf valuesOf hasNumber hasString setNumber setString columnAfter write printItems returned sought passed enter running runOf joinedStrings present anyMissing firstFault checkOf askOf namesFrom namesIn numbersIn slotFrom sumOf nameBytes
 starred-hold = refl

@@ -22,7 +22,7 @@ use Rattle.variables.specs.Strings.{Value, whole, text, Room, value, produced}
 use Rattle.variables.specs.Variables.{Variables, bytesOf, stringBytes}
 use Rattle.strings.specs.Functions.{called}
 use Rattle.operators.specs.Values.{leftRight, taken, valueOf, valuesOf}
-use Rattle.machine.specs.Machine.{Machine, fresh, roomOf, withStep, noting, printed, write, commaBlanks, headOf}
+use Rattle.machine.specs.Machine.{Machine, Lent, fresh, roomOf, withStep, noting, printed, write, commaBlanks, headOf}
 use Rattle.turns.specs.Steps.{shownValue, takeLine, isWholeKind}
 use Rattle.runner.specs.Run.{lineNumberOf, Standing, at, entering, turn}
 
@@ -132,12 +132,12 @@ pub data Begins (program : List ℕ) : ℕ → Standing → LineNumber → State
 
 -- a run that is not refused begins a statement of the line, which asks for more than the space holds besides the bytes of all string
 -- variables and all unfinished strings
-pub record AsksTooMuch (program lines : List ℕ) (space room budget : ℕ) (l : LineNumber) : Type 0 where
-  pub small : space ≤ 16384
+pub record AsksTooMuch (program lines : List ℕ) (lent : Lent) (budget : ℕ) (l : LineNumber) : Type 0 where
+  pub small : lent .space ≤ 16384
   pub loads : loadOf program ≡ Fine
   pub statement : Statement
   pub machine : Machine
-  pub begins : Begins program budget (entering (fresh lines space room) (linesOf program)) l statement machine
+  pub begins : Begins program budget (entering (fresh lines lent) (linesOf program)) l statement machine
   pub ask : Ask
   pub asks : StatementAsks statement machine ask
-  pub exceeds : Exceeds space (stringBytes (machine .variables .strings)) ask
+  pub exceeds : Exceeds (lent .space) (stringBytes (machine .variables .strings)) ask

@@ -9,7 +9,7 @@ use Rattle.grammar.specs.declared.wanting.Want.{Want}
 use Rattle.variables.specs.Strings.{Value, whole, text, Room, Outcome, value, fault}
 use Rattle.variables.specs.Variables.{StringVariable, Variables, bytesOf, stringBytes, setString}
 use Rattle.operators.specs.Values.{Taken, taken, stopped, valueOf, valuesOf}
-use Rattle.machine.specs.Machine.{Machine, roomOf}
+use Rattle.machine.specs.Machine.{Machine, Lent, roomOf}
 use Rattle.runner.specs.Run.{runOf}
 
 -- ---- how many
@@ -28,12 +28,12 @@ pub record Few (highest : ℕ) : Type 0 where
 -- No run of any recipe ever has more than 28, and so never more than 32, unfinished strings at once: whatever its text, whether the
 -- check passes it or not, and whatever its input, string space, room for output and budget, and whatever it comes to.
 abbrev pub fewUnfinished : Type 0
-fewUnfinished = (text input : List ℕ) (space outputRoom budget : ℕ) → Few (runOf text input space outputRoom budget .machine .highest)
+fewUnfinished = (text input : List ℕ) (lent : Lent) (budget : ℕ) → Few (runOf text input lent budget .machine .highest)
 
 -- No smaller number would do: some run has 28.
 abbrev pub mostIsReached : Type 0
 mostIsReached =
-    (n : ℕ) → ((text input : List ℕ) (space outputRoom budget : ℕ) → runOf text input space outputRoom budget .machine .highest ≤ n)
+    (n : ℕ) → ((text input : List ℕ) (lent : Lent) (budget : ℕ) → runOf text input lent budget .machine .highest ≤ n)
     → mostUnfinished ≤ n
 
 -- ---- which bytes

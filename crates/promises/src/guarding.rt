@@ -1,6 +1,6 @@
 // A recipe is checked, and run only if it passes.
 ghost use mathlib.Core.Path.{_≡_};
-ghost use lib.ListN.{length};
+ghost use Rattle.machine.specs.Machine.{lentBy};
 ghost use Rattle.promises.specs.Guarded.{guardedRun, guardedAnswer, guardedSpace, guardedRoom, heldAs, runAs};
 use checker::Verdict;
 use checker::check_recipe;
@@ -61,9 +61,9 @@ pub fn run_checked(
     tables: Tables,
 ) -> CheckedRun
     ensures { λ r. ⌜
-        (r ≡ guardedAnswer (guardedRun (now (text .entry)) (now (input .entry)) (length (now (space .entry))) (length (now (room .entry))) budget) tables)
-        × ((now (space .exit) ≡ guardedSpace (guardedRun (now (text .entry)) (now (input .entry)) (length (now (space .entry))) (length (now (room .entry))) budget) (now (space .entry)))
-        × (now (room .exit) ≡ guardedRoom (guardedRun (now (text .entry)) (now (input .entry)) (length (now (space .entry))) (length (now (room .entry))) budget) (now (room .entry))))
+        (r ≡ guardedAnswer (guardedRun (now (text .entry)) (now (input .entry)) (lentBy (now (space .entry)) (now (room .entry))) budget) tables)
+        × ((now (space .exit) ≡ guardedSpace (guardedRun (now (text .entry)) (now (input .entry)) (lentBy (now (space .entry)) (now (room .entry))) budget) (now (space .entry)))
+        × (now (room .exit) ≡ guardedRoom (guardedRun (now (text .entry)) (now (input .entry)) (lentBy (now (space .entry)) (now (room .entry))) budget) (now (room .entry))))
         ⌝ }
 {
     match check_recipe(text) {

@@ -1,7 +1,7 @@
 // What a run answers, and the line that says it.
 ghost use mathlib.Core.Path.{_≡_};
-ghost use lib.ListN.{length};
 ghost use Rattle.whole.specs.Texts.{held};
+ghost use Rattle.machine.specs.Machine.{lentBy};
 ghost use Rattle.runner.specs.Run.{numberIn, runOf};
 ghost use Rattle.run_recipe.specs.Answers.{wordOf, standingIn, lastLine, Tells};
 use console::end_line;
@@ -78,7 +78,7 @@ pub(crate) fn answer_of(
     budget: u32,
 ) -> Answer
     ensures { λ r. ⌜
-        Tells (runOf (now (text .entry)) (now (input .entry)) (length (now (space .entry))) (length (now (room .entry))) budget)
+        Tells (runOf (now (text .entry)) (now (input .entry)) (lentBy (now (space .entry)) (now (room .entry))) budget)
         r (now (room .exit))
         ⌝ }
 {

@@ -20,6 +20,7 @@ use Rattle.variables.specs.declared.tables.Tables.{Tables}
 use Rattle.variables.proofs.Holding.{cleaned, strings-live}
 use Rattle.variables.proofs.Told.{numbers-told, strings-told}
 use Rattle.machine.specs.Machine as spec
+use Rattle.machine.specs.Machine.{lentBy}
 use Rattle.machine.specs.bridge.Holding.{variablesOf, Settled, Sound, Same}
 use Rattle.machine.specs.declared.state.Machine.{Machine}
 use Rattle.machine.specs.declared.records.Record.{Record}
@@ -77,9 +78,9 @@ Met ran tables space room r space′ room′ = (r ≡ answerOf ran tables) × ((
 
 module _ (text input space room : List ℕ) (budget : ℕ) (tables : Tables) where
   abbrev whole : run.Ran
-  whole = runOf text input (length space) (length room) budget
+  whole = runOf text input (lentBy space room) budget
 
-  left : {f : Refusal} {p : Place} → whole ≡ endsWith (Refused f p) (spec.fresh input (length space) (length room))
+  left : {f : Refusal} {p : Place} → whole ≡ endsWith (Refused f p) (spec.fresh input (lentBy space room))
       → {r : Ran} → r ≡ refusedAs f p tables → Met whole tables space room r space room
   left e a = rw e (a, (refl, refl))
 
@@ -96,7 +97,7 @@ module _ (text input space room : List ℕ) (budget : ℕ) (tables : Tables) whe
     run-refused e a = left (rw (le-ltb 16384 (length space) h, e)) a
 
     -- or it loads
-    pub run-fine : loadOf text ≡ loaded.Fine → {r : Ran} {space′ room′ : List ℕ} → RanAs (runIn text input space room budget) space room r space′ room′
+    pub run-fine : loadOf text ≡ loaded.Fine → {r : Ran} {space′ room′ : List ℕ} → RanAs (runIn text input (lentBy space room) budget) space room r space′ room′
         → Met whole tables space room r space′ room′
     unfolding runOf
     run-fine e a = rw (le-ltb 16384 (length space) h, e) (a .answers tables, (a .spaced, a .roomy))

@@ -12,7 +12,7 @@ use Rattle.loader.specs.declared.lines.LineSpan.{LineSpan}
 use Rattle.grammar.specs.Trees.{Part}
 use Rattle.space.specs.Moves.{cleared}
 use Rattle.variables.proofs.Holding.{empty-numbers, empty-strings, empty-numbers-held, empty-strings-held, empty-sum}
-use Rattle.machine.specs.Machine.{headOf, tailOf}
+use Rattle.machine.specs.Machine.{headOf, tailOf, lentBy}
 use Rattle.machine.specs.Machine as spec
 use Rattle.machine.specs.bridge.Holding.{linesAt, blankRecord, freshMachine, Sound, Same}
 use Rattle.machine.specs.declared.state.Machine.{Machine}
@@ -67,7 +67,7 @@ pub record Kept (text input space₀ room₀ : List ℕ) (budget : ℕ) (space r
   pub same : Same text rs m input space room machine
   pub place : run.Standing
   pub stands : StandsAs text s machine place
-  pub comes : running (budget - m .steps) text place ≡ runIn text input space₀ room₀ budget
+  pub comes : running (budget - m .steps) text place ≡ runIn text input (lentBy space₀ room₀) budget
 
 -- it holds at the start
 module _ (text input space room : List ℕ) (small : length space ≤ 16384) where
@@ -80,7 +80,7 @@ module _ (text input space room : List ℕ) (small : length space ≤ 16384) whe
         deep = omega arith;
       }
 
-  fresh-same : (rs : List Record) → Same text rs freshMachine input space room (spec.fresh input (length space) (length room))
+  fresh-same : (rs : List Record) → Same text rs freshMachine input space room (spec.fresh input (lentBy space room))
   fresh-same rs =
       record {
         variables = rw (empty-numbers-held, empty-strings-held space);
@@ -107,10 +107,10 @@ module _ (text input space room : List ℕ) (small : length space ≤ 16384) whe
         beyond = refl;
         slots = rw f (length-replicate 32 blankRecord);
         within = omega arith;
-        machine = spec.fresh input (length space) (length room);
+        machine = spec.fresh input (lentBy space room);
         same = fresh-same rs;
-        place = entering (spec.fresh input (length space) (length room)) (linesAt text 0);
-        stands = stands (spec.fresh input (length space) (length room));
+        place = entering (spec.fresh input (lentBy space room)) (linesAt text 0);
+        stands = stands (spec.fresh input (lentBy space room));
         comes = let z : budget - 0 ≡ budget = omega arith in rw z;
       })
 
@@ -122,14 +122,14 @@ drop-more x y a b h e =
 
 module _ {text input space₀ room₀ : List ℕ} {budget : ℕ} {space room : List ℕ} {m : Machine} {rs : List Record} {s : Standing}
     (k : Kept text input space₀ room₀ budget space room m rs s) where
-  ends-as : (o : Outcome) → isRefused o ≡ false → endsWith o (k .machine) ≡ runIn text input space₀ room₀ budget
+  ends-as : (o : Outcome) → isRefused o ≡ false → endsWith o (k .machine) ≡ runIn text input (lentBy space₀ room₀) budget
       → {r : Ran} {space′ : List ℕ} → r ≡ endedAs o m → space′ ≡ cleared space (m .used)
-      → RanAs (runIn text input space₀ room₀ budget) space₀ room₀ r space′ room
+      → RanAs (runIn text input (lentBy space₀ room₀) budget) space₀ room₀ r space′ room
   ends-as o f is a b = ran-as (k .sound) (k .same) o f is space₀ room₀ (k .spaceLong) (k .beyond) a b
 
   -- at the end of the run, the answer is the run's
   pub kept-over : {o : Outcome} → s ≡ standing.Over o → {r : Ran} {space′ : List ℕ} → r ≡ endedAs o m → space′ ≡ cleared space (m .used)
-      → RanAs (runIn text input space₀ room₀ budget) space₀ room₀ r space′ room
+      → RanAs (runIn text input (lentBy space₀ room₀) budget) space₀ room₀ r space′ room
   kept-over {o} e a b =
       let w : OverAs o (k .machine) (k .place) = rw e at (k .stands) in
       ends-as o (w .begun) (sym (running-over (budget - m .steps) text (endsWith o (k .machine))) ∙ ap (running (budget - m .steps) text) (sym (w .is)) ∙ k .comes) a b
@@ -143,7 +143,7 @@ module _ {text input space₀ room₀ : List ℕ} {budget : ℕ} {space room : L
 
     -- and where no step is left
     pub kept-out : m .steps ≡ budget → {r : Ran} {space′ : List ℕ} → r ≡ endedAs (Out (span .number)) m → space′ ≡ cleared space (m .used)
-        → RanAs (runIn text input space₀ room₀ budget) space₀ room₀ r space′ room
+        → RanAs (runIn text input (lentBy space₀ room₀) budget) space₀ room₀ r space′ room
     kept-out z a b =
         let none : budget - m .steps ≡ 0 = omega arith in
         ends-as (Out (span .number)) refl

@@ -25,7 +25,7 @@ use Rattle.variables.specs.Strings.{make, letGo, letAllGo, produced}
 use Rattle.variables.specs.Variables.{wordOf, bytesOf, stringBytes, hasNumber, hasString, setNumber, setString, joinedStrings}
 use Rattle.strings.specs.Functions.{argument, startsWith, found, placeOf}
 use Rattle.operators.specs.Values.{isBefore, wantAt, valueOf, valuesOf}
-use Rattle.machine.specs.Machine.{columnAfter, write, sought, passed}
+use Rattle.machine.specs.Machine.{Lent, columnAfter, write, sought, passed}
 use Rattle.turns.specs.Steps.{printItems, returned}
 use Rattle.runner.specs.Run.{Ran, enter, running, runOf}
 use Rattle.runner.specs.declared.running.Outcome.{Outcome}
@@ -37,6 +37,10 @@ pub record Run : Type 0 where
   pub output : List ℕ
   pub steps : ℕ
   pub front : List ℕ
+
+-- a string space of so many bytes, and room for all that the examples print
+abbrev pub lending : ℕ → Lent
+lending space = record { space = space; room = 1000 }
 
 abbrev summed : Ran → Run
 summed r = record {
@@ -72,7 +76,7 @@ examples =
     ∷ example "" 0 Ended "" 0 ""
     ∷ []
 
-pub examples-hold : map (λ (e : Example). summed (runOf (bytes (e .recipe)) [] (e .space) 1000 1000)) examples ≡ map (λ (e : Example). e .run) examples
+pub examples-hold : map (λ (e : Example). summed (runOf (bytes (e .recipe)) [] (lending (e .space)) 1000)) examples ≡ map (λ (e : Example). e .run) examples
 unfolding examples bytes leading isDigit valueFrom sameBytes meaning capitalOf isLetter isHex hexDigit signs pairs classOf reserved tellingOf markOf wordToken numberToken hexFrom hexToken textToken signToken tokenAt linesFrom numberOf isPlain numbered judged loadLines loadOf formFor anyFor countOf formulaAt climbAt operandAt argumentsAt formulaOf depthOf deepestOf itemsAt printAt forAt inputAt begunAt partAt readLine deepest statementsOf withinIf deepestIn signedValue num fit places trimmed digitByte numeral shown fromNumber make letGo letAllGo produced wordOf bytesOf stringBytes argument startsWith found placeOf isBefore wantAt valueOf valuesOf hasNumber hasString setNumber setString columnAfter write printItems returned sought passed enter running runOf joinedStrings
 examples-hold = refl
 
@@ -80,6 +84,6 @@ examples-hold = refl
 pub nested : String
 nested = "10 A$=\"B\":B$=\"A\"\n20 N=A$<B$+LEFT$(A$,A$<B$+LEFT$(A$,A$<B$+LEFT$(A$,A$<B$+LEFT$(A$,A$<B$+LEFT$(A$,A$<B$+LEFT$(A$,A$<B$+LEFT$(A$,A$<B$+LEFT$(A$,A$<B$+B$))))))))"
 
-pub nested-highest : (runOf (bytes nested) [] 1000 1000 1000) .machine .highest ≡ 28
+pub nested-highest : (runOf (bytes nested) [] (lending 1000) 1000) .machine .highest ≡ 28
 unfolding nested bytes leading isDigit valueFrom sameBytes meaning capitalOf isLetter isHex hexDigit signs pairs classOf reserved tellingOf markOf wordToken numberToken hexFrom hexToken textToken signToken tokenAt linesFrom numberOf isPlain numbered judged loadLines loadOf formFor anyFor countOf formulaAt climbAt operandAt argumentsAt formulaOf depthOf deepestOf itemsAt printAt forAt inputAt begunAt partAt readLine deepest statementsOf withinIf deepestIn signedValue num fit places trimmed digitByte numeral shown fromNumber make letGo letAllGo produced wordOf bytesOf stringBytes argument startsWith found placeOf isBefore wantAt valueOf valuesOf hasNumber hasString setNumber setString columnAfter write printItems returned sought passed enter running runOf joinedStrings
 nested-highest = refl

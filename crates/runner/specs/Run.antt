@@ -25,7 +25,7 @@ use Rattle.variables.specs.declared.tables.Tables.{Tables}
 use Rattle.runner.specs.declared.running.Ran as code
 use Rattle.runner.specs.declared.running.Outcome.{Outcome}
 use Rattle.runner.specs.declared.running.Outcome.the-variants.{Ended, Stopped, Out, Failed, Refused}
-use Rattle.machine.specs.Machine.{Rest, nothing, part, Machine, fresh, withStep, headOf, tailOf}
+use Rattle.machine.specs.Machine.{Rest, nothing, part, Machine, Lent, fresh, withStep, headOf, tailOf}
 use Rattle.turns.specs.Steps.{Next, goesOn, enters, ends, stops, fails, doStatement}
 
 pub record Ran : Type 0 where
@@ -104,13 +104,12 @@ abbrev pub ifLoaded : Loaded → Machine → (Unit {0} → Ran) → Ran
 ifLoaded loaded.Fine m go = go tt
 ifLoaded (loaded.Refused refusal p) m go = endsWith (Refused refusal p) m
 
--- a run of a text on an input, with so many bytes of string space, so much room for output, and a budget of steps; a string space over
--- 16,384 bytes is refused (106) before the text is loaded
-unfoldable pub runOf : List ℕ → List ℕ → ℕ → ℕ → ℕ → Ran
-runOf text input space outputRoom budget =
-    cond (ltb 16384 space) (endsWith (Refused SpaceTooLong (place 0)) (fresh input space outputRoom))
-    (ifLoaded (loadOf text) (fresh input space outputRoom)
-    (λ _. running budget text (entering (fresh input space outputRoom) (linesOf text))))
+-- a run of a text on an input, with what it is lent and a budget of steps; a string space over 16,384 bytes is refused (106) before the
+-- text is loaded
+unfoldable pub runOf : List ℕ → List ℕ → Lent → ℕ → Ran
+runOf text input lent budget =
+    cond (ltb 16384 (lent .space)) (endsWith (Refused SpaceTooLong (place 0)) (fresh input lent))
+    (ifLoaded (loadOf text) (fresh input lent) (λ _. running budget text (entering (fresh input lent) (linesOf text))))
 
 -- ---- what is answered: outcome word, number, line, place; what does not apply is 0
 

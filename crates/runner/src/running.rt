@@ -6,6 +6,7 @@ ghost use Rattle.space.specs.Moves.{cleared};
 ghost use Rattle.loader.specs.Loading.{loadOf};
 ghost use Rattle.loader.specs.declared.loading.Loaded.the-variants.{Fine};
 ghost use Rattle.machine.specs.Machine as spec;
+ghost use Rattle.machine.specs.Machine.{lentBy};
 ghost use Rattle.machine.specs.bridge.Holding.{linesAt, positionOf, entryAt, Positioned};
 ghost use Rattle.runner.specs.Run as run;
 ghost use Rattle.runner.specs.Run.{runOf, answerOf, spaceAfter, roomAfter};
@@ -185,7 +186,7 @@ fn ended(outcome: Outcome, machine: Machine, space: &mut [u8]) -> Ran
 fn run_loaded(text: &[u8], input: &[u8], space: &mut [u8], room: &mut [u8], budget: u32) -> Ran
     requires { ⌜ (loadOf (now text) ≡ Fine) × (length (now space) ≤ 16384) ⌝ }
     ensures { λ r. ⌜
-        RanAs (runIn (now (text .entry)) (now (input .entry)) (now (space .entry)) (now (room .entry)) budget)
+        RanAs (runIn (now (text .entry)) (now (input .entry)) (lentBy (now (space .entry)) (now (room .entry))) budget)
         (now (space .entry)) (now (room .entry)) r (now (space .exit)) (now (room .exit))
         ⌝ }
 {
@@ -237,9 +238,9 @@ pub fn run(
     tables: Tables,
 ) -> Ran
     ensures { λ r. ⌜
-        (r ≡ answerOf (runOf (now (text .entry)) (now (input .entry)) (length (now (space .entry))) (length (now (room .entry))) budget) tables)
-        × ((now (space .exit) ≡ spaceAfter (runOf (now (text .entry)) (now (input .entry)) (length (now (space .entry))) (length (now (room .entry))) budget) (now (space .entry)))
-        × (now (room .exit) ≡ roomAfter (runOf (now (text .entry)) (now (input .entry)) (length (now (space .entry))) (length (now (room .entry))) budget) (now (room .entry))))
+        (r ≡ answerOf (runOf (now (text .entry)) (now (input .entry)) (lentBy (now (space .entry)) (now (room .entry))) budget) tables)
+        × ((now (space .exit) ≡ spaceAfter (runOf (now (text .entry)) (now (input .entry)) (lentBy (now (space .entry)) (now (room .entry))) budget) (now (space .entry)))
+        × (now (room .exit) ≡ roomAfter (runOf (now (text .entry)) (now (input .entry)) (lentBy (now (space .entry)) (now (room .entry))) budget) (now (room .entry))))
         ⌝ }
 {
     if Machine::LONGEST_SPACE < space.len() {

@@ -15,7 +15,7 @@ use Rattle.grammar.specs.Trees.{Statement, Part}
 use Rattle.statements.specs.Statements.{LineReading, doesNotRead, reads, readLine}
 use Rattle.statements.specs.Parts.{statementsOf, deepestIn}
 use Rattle.variables.specs.Variables.{stringBytes}
-use Rattle.machine.specs.Machine.{Rest, nothing, part, Position, Machine, fresh, withStep, headOf, tailOf}
+use Rattle.machine.specs.Machine.{Rest, nothing, part, Position, Machine, Lent, fresh, withStep, headOf, tailOf}
 use Rattle.turns.specs.Steps.{Next, goesOn, enters, ends, stops, fails, doStatement}
 use Rattle.runner.specs.Run.{
   Ran,
@@ -165,19 +165,19 @@ module _ (exact : LiveIsExact) (program : List ℕ) (space : ℕ) where
 
 -- ---- a whole run
 
-module _ (exact : LiveIsExact) (text input : List ℕ) (space room budget : ℕ) where
+module _ (exact : LiveIsExact) (text input : List ℕ) (lent : Lent) (budget : ℕ) where
   abbrev start : Standing
-  start = entering (fresh input space room) (linesOf text)
+  start = entering (fresh input lent) (linesOf text)
 
-  start-space : Stands (λ m. m .space ≡ space) start
-  start-space = entering-stands (λ m. m .space ≡ space) (fresh input space room) (linesOf text) refl
+  start-space : Stands (λ m. m .space ≡ lent .space) start
+  start-space = entering-stands (λ m. m .space ≡ lent .space) (fresh input lent) (linesOf text) refl
 
-  asked-view : RunView text input space room budget → (l : LineNumber) → runOf text input space room budget .ending ≡ Failed OutOfStringSpace l
-      → AsksTooMuch text input space room budget l
+  asked-view : RunView text input lent budget → (l : LineNumber) → runOf text input lent budget .ending ≡ Failed OutOfStringSpace l
+      → AsksTooMuch text input lent budget l
   asked-view (long h e) l f = let g = rw e at f in never (cc)
   asked-view (unloaded r p h k e) l f = let g = rw e at f in never (cc)
   asked-view (runs h k e) l f =
-      let a = running-asked exact text space budget start l start-space (entering-unfailed (fresh input space room) (linesOf text)) (rw e at f) in
+      let a = running-asked exact text (lent .space) budget start l start-space (entering-unfailed (fresh input lent) (linesOf text)) (rw e at f) in
       record {
         small = h;
         loads = k;
@@ -189,14 +189,14 @@ module _ (exact : LiveIsExact) (text input : List ℕ) (space room budget : ℕ)
         exceeds = a .exceeds;
       }
 
-  asked-fails : (l : LineNumber) → AsksTooMuch text input space room budget l → runOf text input space room budget .ending ≡ Failed OutOfStringSpace l
+  asked-fails : (l : LineNumber) → AsksTooMuch text input lent budget l → runOf text input lent budget .ending ≡ Failed OutOfStringSpace l
   unfolding runOf
   asked-fails l a =
-      let same = begun-space text space budget start l (a .statement) (a .machine) (a .begins) start-space in
-      rw (le-ltb 16384 space (a .small), a .loads)
-      (running-fails exact text space budget start l (a .statement) (a .machine) (a .begins)
+      let same = begun-space text (lent .space) budget start l (a .statement) (a .machine) (a .begins) start-space in
+      rw (le-ltb 16384 (lent .space) (a .small), a .loads)
+      (running-fails exact text (lent .space) budget start l (a .statement) (a .machine) (a .begins)
       (λ after. statement-fails exact text (a .statement) (a .machine) after (a .ask) (a .asks) (rw same (a .exceeds))))
 
   pub fourteen-exactly : (l : LineNumber)
-      → (runOf text input space room budget .ending ≡ Failed OutOfStringSpace l) ↔ AsksTooMuch text input space room budget l
-  fourteen-exactly l = (asked-view (run-view text input space room budget) l, asked-fails l)
+      → (runOf text input lent budget .ending ≡ Failed OutOfStringSpace l) ↔ AsksTooMuch text input lent budget l
+  fourteen-exactly l = (asked-view (run-view text input lent budget) l, asked-fails l)

@@ -22,7 +22,7 @@ use Rattle.variables.specs.Strings as string
 use Rattle.variables.specs.Strings.{Room, value}
 use Rattle.variables.specs.Variables.{stringBytes}
 use Rattle.operators.specs.Values.{valueOf}
-use Rattle.machine.specs.Machine.{Rest, nothing, part, Machine, fresh, roomOf, withStep, headOf, tailOf}
+use Rattle.machine.specs.Machine.{Rest, nothing, part, Machine, Lent, fresh, roomOf, withStep, headOf, tailOf}
 use Rattle.turns.specs.Steps.{Next, goesOn, enters, ends, stops, fails, doStatement}
 use Rattle.runner.specs.Run.{
   endsWith,
@@ -93,37 +93,37 @@ running-keeps P k step (suc n) program (at m lines p) h =
 
 -- ---- a whole run: it is refused, or it is the turns from the first line on
 
-pub data RunView (text input : List ℕ) (space room budget : ℕ) : Type 0 where
-  long : 16384 < space → runOf text input space room budget ≡ endsWith (Refused SpaceTooLong (place 0)) (fresh input space room)
-      → RunView text input space room budget
-  unloaded : (r : Refusal) (p : Place) → space ≤ 16384 → loadOf text ≡ loaded.Refused r p
-      → runOf text input space room budget ≡ endsWith (Refused r p) (fresh input space room) → RunView text input space room budget
-  runs : space ≤ 16384 → loadOf text ≡ loaded.Fine
-      → runOf text input space room budget ≡ running budget text (entering (fresh input space room) (linesOf text))
-      → RunView text input space room budget
+pub data RunView (text input : List ℕ) (lent : Lent) (budget : ℕ) : Type 0 where
+  long : 16384 < lent .space → runOf text input lent budget ≡ endsWith (Refused SpaceTooLong (place 0)) (fresh input lent)
+      → RunView text input lent budget
+  unloaded : (r : Refusal) (p : Place) → lent .space ≤ 16384 → loadOf text ≡ loaded.Refused r p
+      → runOf text input lent budget ≡ endsWith (Refused r p) (fresh input lent) → RunView text input lent budget
+  runs : lent .space ≤ 16384 → loadOf text ≡ loaded.Fine
+      → runOf text input lent budget ≡ running budget text (entering (fresh input lent) (linesOf text))
+      → RunView text input lent budget
 
-pub run-view : (text input : List ℕ) (space room budget : ℕ) → RunView text input space room budget
+pub run-view : (text input : List ℕ) (lent : Lent) (budget : ℕ) → RunView text input lent budget
 unfolding runOf
-run-view text input space room budget =
-    by-test (ltb 16384 space) (λ t. long (ltb-true _ _ t) (rw t)) (λ t. loads (loadOf text) refl t)
+run-view text input lent budget =
+    by-test (ltb 16384 (lent .space)) (λ t. long (ltb-true _ _ t) (rw t)) (λ t. loads (loadOf text) refl t)
   where
-    loads : (x : Loaded) → loadOf text ≡ x → ltb 16384 space ≡ false → RunView text input space room budget
+    loads : (x : Loaded) → loadOf text ≡ x → ltb 16384 (lent .space) ≡ false → RunView text input lent budget
     loads loaded.Fine e t = runs (ltb-false _ _ t) e (rw (t, e))
     loads (loaded.Refused r p) e t = unloaded r p (ltb-false _ _ t) e (rw (t, e))
 
-run-from : (P : Machine → Type 0) (text input : List ℕ) (space room budget : ℕ) → RunView text input space room budget
-    → P (fresh input space room) → P (running budget text (entering (fresh input space room) (linesOf text)) .machine)
-    → P (runOf text input space room budget .machine)
-run-from P text input space room budget (long h e) p q = rw e p
-run-from P text input space room budget (unloaded r l h f e) p q = rw e p
-run-from P text input space room budget (runs h f e) p q = rw e q
+run-from : (P : Machine → Type 0) (text input : List ℕ) (lent : Lent) (budget : ℕ) → RunView text input lent budget
+    → P (fresh input lent) → P (running budget text (entering (fresh input lent) (linesOf text)) .machine)
+    → P (runOf text input lent budget .machine)
+run-from P text input lent budget (long h e) p q = rw e p
+run-from P text input lent budget (unloaded r l h f e) p q = rw e p
+run-from P text input lent budget (runs h f e) p q = rw e q
 
 pub run-keeps : (P : Machine → Type 0) → Keeps P → ((m : Machine) → P m → P (withStep m))
-    → (text input : List ℕ) (space room budget : ℕ) → P (fresh input space room) → P (runOf text input space room budget .machine)
-run-keeps P k step text input space room budget p =
-    run-from P text input space room budget (run-view text input space room budget) p
-    (running-keeps P k step budget text (entering (fresh input space room) (linesOf text))
-    (entering-stands P (fresh input space room) (linesOf text) p))
+    → (text input : List ℕ) (lent : Lent) (budget : ℕ) → P (fresh input lent) → P (runOf text input lent budget .machine)
+run-keeps P k step text input lent budget p =
+    run-from P text input lent budget (run-view text input lent budget) p
+    (running-keeps P k step budget text (entering (fresh input lent) (linesOf text))
+    (entering-stands P (fresh input lent) (linesOf text) p))
 
 -- ---- steps
 
@@ -147,11 +147,11 @@ running-steps (suc n) program (at m lines p) k h =
     let more = running-steps n program (turn program m lines p) (suc k) stands in
     omega arith
 
-pub steps-within : (text input : List ℕ) (space room budget : ℕ) → runOf text input space room budget .machine .steps ≤ budget
-steps-within text input space room budget =
-    run-from (λ m. m .steps ≤ budget) text input space room budget (run-view text input space room budget) (omega arith)
-    (let h = running-steps budget text (entering (fresh input space room) (linesOf text)) 0
-    (entering-stands (λ m. m .steps ≡ 0) (fresh input space room) (linesOf text) refl) in omega arith)
+pub steps-within : (text input : List ℕ) (lent : Lent) (budget : ℕ) → runOf text input lent budget .machine .steps ≤ budget
+steps-within text input lent budget =
+    run-from (λ m. m .steps ≤ budget) text input lent budget (run-view text input lent budget) (omega arith)
+    (let h = running-steps budget text (entering (fresh input lent) (linesOf text)) 0
+    (entering-stands (λ m. m .steps ≡ 0) (fresh input lent) (linesOf text) refl) in omega arith)
 
 -- ---- output
 
@@ -169,10 +169,10 @@ output-kept room = record {
   takes = λ m left h p. record { lent = p .lent; within = p .within };
 }
 
-pub output-within : (text input : List ℕ) (space room budget : ℕ) → length (runOf text input space room budget .machine .output) ≤ room
-output-within text input space room budget =
-    let step : (m : Machine) → Printable room m → Printable room (withStep m) = λ m p. record { lent = p .lent; within = p .within } in
-    let h = run-keeps (Printable room) (output-kept room) step text input space room budget (record { lent = refl; within = omega arith }) in
+pub output-within : (text input : List ℕ) (lent : Lent) (budget : ℕ) → length (runOf text input lent budget .machine .output) ≤ lent .room
+output-within text input lent budget =
+    let step : (m : Machine) → Printable (lent .room) m → Printable (lent .room) (withStep m) = λ m p. record { lent = p .lent; within = p .within } in
+    let h = run-keeps (Printable (lent .room)) (output-kept (lent .room)) step text input lent budget (record { lent = refl; within = omega arith }) in
     omega arith
 
 -- ---- input
@@ -187,9 +187,9 @@ input-kept n = record {
   takes = λ m left h p. omega arith;
 }
 
-pub input-within : (text input : List ℕ) (space room budget : ℕ) → runOf text input space room budget .machine .taken ≤ length input
-input-within text input space room budget =
-    let h = run-keeps (λ m. m .taken + length (m .input) ≡ length input) (input-kept (length input)) (λ m p. p) text input space room budget (omega arith) in
+pub input-within : (text input : List ℕ) (lent : Lent) (budget : ℕ) → runOf text input lent budget .machine .taken ≤ length input
+input-within text input lent budget =
+    let h = run-keeps (λ m. m .taken + length (m .input) ≡ length input) (input-kept (length input)) (λ m p. p) text input lent budget (omega arith) in
     omega arith
 
 -- ---- strings
@@ -217,10 +217,10 @@ module _ (exact : LiveIsExact) where
     takes = λ m left h p. record { lent = p .lent; within = p .within };
   }
 
-  pub strings-within : (text input : List ℕ) (space room budget : ℕ)
-      → stringBytes (runOf text input space room budget .machine .variables .strings) ≤ space
+  pub strings-within : (text input : List ℕ) (lent : Lent) (budget : ℕ)
+      → stringBytes (runOf text input lent budget .machine .variables .strings) ≤ lent .space
   unfolding stringBytes
-  strings-within text input space room budget =
-      let step : (m : Machine) → Storable space m → Storable space (withStep m) = λ m p. record { lent = p .lent; within = p .within } in
-      let h = run-keeps (Storable space) (strings-kept space) step text input space room budget (record { lent = refl; within = omega arith }) in
+  strings-within text input lent budget =
+      let step : (m : Machine) → Storable (lent .space) m → Storable (lent .space) (withStep m) = λ m p. record { lent = p .lent; within = p .within } in
+      let h = run-keeps (Storable (lent .space)) (strings-kept (lent .space)) step text input lent budget (record { lent = refl; within = omega arith }) in
       omega arith

@@ -9,7 +9,7 @@ use Rattle.words.specs.declared.places.LineNumber.{LineNumber}
 use Rattle.words.specs.declared.places.Place.{Place}
 use Rattle.loader.specs.Lines.{Line, linesOf}
 use Rattle.loader.specs.declared.refusals.Refusal.{Refusal}
-use Rattle.machine.specs.Machine.{Rest, nothing, part, Machine, fresh, withStep, headOf, tailOf}
+use Rattle.machine.specs.Machine.{Rest, nothing, part, Machine, Lent, fresh, withStep, headOf, tailOf}
 use Rattle.turns.specs.Steps.{Next, goesOn, enters, ends, stops, fails, doStatement}
 use Rattle.runner.specs.Run.{
   endsWith,
@@ -74,33 +74,33 @@ running-begun (suc n) program (at m lines p) h =
 
 -- ---- a whole run
 
-module _ (text input : List ℕ) (space room budget : ℕ) where
+module _ (text input : List ℕ) (lent : Lent) (budget : ℕ) where
   not-begun : {o : Outcome} (r : Refusal) (p : Place) → isRefused o ≡ false → o ≡ Refused r p → ⊥
   not-begun r p h e = let f = rw e at h in never (cc)
 
-  same-refusal : {r s : Refusal} {p q : Place} → Refused s q ≡ Refused r p → RefusedFor text space s q → RefusedFor text space r p
+  same-refusal : {r s : Refusal} {p q : Place} → Refused s q ≡ Refused r p → RefusedFor text lent s q → RefusedFor text lent r p
   same-refusal {r} {s} {p} {q} e h = let f : r ≡ s = cc in let g : p ≡ q = cc in rw (f, g) h
 
-  refused-view : RunView text input space room budget → (r : Refusal) (p : Place) → runOf text input space room budget .ending ≡ Refused r p
-      → RefusedFor text space r p
+  refused-view : RunView text input lent budget → (r : Refusal) (p : Place) → runOf text input lent budget .ending ≡ Refused r p
+      → RefusedFor text lent r p
   refused-view (long h e) r p o = same-refusal (rw e at o) (longSpace h)
   refused-view (unloaded s q h l e) r p o = same-refusal (rw e at o) (notLoaded h l)
   refused-view (runs h l e) r p o =
       absurd
       (not-begun r p
-      (running-begun budget text (entering (fresh input space room) (linesOf text)) (entering-begun (fresh input space room) (linesOf text)))
+      (running-begun budget text (entering (fresh input lent) (linesOf text)) (entering-begun (fresh input lent) (linesOf text)))
       (rw e at o))
 
-  for-view : (r : Refusal) (p : Place) → RefusedFor text space r p
-      → runOf text input space room budget ≡ endsWith (Refused r p) (fresh input space room)
+  for-view : (r : Refusal) (p : Place) → RefusedFor text lent r p
+      → runOf text input lent budget ≡ endsWith (Refused r p) (fresh input lent)
   unfolding runOf
-  for-view r p (longSpace h) = rw (lt-ltb 16384 space h)
-  for-view r p (notLoaded h l) = rw (le-ltb 16384 space h, l)
+  for-view r p (longSpace h) = rw (lt-ltb 16384 (lent .space) h)
+  for-view r p (notLoaded h l) = rw (le-ltb 16384 (lent .space) h, l)
 
-  pub refused-exactly : (r : Refusal) (p : Place) → (runOf text input space room budget .ending ≡ Refused r p) ↔ RefusedFor text space r p
-  refused-exactly r p = (refused-view (run-view text input space room budget) r p, λ h. ap (λ x. x .ending) (for-view r p h))
+  pub refused-exactly : (r : Refusal) (p : Place) → (runOf text input lent budget .ending ≡ Refused r p) ↔ RefusedFor text lent r p
+  refused-exactly r p = (refused-view (run-view text input lent budget) r p, λ h. ap (λ x. x .ending) (for-view r p h))
 
   -- a refused run is not begun
-  pub refused-fresh : (r : Refusal) (p : Place) → runOf text input space room budget .ending ≡ Refused r p
-      → runOf text input space room budget ≡ endsWith (Refused r p) (fresh input space room)
+  pub refused-fresh : (r : Refusal) (p : Place) → runOf text input lent budget .ending ≡ Refused r p
+      → runOf text input lent budget ≡ endsWith (Refused r p) (fresh input lent)
   refused-fresh r p h = for-view r p (refused-exactly r p .0 h)

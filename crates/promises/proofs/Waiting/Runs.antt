@@ -14,10 +14,10 @@ use Rattle.loader.specs.declared.loading.Loaded.{Loaded}
 use Rattle.loader.specs.declared.loading.Loaded.the-variants as loaded
 use Rattle.grammar.specs.Trees.{Part, last, more}
 use Rattle.statements.specs.Parts.{formulasOf, statementsOf, withinIf}
-use Rattle.machine.specs.Machine.{Rest, nothing, part, Position, Machine, fresh, withStep, headOf, tailOf}
+use Rattle.machine.specs.Machine.{Rest, nothing, part, Position, Machine, Lent, fresh, withStep, headOf, tailOf}
 use Rattle.turns.specs.Steps.{Next, goesOn, enters, ends, stops, fails, doStatement}
 use Rattle.runner.specs.Run.{Ran, lineNumberOf, Entered, over, faulty, opened, enter, nextLine, Standing, finished, at, byEntered, entering, onward, following, turn, running, ifLoaded, runOf}
-use Rattle.runner.specs.Examples.{nested, nested-highest}
+use Rattle.runner.specs.Examples.{lending, nested, nested-highest}
 use Rattle.promises.specs.Unfinished.{mostUnfinished, fewUnfinished, mostIsReached}
 use Rattle.promises.proofs.Waiting.Nesting.{Fine}
 use Rattle.promises.proofs.Waiting.Reading.{Each, Every, every-split, PartFine, EnteredFine, line-fine}
@@ -75,26 +75,26 @@ running-few (suc n) program (finished r) h = h
 running-few (suc n) program (at m lines p) h =
     running-few n program (turn program m lines p) (turn-fine program m lines p (h .0) (h .1))
 
-fresh-sound : (input : List ℕ) (space outputRoom : ℕ) → Sound (fresh input space outputRoom)
-fresh-sound input space outputRoom = record { few = omega arith; held = tt }
+fresh-sound : (input : List ℕ) (lent : Lent) → Sound (fresh input lent)
+fresh-sound input lent = record { few = omega arith; held = tt }
 
 loaded-few : (x : Loaded) (m : Machine) (go : Unit {0} → Ran) → m .highest ≤ mostUnfinished → go tt .machine .highest ≤ mostUnfinished
     → ifLoaded x m go .machine .highest ≤ mostUnfinished
 loaded-few loaded.Fine m go h k = k
 loaded-few (loaded.Refused refusal p) m go h k = h
 
-run-few : (text input : List ℕ) (space outputRoom budget : ℕ) → runOf text input space outputRoom budget .machine .highest ≤ mostUnfinished
+run-few : (text input : List ℕ) (lent : Lent) (budget : ℕ) → runOf text input lent budget .machine .highest ≤ mostUnfinished
 unfolding runOf
-run-few text input space outputRoom budget =
-    let m = fresh input space outputRoom in
-    let s = fresh-sound input space outputRoom in
-    by-test (ltb 16384 space) (λ e. rw e (s .few)) λ e. rw e
+run-few text input lent budget =
+    let m = fresh input lent in
+    let s = fresh-sound input lent in
+    by-test (ltb 16384 (lent .space)) (λ e. rw e (s .few)) λ e. rw e
     (loaded-few (loadOf text) m _ (s .few) (running-few budget text (entering m (linesOf text)) (entering-fine m (linesOf text) s)))
 
 pub few-unfinished : fewUnfinished
-few-unfinished text input space outputRoom budget =
-    let h = run-few text input space outputRoom budget in
+few-unfinished text input lent budget =
+    let h = run-few text input lent budget in
     record { allowed = omega arith; most = h }
 
 pub most-is-reached : mostIsReached
-most-is-reached n h = rw nested-highest at (h (bytes nested) [] 1000 1000 1000)
+most-is-reached n h = rw nested-highest at (h (bytes nested) [] (lending 1000) 1000)

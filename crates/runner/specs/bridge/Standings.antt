@@ -106,8 +106,8 @@ pub record TurnAs (text : List ℕ) (span : LineSpan) (at : Place) (m : Machine)
 -- ---- the end
 
 -- the run of a text that loads
-abbrev pub runIn : List ℕ → List ℕ → List ℕ → List ℕ → ℕ → run.Ran
-runIn text input space room budget = running budget text (entering (spec.fresh input (length space) (length room)) (linesOf text))
+abbrev pub runIn : List ℕ → List ℕ → spec.Lent → ℕ → run.Ran
+runIn text input lent budget = running budget text (entering (spec.fresh input lent) (linesOf text))
 
 abbrev pub endedAs : Outcome → Machine → Ran
 endedAs o m =

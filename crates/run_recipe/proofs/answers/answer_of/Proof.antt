@@ -1,6 +1,6 @@
 -- What the runner answers is what is told (`tells`).
 use borrow.Author.Needs.{needs}
-use lib.ListN.{length}
+use Rattle.machine.specs.Machine.{lentBy}
 use Rattle.runner.specs.Run.{runOf}
 use Rattle.run_recipe.proofs.Answering.{tells}
 use Rattle.run_recipe.proofs.answers.answer_of.Statement.{statement}
@@ -10,7 +10,7 @@ returns : tie.Need-returns
 returns c =
     let r = c .before .before .before .before .before in
     let p = r .before .before .before .before .before .before .before .before .args in
-    tells (runOf (p .text .now) (p .input .now) (length (p .space .now)) (length (p .room .now)) (p .budget)) _ (p .room .now) _ _ _
+    tells (runOf (p .text .now) (p .input .now) (lentBy (p .space .now) (p .room .now)) (p .budget)) _ (p .room .now) _ _ _
     (r .run .ensures .0) (r .run .ensures .1 .1) (c .line-of .ensures)
 
 pub answer-of-spec : {M : Type 1} → statement M
