@@ -25,32 +25,8 @@ use Rattle.grammar.specs.Trees.{Formula, Variable, Item, Statement}
 use Rattle.variables.specs.Strings.{Value, whole, text, Outcome, value, fault, make}
 use Rattle.variables.specs.Variables.{NumberVariable, wordOf, setNumber, hasNumber, numbersFull, stringsFull}
 use Rattle.operators.specs.Values.{valueOf}
-use Rattle.machine.specs.Machine.{
-  Rest,
-  nothing,
-  part,
-  Position,
-  Record,
-  loop,
-  call,
-  Machine,
-  mostRecords,
-  fresh,
-  roomOf,
-  withRecords,
-  withStep,
-  noting,
-  write,
-  commaBlanks,
-  Search,
-  missing,
-  found,
-  sought,
-  below,
-  passed,
-  headOf,
-  tailOf,
-}
+use Rattle.machine.specs.Machine.{Position, Record, loop, call, Machine, mostRecords, fresh, roomOf, withRecords, withStep, noting, write, commaBlanks, Search, missing, found, sought, below, passed}
+use Rattle.statements.specs.Parts.{Rest, nothing, part, headOf, tailOf}
 use Rattle.turns.specs.Steps.{
   Next,
   goesOn,

@@ -13,7 +13,8 @@ use Rattle.grammar.specs.Trees.{Part}
 use Rattle.checker.specs.Check as check
 use Rattle.checker.specs.Check.{firstFault, checkOf}
 use Rattle.checker.specs.declared.checking.Verdict.the-variants.{Passed}
-use Rattle.machine.specs.Machine.{Rest, nothing, part, Position, Machine, fresh, withStep, headOf, tailOf}
+use Rattle.machine.specs.Machine.{Position, Machine, fresh, withStep}
+use Rattle.statements.specs.Parts.{Rest, nothing, part, headOf, tailOf}
 use Rattle.turns.specs.Steps.{Next, goesOn, enters, ends, stops, fails, doStatement}
 use Rattle.runner.specs.Run.{
   Ran,

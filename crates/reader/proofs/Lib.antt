@@ -1,4 +1,3 @@
-pub mod Elses
-pub mod Tallies
-pub mod Visits
+pub mod Judging
 pub mod Walks
+pub mod Visits

@@ -13,9 +13,9 @@ use Rattle.words.proofs.Choices.{by-test}
 use Rattle.loader.specs.Lines.{Line, linesOf}
 use Rattle.grammar.specs.Trees.{Statement, Part}
 use Rattle.statements.specs.Statements.{LineReading, doesNotRead, reads, readLine}
-use Rattle.statements.specs.Parts.{statementsOf, deepestIn}
+use Rattle.statements.specs.Parts.{statementsOf, deepestIn, Rest, nothing, part, headOf, tailOf}
 use Rattle.variables.specs.Variables.{stringBytes}
-use Rattle.machine.specs.Machine.{Rest, nothing, part, Position, Machine, fresh, withStep, headOf, tailOf}
+use Rattle.machine.specs.Machine.{Position, Machine, fresh, withStep}
 use Rattle.turns.specs.Steps.{Next, goesOn, enters, ends, stops, fails, doStatement}
 use Rattle.runner.specs.Run.{
   Ran,

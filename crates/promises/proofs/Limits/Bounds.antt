@@ -22,7 +22,8 @@ use Rattle.variables.specs.Strings as string
 use Rattle.variables.specs.Strings.{Room, value}
 use Rattle.variables.specs.Variables.{stringBytes}
 use Rattle.operators.specs.Values.{valueOf}
-use Rattle.machine.specs.Machine.{Rest, nothing, part, Machine, fresh, roomOf, withStep, headOf, tailOf}
+use Rattle.machine.specs.Machine.{Machine, fresh, roomOf, withStep}
+use Rattle.statements.specs.Parts.{Rest, nothing, part, headOf, tailOf}
 use Rattle.turns.specs.Steps.{Next, goesOn, enters, ends, stops, fails, doStatement}
 use Rattle.runner.specs.Run.{
   endsWith,

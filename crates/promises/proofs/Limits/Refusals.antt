@@ -9,7 +9,8 @@ use Rattle.words.specs.declared.places.LineNumber.{LineNumber}
 use Rattle.words.specs.declared.places.Place.{Place}
 use Rattle.loader.specs.Lines.{Line, linesOf}
 use Rattle.loader.specs.declared.refusals.Refusal.{Refusal}
-use Rattle.machine.specs.Machine.{Rest, nothing, part, Machine, fresh, withStep, headOf, tailOf}
+use Rattle.machine.specs.Machine.{Machine, fresh, withStep}
+use Rattle.statements.specs.Parts.{Rest, nothing, part, headOf, tailOf}
 use Rattle.turns.specs.Steps.{Next, goesOn, enters, ends, stops, fails, doStatement}
 use Rattle.runner.specs.Run.{
   endsWith,

@@ -13,8 +13,8 @@ use Rattle.loader.specs.Loading.{loadOf}
 use Rattle.loader.specs.declared.loading.Loaded.{Loaded}
 use Rattle.loader.specs.declared.loading.Loaded.the-variants as loaded
 use Rattle.grammar.specs.Trees.{Part, last, more}
-use Rattle.statements.specs.Parts.{formulasOf, statementsOf, withinIf}
-use Rattle.machine.specs.Machine.{Rest, nothing, part, Position, Machine, fresh, withStep, headOf, tailOf}
+use Rattle.statements.specs.Parts.{formulasOf, statementsOf, withinIf, Rest, nothing, part, headOf, tailOf}
+use Rattle.machine.specs.Machine.{Position, Machine, fresh, withStep}
 use Rattle.turns.specs.Steps.{Next, goesOn, enters, ends, stops, fails, doStatement}
 use Rattle.runner.specs.Run.{Ran, lineNumberOf, Entered, over, faulty, opened, enter, nextLine, Standing, finished, at, byEntered, entering, onward, following, turn, running, ifLoaded, runOf}
 use Rattle.runner.specs.Examples.{nested, nested-highest}
