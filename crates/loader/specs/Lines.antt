@@ -53,6 +53,11 @@ linesFrom p (b ∷ t) = withByte p b (dropped b t) (linesFrom (p + 1) t)
 abbrev pub linesOf : List ℕ → List Line
 linesOf text = linesFrom 0 text
 
+-- those after the first
+abbrev pub nextLine : List Line → List Line
+nextLine [] = []
+nextLine (l ∷ ls) = ls
+
 -- ---- the number of a line, and what stands after it
 
 abbrev pub afterNumber : Line → List ℕ

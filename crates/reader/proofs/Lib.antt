@@ -1,3 +1,4 @@
+pub mod Heads
 pub mod Judging
 pub mod Walks
 pub mod Visits

@@ -8,7 +8,7 @@ use Rattle.whole.specs.Digits.{leadingValue}
 use Rattle.whole.specs.Errors.{numberOf}
 use Rattle.whole.specs.declared.errors.Error.{Error}
 use Rattle.whole.specs.declared.errors.Error.the-variants.{Syntax, FormulaTooComplex}
-use Rattle.loader.specs.Lines.{Line, linesOf, afterNumber}
+use Rattle.loader.specs.Lines.{Line, linesOf, afterNumber, nextLine}
 use Rattle.loader.specs.Loading.{loadOf}
 use Rattle.loader.specs.Refusals.{refusalNumber}
 use Rattle.loader.specs.declared.loading.Loaded.{Loaded}
@@ -57,10 +57,6 @@ enter [] = over
 enter (l ∷ ls) = judgedLine (judgement (afterNumber l))
 
 -- ---- where the run stands: at a statement of a line, or it is over
-
-abbrev pub nextLine : List Line → List Line
-nextLine [] = []
-nextLine (l ∷ ls) = ls
 
 pub data Standing : Type 0 where
   finished : Ran → Standing
