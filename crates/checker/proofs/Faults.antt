@@ -4,27 +4,24 @@ use mathlib.Core.Bool.{Bool, false, cond}
 use mathlib.Core.List.{List, [], _∷_}
 use Prim.Native.Nat.{ℕ, _+_, _-_, _≤_, _<_}
 use native.Mathlib.Omega.{arith}
-use lib.Dec.{ltb}
 use lib.ListN.{length, take, drop, length-drop}
 use lib.Seq.{take-add, drop-at, drop-drop, length-take-le}
 use Rattle.whole.specs.Digits.{leadingDigits, leadingValue}
 use Rattle.whole.specs.declared.errors.Error.{Error}
 use Rattle.whole.specs.declared.errors.Error.the-variants.{Syntax, FormulaTooComplex, TypeMismatch, UndefinedLine}
 use Rattle.words.specs.Places.{place, lineNumber}
-use Rattle.words.proofs.Choices.{by-test}
-use Rattle.loader.specs.Lines.{Line, firstOf}
+use Rattle.loader.specs.Lines.{Line, firstOf, afterNumber}
 use Rattle.loader.specs.declared.lines.LineSpan.{LineSpan}
 use Rattle.loader.specs.declared.lines.LineFound.the-variants.{Is, None}
 use Rattle.loader.proofs.Extents.{linesAt, cut}
 use Rattle.loader.proofs.Found.{digits-inside}
 use Rattle.loader.proofs.Rising.{Rising, rising-lower}
 use Rattle.grammar.specs.Trees.{Part}
-use Rattle.statements.specs.Statements.{LineReading, doesNotRead, reads, readLine}
-use Rattle.statements.specs.Parts.{statementsOf, deepestIn}
-use Rattle.reader.specs.Lines.{judgedReading}
+use Rattle.statements.specs.Parts.{statementsOf}
+use Rattle.reader.specs.Lines.{Judgement, unreadable, tooDeep, holds, judgement, judgedAs}
 use Rattle.reader.specs.declared.lines.Judged.{Judged}
 use Rattle.reader.specs.declared.lines.Judged.the-variants as judged
-use Rattle.checker.specs.Check.{anyMissing, faultIn, bodyOf, firstFault}
+use Rattle.checker.specs.Check.{anyMissing, faultIn, firstFault}
 use Rattle.checker.specs.declared.checking.Soundness.{Soundness}
 use Rattle.checker.specs.declared.checking.Soundness.the-variants.{Sound, Fault}
 use Rattle.checker.specs.declared.checking.Verdict.the-variants.{Faulty}
@@ -38,22 +35,22 @@ faultBy judged.TooDeep lacks = Fault FormulaTooComplex
 faultBy (judged.Reads typed) lacks = cond typed (cond lacks (Fault UndefinedLine) Sound) (Fault TypeMismatch)
 
 module _ (all : List Line) where
-  abbrev pub lacking : LineReading → Bool
-  lacking doesNotRead = false
-  lacking (reads part) = anyMissing all (statementsOf part)
+  abbrev pub lacking : Judgement → Bool
+  lacking unreadable = false
+  lacking tooDeep = false
+  lacking (holds part) = anyMissing all (statementsOf part)
 
-  fault-judged : (r : LineReading) → faultBy (judgedReading r) (lacking r) ≡ faultIn all r
-  fault-judged doesNotRead = refl
-  fault-judged (reads part) = by-test (ltb 8 (deepestIn (statementsOf part))) (λ e. rw e) (λ e. rw e)
-
-  pub fault-by : (r : LineReading) {j : Judged} → j ≡ judgedReading r → faultBy j (lacking r) ≡ faultIn all r
-  fault-by r e = rw e (fault-judged r)
+  pub fault-by : (g : Judgement) {j : Judged} → j ≡ judgedAs g → faultBy j (lacking g) ≡ faultIn all g
+  fault-by unreadable e = rw e
+  fault-by tooDeep e = rw e
+  fault-by (holds part) e = rw e
 
   -- whether one is missing counts where the line reads
-  pub fault-read : (r : LineReading) {typed lacks : Bool} → judged.Reads typed ≡ judgedReading r
-      → ((part : Part) → r ≡ reads part → lacks ≡ anyMissing all (statementsOf part)) → faultBy (judged.Reads typed) lacks ≡ faultIn all r
-  fault-read doesNotRead e h = let z : _≡_ {A = ℕ} 0 1 = cc in absurd (omega arith)
-  fault-read (reads part) e h = rw (h part refl) (fault-by (reads part) e)
+  pub fault-read : (g : Judgement) {typed lacks : Bool} → judged.Reads typed ≡ judgedAs g
+      → ((part : Part) → g ≡ holds part → lacks ≡ anyMissing all (statementsOf part)) → faultBy (judged.Reads typed) lacks ≡ faultIn all g
+  fault-read unreadable e h = let z : _≡_ {A = ℕ} 0 1 = cc in absurd (omega arith)
+  fault-read tooDeep e h = let z : _≡_ {A = ℕ} 0 1 = cc in absurd (omega arith)
+  fault-read (holds part) e h = rw (h part refl) (fault-by (holds part) e)
 
 -- ---- the lines of a recipe
 
@@ -76,7 +73,7 @@ pub record Reached (text : List ℕ) (p : ℕ) (span : LineSpan) : Type 0 where
   line : Line
   lines : linesAt text p ≡ line ∷ linesAt text (span .next .0)
   number : span .number ≡ lineNumber (leadingValue (line .bytes))
-  bytes : bodyAt text span ≡ bodyOf line
+  bytes : bodyAt text span ≡ afterNumber line
   pub start : span .body .0 ≤ span .end .0
   pub inside : span .end .0 ≤ length text
   pub onward : p < span .next .0
@@ -124,11 +121,11 @@ reached text p r e = reached-by text p (linesAt text p) refl r e
 
 module _ (all : List Line) (text : List ℕ) {p : ℕ} {span : LineSpan} (here : Reached text p span) where
   -- the line reached decides where it is faulty,
-  pub fault-here : {error : Error} → Fault error ≡ faultIn all (readLine (bodyAt text span)) → Faulty error (span .number) ≡ firstFault all (linesAt text p)
+  pub fault-here : {error : Error} → Fault error ≡ faultIn all (judgement (bodyAt text span)) → Faulty error (span .number) ≡ firstFault all (linesAt text p)
   unfolding firstFault
   fault-here e = rw (here .lines, ← (here .bytes), ← e, here .number)
 
   -- and otherwise the lines after it
-  pub fault-later : Sound ≡ faultIn all (readLine (bodyAt text span)) → firstFault all (linesAt text (span .next .0)) ≡ firstFault all (linesAt text p)
+  pub fault-later : Sound ≡ faultIn all (judgement (bodyAt text span)) → firstFault all (linesAt text (span .next .0)) ≡ firstFault all (linesAt text p)
   unfolding firstFault
   fault-later e = rw (here .lines, ← (here .bytes), ← e)

@@ -2,7 +2,9 @@
 use mathlib.Core.Path.{_≡_, refl, sym, _∙_, ap}
 use mathlib.Core.Bool.{Bool, true, false, not, _||_, false≢true}
 use mathlib.Core.List.{List, [], _∷_, _++_}
-use Prim.Native.Nat.{ℕ}
+use Prim.Native.Nat.{ℕ, _+_}
+use native.Mathlib.Omega.{arith}
+use Rattle.words.specs.declared.symbols.Scanned.{Scanned}
 use Rattle.words.specs.declared.places.LineNumber.{LineNumber}
 use Rattle.words.proofs.Choices.{by-test}
 use Rattle.loader.specs.Lines.{Line, linesOf, numberOf, has, located, firstOf, fromNumber, findLine}
@@ -11,16 +13,20 @@ use Rattle.loader.specs.declared.lines.NumberFound.the-variants as number
 use Rattle.loader.specs.declared.lines.LineFound.{LineFound}
 use Rattle.loader.specs.declared.lines.LineFound.the-variants.{Is, None}
 use Rattle.grammar.specs.Trees.{Statement, Part}
-use Rattle.statements.specs.Statements.{Begun, bad, done, choice, begunAt, reads, readLine}
-use Rattle.statements.specs.Parts.{namedLine, statementsOf}
+use Rattle.statements.specs.Statements.{Begun, bad, done, choice, begunAt, goodPart, partOf}
+use Rattle.statements.specs.Parts.{namedLine, headOf, heads, partsOf, statementsOf}
 use Rattle.statements.specs.bridge.Answers.{begunAnswer}
-use Rattle.reader.specs.bridge.Answers.{followOf}
-use Rattle.reader.specs.declared.lines.Follow.{Follow}
-use Rattle.reader.specs.declared.lines.Follow.the-variants as follow
 use Rattle.statements.specs.declared.reading.StatementRead.{StatementRead}
+use Rattle.statements.proofs.Parts.{unrolled}
+use Rattle.reader.specs.Lines.{holds, judgement}
+use Rattle.reader.specs.bridge.Walking.{followOf, startOf, Onto, StartsAs}
+use Rattle.reader.specs.declared.branches.Start.{Start}
+use Rattle.reader.specs.declared.branches.Start.the-variants as start
+use Rattle.reader.proofs.Judging.{held}
+use Rattle.reader.proofs.Walks.{Itself}
+use Rattle.reader.proofs.Visits.{line-onto, Visit, visit}
 use Rattle.grammar.specs.declared.tests.NamedLine.{NamedLine}
 use Rattle.grammar.specs.declared.tests.NamedLine.the-variants.{Names, NoLine}
-use Rattle.reader.proofs.Visits.{Question, asked, answered, Ahead, line-ahead, Onward, Visit, visit}
 use Rattle.checker.specs.Check.{present, missing, anyMissing}
 use Rattle.checker.specs.bridge.Answers.{namesOf}
 
@@ -47,61 +53,48 @@ module _ (text : List ℕ) {names : NamedLine} {n : LineNumber} (is : names ≡ 
 
 -- ---- the walk over a line
 
--- the line that each statement names
-abbrev lineNames : Question NamedLine
-lineNames = record { ask = namedLine; condition = λ c. NoLine; then-asks = λ c p. refl; else-asks = λ c p q. refl }
-
 module _ (all : List Line) where
-  abbrev anyNamed : List NamedLine → Bool
-  anyNamed [] = false
-  anyNamed (n ∷ ns) = missing all n || anyNamed ns
-
-  any-named : (xs : List Statement) → anyNamed (asked lineNames xs) ≡ anyMissing all xs
-  unfolding asked anyMissing
-  any-named [] = refl
-  any-named (x ∷ xs) = rw (any-named xs)
-
   -- from a place on the line reads, and whether a line named there is missing is this
-  pub record Noticed (line : List ℕ) (first : Bool) (p : ℕ) (v : Bool) : Type 0 where
-    names : List NamedLine
-    on : Ahead lineNames line first p names
-    comes : anyNamed names ≡ v
+  pub record Noticed (line : List ℕ) (p : ℕ) (v : Bool) : Type 0 where
+    parts : List Part
+    onto : Onto line p parts
+    comes : anyMissing all (heads parts) ≡ v
 
-  pub line-noticed : (line : List ℕ) (part : Part) → readLine line ≡ reads part → Noticed line false 0 (anyMissing all (statementsOf part))
-  line-noticed line part e =
-      record { names = asked lineNames (statementsOf part); on = line-ahead lineNames line part e; comes = any-named (statementsOf part) }
+  pub line-noticed : (line : List ℕ) (part : Part) → judgement line ≡ holds part → Noticed line 0 (anyMissing all (statementsOf part))
+  line-noticed line part e = record { parts = partsOf part; onto = line-onto line part (held line e); comes = refl }
 
-  -- the statement at a place and the rest
-  first-named : (b : Begun) (names : List NamedLine) → anyNamed (answered lineNames b ++ names) ≡ missing all (namesOf (begunAnswer b)) || anyNamed names
-  first-named bad names = refl
-  first-named (done x t) names = refl
-  first-named (choice c t) names = refl
+  -- what a statement names by itself
+  names-itself : (b : Begun) (x : Statement) → Itself b x → (b ≡ bad → ⊥) → namesOf (begunAnswer b) ≡ namedLine x
+  names-itself bad x h n = absurd (n refl)
+  names-itself (done y t) x h n = sym (ap namedLine h)
+  names-itself (choice c t) x h n = sym (h .1 .1)
 
-  -- from what follows a statement on
-  abbrev pub Later : List ℕ → Follow → Bool → Type 0
-  Later line (follow.Statement q) v = Noticed line false (q .0) v
-  Later line (follow.Part q) v = Noticed line true (q .0) v
-  Later line (follow.Else q) v = Noticed line true (q .0) v
-  Later line follow.End v = false ≡ v
-  Later line follow.Nothing v = false ≡ v
+  read-begins : (line : List ℕ) (p : ℕ) {own : Part} {end : Scanned} → partOf line true p ≡ goodPart own end → begunAt line true p ≡ bad → ⊥
+  read-begins line p e b =
+      let f = sym (unrolled line true p) ∙ e in let g = rw b at f in let z : _≡_ {A = ℕ} 0 1 = cc in omega arith
 
-  later : (line : List ℕ) (f : Follow) (names : List NamedLine) {v : Bool} → Onward lineNames line f names → anyNamed names ≡ v → Later line f v
-  later line (follow.Statement q) names o e = record { names = names; on = o; comes = e }
-  later line (follow.Part q) names o e = record { names = names; on = o; comes = e }
-  later line (follow.Else q) names o e = record { names = names; on = o; comes = e }
-  later line follow.End names o e = rw o at e
-  later line follow.Nothing names o e = absurd o
+  -- from the next statement on
+  abbrev pub Later : List ℕ → Start → Bool → Type 0
+  Later line (start.At q) v = Noticed line (q .0) v
+  Later line start.None v = false ≡ v
 
-  module _ (line : List ℕ) (first : Bool) (p : ℕ) {v : Bool} (here : Noticed line first p v)
-      {read : StatementRead} {named : NamedLine} (is : read ≡ begunAnswer (begunAt line first p)) (names : named ≡ namesOf read) where
-    abbrev there : Visit lineNames line (begunAt line first p) (followOf read) (here .names)
-    there = visit lineNames line first p (here .on) is refl
+  later : (line : List ℕ) (f : Start) (xs : List Part) {v : Bool} → StartsAs line f xs → anyMissing all (heads xs) ≡ v → Later line f v
+  unfolding heads anyMissing
+  later line (start.At q) xs o e = record { parts = xs; onto = o; comes = e }
+  later line start.None xs o e = rw o at e
 
-    splits : missing all named || anyNamed (there .rest) ≡ v
+  module _ (line : List ℕ) (p : ℕ) {v : Bool} (here : Noticed line p v)
+      {read : StatementRead} {named : NamedLine} {next : Start} (is : read ≡ begunAnswer (begunAt line true p)) (names : named ≡ namesOf read)
+      (f : next ≡ startOf (followOf read)) where
+    abbrev there : Visit line p next (here .parts)
+    there = visit line p (here .onto) is f
+
+    splits : missing all named || anyMissing all (heads (there .left)) ≡ v
+    unfolding heads anyMissing
     splits =
-        ap (λ n. missing all n || anyNamed (there .rest)) (names ∙ ap namesOf is)
-        ∙ sym (first-named (begunAt line first p) (there .rest))
-        ∙ ap anyNamed (sym (there .all))
+        ap (λ n. missing all n || anyMissing all (heads (there .left)))
+        (names ∙ ap namesOf is ∙ names-itself (begunAt line true p) (headOf (there .own)) (there .itself) (read-begins line p (there .reads)))
+        ∙ ap (λ xs. anyMissing all (heads xs)) (sym (there .all))
         ∙ here .comes
 
     -- a statement names a missing line,
@@ -109,5 +102,5 @@ module _ (all : List Line) where
     noticed-here e = rw e at splits
 
     -- or else the rest decides
-    pub noticed-later : {f : Follow} → f ≡ followOf read → missing all named ≡ false → Later line f v
-    noticed-later f e = rw f (later line (followOf read) (there .rest) (there .on) (rw e at splits))
+    pub noticed-later : missing all named ≡ false → Later line next v
+    noticed-later e = later line next (there .left) (there .on) (rw e at splits)

@@ -4,19 +4,17 @@
 use mathlib.Core.Bool.{Bool, false, cond, not, _||_}
 use mathlib.Core.List.{List, [], _∷_}
 use Prim.Native.Nat.{ℕ}
-use lib.Dec.{ltb}
-use lib.ListN.{length, drop}
-use Rattle.whole.specs.Digits.{leadingDigits, leadingValue}
+use Rattle.whole.specs.Digits.{leadingValue}
 use Rattle.whole.specs.declared.errors.Error.the-variants.{Syntax, FormulaTooComplex, TypeMismatch, UndefinedLine}
 use Rattle.words.specs.Places.{lineNumber}
 use Rattle.words.specs.declared.places.LineNumber.{LineNumber}
-use Rattle.loader.specs.Lines.{Line, linesOf, numberOf, has}
+use Rattle.loader.specs.Lines.{Line, linesOf, numberOf, has, afterNumber}
 use Rattle.loader.specs.Loading.{loadOf}
 use Rattle.loader.specs.declared.loading.Loaded.{Loaded}
 use Rattle.loader.specs.declared.loading.Loaded.the-variants as loaded
 use Rattle.grammar.specs.Trees.{Statement}
-use Rattle.statements.specs.Statements.{LineReading, doesNotRead, reads, readLine}
-use Rattle.statements.specs.Parts.{namedLine, statementsOf, deepestIn, allTyped}
+use Rattle.statements.specs.Parts.{namedLine, statementsOf, allTyped}
+use Rattle.reader.specs.Lines.{Judgement, unreadable, tooDeep, holds, judgement}
 use Rattle.grammar.specs.declared.tests.NamedLine.{NamedLine}
 use Rattle.grammar.specs.declared.tests.NamedLine.the-variants.{Names, NoLine}
 use Rattle.checker.specs.declared.checking.Soundness.{Soundness}
@@ -39,22 +37,17 @@ unfoldable pub anyMissing : List Line → List Statement → Bool
 anyMissing all [] = false
 anyMissing all (x ∷ xs) = missing all (namedLine x) || anyMissing all xs
 
--- ---- the fault of a line, in the order of the tests; nesting is at most 8 deep
+-- ---- the fault of a line, in the order of the tests
 
 abbrev pub faultOf : List Line → List Statement → Soundness
-faultOf all xs =
-    cond (ltb 8 (deepestIn xs)) (Fault FormulaTooComplex)
-    (cond (allTyped xs) (cond (anyMissing all xs) (Fault UndefinedLine) Sound) (Fault TypeMismatch))
+faultOf all xs = cond (allTyped xs) (cond (anyMissing all xs) (Fault UndefinedLine) Sound) (Fault TypeMismatch)
 
-abbrev pub faultIn : List Line → LineReading → Soundness
-faultIn all doesNotRead = Fault Syntax
-faultIn all (reads part) = faultOf all (statementsOf part)
+abbrev pub faultIn : List Line → Judgement → Soundness
+faultIn all unreadable = Fault Syntax
+faultIn all tooDeep = Fault FormulaTooComplex
+faultIn all (holds p) = faultOf all (statementsOf p)
 
 -- ---- the first faulty line decides
-
--- what stands after a line's number
-abbrev pub bodyOf : Line → List ℕ
-bodyOf l = drop (length (leadingDigits (l .bytes))) (l .bytes)
 
 abbrev pub orElse : Soundness → LineNumber → (Unit {0} → Verdict) → Verdict
 orElse Sound n later = later tt
@@ -63,7 +56,7 @@ orElse (Fault e) n later = Faulty e n
 unfoldable pub firstFault : List Line → List Line → Verdict
 firstFault all [] = Passed
 firstFault all (l ∷ ls) =
-    orElse (faultIn all (readLine (bodyOf l))) (lineNumber (leadingValue (l .bytes))) (λ _. firstFault all ls)
+    orElse (faultIn all (judgement (afterNumber l))) (lineNumber (leadingValue (l .bytes))) (λ _. firstFault all ls)
 
 abbrev pub ifLoaded : Loaded → (Unit {0} → Verdict) → Verdict
 ifLoaded loaded.Fine check = check tt

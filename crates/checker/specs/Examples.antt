@@ -18,7 +18,7 @@ use Rattle.grammar.specs.Functions.{formFor, anyFor}
 use Rattle.grammar.specs.Formulas.{countOf, formulaAt, climbAt, operandAt, argumentsAt, formulaOf}
 use Rattle.expressions.specs.Types.{allMeet, sortOf, sortsOf, depthOf, deepestOf}
 use Rattle.statements.specs.Statements.{itemsAt, printAt, forAt, inputAt, begunAt, partAt, readLine}
-use Rattle.statements.specs.Parts.{deepest, allSome, statementsOf, withinIf, deepestIn, allTyped}
+use Rattle.statements.specs.Parts.{deepest, allSome, partsOf, heads, deepestIn, allTyped}
 use Rattle.checker.specs.Check.{present, anyMissing, firstFault, checkOf}
 use Rattle.checker.specs.declared.checking.Verdict.{Verdict}
 use Rattle.checker.specs.declared.checking.Verdict.the-variants.{Passed, Refused, Faulty}
@@ -51,5 +51,5 @@ recipes =
     ∷ []
 
 pub recipes-hold : map (λ (e : Example). checkOf (bytes (e .text))) recipes ≡ map (λ (e : Example). e .verdict) recipes
-unfolding recipes bytes leading isDigit valueFrom sameBytes meaning capitalOf isLetter isHex hexDigit signs pairs classOf reserved tellingOf markOf wordToken numberToken hexFrom hexToken textToken signToken tokenAt linesFrom numberOf isPlain numbered judged loadLines loadOf formFor anyFor countOf formulaAt climbAt operandAt argumentsAt formulaOf allMeet sortOf sortsOf depthOf deepestOf itemsAt printAt forAt inputAt begunAt partAt readLine deepest allSome statementsOf withinIf deepestIn allTyped present anyMissing firstFault checkOf
+unfolding recipes bytes leading isDigit valueFrom sameBytes meaning capitalOf isLetter isHex hexDigit signs pairs classOf reserved tellingOf markOf wordToken numberToken hexFrom hexToken textToken signToken tokenAt linesFrom numberOf isPlain numbered judged loadLines loadOf formFor anyFor countOf formulaAt climbAt operandAt argumentsAt formulaOf allMeet sortOf sortsOf depthOf deepestOf itemsAt printAt forAt inputAt begunAt partAt readLine deepest allSome partsOf heads deepestIn allTyped present anyMissing firstFault checkOf
 recipes-hold = refl

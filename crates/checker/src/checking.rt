@@ -2,8 +2,8 @@
 ghost use mathlib.Core.Path.{_≡_};
 ghost use Rattle.loader.specs.Lines.{linesOf};
 ghost use Rattle.grammar.specs.Trees.{Part};
-ghost use Rattle.statements.specs.Statements.{reads, readLine};
 ghost use Rattle.statements.specs.Parts.{statementsOf};
+ghost use Rattle.reader.specs.Lines.{holds, judgement};
 ghost use Rattle.checker.specs.Check.{missing, anyMissing, faultIn, checkOf};
 ghost use Rattle.checker.specs.bridge.Answers.{namesOf};
 use grammar::NamedLine;
@@ -13,10 +13,10 @@ use loader::Refusal;
 use loader::find_line;
 use loader::line_at;
 use loader::load;
-use reader::Follow;
 use reader::Judged;
-use reader::follows;
+use reader::Start;
 use reader::judge;
+use reader::next_statement;
 use statements::StatementRead;
 use statements::statement_at;
 use whole::Error;
@@ -63,40 +63,27 @@ fn named_by(read: StatementRead) -> NamedLine
 // Whether any statement of a line names a line that is missing.
 fn any_missing(text: &[u8], line: &[u8]) -> bool
     ensures { λ r. ⌜
-        ((part : Part) → readLine (now (line .entry)) ≡ reads part
+        ((part : Part) → judgement (now (line .entry)) ≡ holds part
         → r ≡ anyMissing (linesOf (now (text .entry))) (statementsOf part))
         ⌝ }
 {
     let mut at = Place(0);
-    let mut first = false;
     loop {
-        let read = statement_at(line, at, first);
+        let read = statement_at(line, at, true);
         let names = named_by(read);
         if is_missing(text, names) {
             return true;
         }
-        match follows(read) {
-            Follow::Nothing => return false,
-            Follow::End => return false,
-            Follow::Statement(next) => {
-                at = next;
-                first = false;
-            }
-            Follow::Part(next) => {
-                at = next;
-                first = true;
-            }
-            Follow::Else(next) => {
-                at = next;
-                first = true;
-            }
-        }
+        let Start::At(next) = next_statement(read) else {
+            return false;
+        };
+        at = next;
     }
 }
 
 // In a line 2, then 16, then 13, then 8.
 fn fault_in(text: &[u8], line: &[u8]) -> Soundness
-    ensures { λ r. ⌜ r ≡ faultIn (linesOf (now (text .entry))) (readLine (now (line .entry))) ⌝ }
+    ensures { λ r. ⌜ r ≡ faultIn (linesOf (now (text .entry))) (judgement (now (line .entry))) ⌝ }
 {
     match judge(line) {
         Judged::Unreadable => Soundness::Fault(Error::Syntax),

@@ -18,7 +18,7 @@ use Rattle.reader.specs.Lines.{elseAt}
 use Rattle.reader.specs.declared.branches.Branch.the-variants as way
 use Rattle.variables.specs.declared.values.Worked.the-variants.{Whole, Text, Fault}
 use Rattle.machine.specs.Machine as spec
-use Rattle.machine.specs.Machine.{part}
+use Rattle.statements.specs.Parts.{part}
 use Rattle.machine.specs.bridge.Holding.{linesAt, bodyOf, positionOf, Positioned, Sound}
 use Rattle.machine.specs.declared.state.Machine.{Machine}
 use Rattle.machine.specs.declared.positions.Position.{Position}

@@ -53,7 +53,15 @@ linesFrom p (b ∷ t) = withByte p b (dropped b t) (linesFrom (p + 1) t)
 abbrev pub linesOf : List ℕ → List Line
 linesOf text = linesFrom 0 text
 
--- ---- the number of a line
+-- those after the first
+abbrev pub nextLine : List Line → List Line
+nextLine [] = []
+nextLine (l ∷ ls) = ls
+
+-- ---- the number of a line, and what stands after it
+
+abbrev pub afterNumber : Line → List ℕ
+afterNumber l = drop (length (leadingDigits (l .bytes))) (l .bytes)
 
 -- a line begins with its number's first digit, all its digits belong to it, and it is at most 65529
 unfoldable pub numberOf : List ℕ → NumberFound

@@ -11,26 +11,6 @@ use Rattle.whole.specs.Digits.{leadingDigits, leadingValue}
 use Rattle.whole.proofs.Numbers.{less}
 use Rattle.words.specs.Places.{place, lineNumber}
 use Rattle.words.specs.declared.places.LineNumber.{LineNumber}
-use Rattle.words.specs.declared.symbols.Scanned.{Scanned}
-use Rattle.words.specs.declared.symbols.Token.{Token}
-use Rattle.words.specs.declared.symbols.Token.the-variants.{
-  EndOfLine,
-  Keyword,
-  Not,
-  Infix,
-  Call,
-  Named,
-  Number,
-  Hexadecimal,
-  LineOnly,
-  Quoted,
-  Symbol,
-  Unreadable,
-}
-use Rattle.scanner.specs.Tokens.{tokenAt}
-use Rattle.grammar.specs.Trees.{Part}
-use Rattle.statements.specs.Statements.{bad, byToken, begunAt, badPart, goodPart, partOf}
-use Rattle.statements.proofs.Parts.{partBy, unrolled}
 use Rattle.loader.specs.Lines.{Line, linesOf, numberOf, located, firstOf, lineAt, has, fromNumber, findLine}
 use Rattle.loader.specs.Loading.{loadOf}
 use Rattle.loader.specs.declared.lines.NumberFound.{NumberFound}
@@ -42,36 +22,6 @@ use Rattle.loader.proofs.Extents.{cut, walked}
 use Rattle.loader.proofs.Found.{digits-inside, from-suffix, from-has, from-at}
 use Rattle.loader.proofs.Rising.{Rising, recipe, rising-suffix}
 use Rattle.machine.specs.bridge.Holding.{linesAt, bodyOf, Begins}
-
--- ---- parts
-
--- a statement that begins where no line number may begin one begins the same where one may
-begun-true : (s : List ℕ) (token : Token) (t : Scanned) → (byToken s false token t ≡ bad → ⊥) → byToken s true token t ≡ byToken s false token t
-begun-true s EndOfLine t h = refl
-begun-true s (Keyword w) t h = refl
-begun-true s Not t h = refl
-begun-true s (Infix op) t h = refl
-begun-true s (Call f) t h = refl
-begun-true s (Named v) t h = refl
-begun-true s (Number n) t h = absurd (h refl)
-begun-true s (Hexadecimal n) t h = refl
-begun-true s (LineOnly l) t h = absurd (h refl)
-begun-true s (Quoted q) t h = refl
-begun-true s (Symbol sign) t h = refl
-begun-true s Unreadable t h = refl
-
-not-good : {P : Type 0} {q : Part} {u : Scanned} → badPart ≡ goodPart q u → P
-not-good e = let z : _≡_ {A = ℕ} 0 1 = cc in absurd (omega arith)
-
--- and so does a part
-pub true-part : (s : List ℕ) (p : ℕ) {q : Part} {u : Scanned} → partOf s false p ≡ goodPart q u → partOf s true p ≡ goodPart q u
-unfolding begunAt
-true-part s p {q} {u} e =
-    let t = tokenAt s (place p) in
-    let go = partBy p (partOf s) in
-    let f : go (byToken s false (t .token) t) ≡ goodPart q u = sym (unrolled s false p) ∙ e in
-    let g = begun-true s (t .token) t (λ b. not-good (sym (ap go b) ∙ f)) in
-    unrolled s true p ∙ ap go g ∙ f
 
 -- ---- one line after another
 

@@ -9,23 +9,9 @@ use lib.ListN.{length, replicate}
 use Rattle.whole.specs.Whole.{num}
 use Rattle.words.specs.declared.names.Telling.{Telling}
 use Rattle.loader.specs.Lines.{Line}
-use Rattle.grammar.specs.Trees.{Statement, Part, last, more}
+use Rattle.statements.specs.Parts.{Rest}
 use Rattle.variables.specs.Strings.{Room}
 use Rattle.variables.specs.Variables.{Variables, stringBytes}
-
--- what of a part is still to be done
-pub data Rest : Type 0 where
-  nothing : Rest
-  part : Part → Rest
-
--- the first statement of a part, and what is left then
-abbrev pub headOf : Part → Statement
-headOf (last p s) = s
-headOf (more p s rest) = s
-
-abbrev pub tailOf : Part → Rest
-tailOf (last p s) = nothing
-tailOf (more p s rest) = part rest
 
 -- a place to come back to: the current line and those after it, and what is left of the part
 pub record Position : Type 0 where

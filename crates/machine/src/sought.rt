@@ -3,7 +3,7 @@ ghost use mathlib.Core.Path.{_≡_};
 ghost use mathlib.Core.Bool.{true};
 ghost use Rattle.grammar.specs.Trees.{Part};
 ghost use Rattle.statements.specs.Statements.{goodPart, partOf};
-ghost use Rattle.machine.specs.Machine.{headOf};
+ghost use Rattle.statements.specs.Parts.{headOf};
 ghost use Rattle.machine.specs.bridge.Seeking.{soughtBy, soughtLoop};
 use crate::records::Sought;
 use scanner::token_at;

@@ -19,38 +19,14 @@ use Rattle.words.specs.declared.names.Kind.the-variants as kind
 use Rattle.words.specs.declared.names.Telling.{Telling}
 use Rattle.words.specs.declared.places.LineNumber.{LineNumber}
 use Rattle.words.proofs.Choices.{by-test}
-use Rattle.loader.specs.Lines.{Line, linesOf, fromNumber}
+use Rattle.loader.specs.Lines.{Line, linesOf, fromNumber, nextLine}
 use Rattle.grammar.specs.Trees as tree
 use Rattle.grammar.specs.Trees.{Formula, Variable, Item, Statement}
 use Rattle.variables.specs.Strings.{Value, whole, text, Outcome, value, fault, make}
 use Rattle.variables.specs.Variables.{NumberVariable, wordOf, setNumber, hasNumber, numbersFull, stringsFull}
 use Rattle.operators.specs.Values.{valueOf}
-use Rattle.machine.specs.Machine.{
-  Rest,
-  nothing,
-  part,
-  Position,
-  Record,
-  loop,
-  call,
-  Machine,
-  mostRecords,
-  fresh,
-  roomOf,
-  withRecords,
-  withStep,
-  noting,
-  write,
-  commaBlanks,
-  Search,
-  missing,
-  found,
-  sought,
-  below,
-  passed,
-  headOf,
-  tailOf,
-}
+use Rattle.machine.specs.Machine.{Position, Record, loop, call, Machine, mostRecords, fresh, roomOf, withRecords, withStep, noting, write, commaBlanks, Search, missing, found, sought, below, passed}
+use Rattle.statements.specs.Parts.{Rest, nothing, part, headOf, tailOf}
 use Rattle.turns.specs.Steps.{
   Next,
   goesOn,
@@ -78,23 +54,7 @@ use Rattle.turns.specs.Steps.{
   isWholeKind,
   doStatement,
 }
-use Rattle.runner.specs.Run.{
-  lineNumberOf,
-  Entered,
-  over,
-  faulty,
-  opened,
-  enter,
-  nextLine,
-  Standing,
-  finished,
-  at,
-  byEntered,
-  entering,
-  onward,
-  following,
-  turn,
-}
+use Rattle.runner.specs.Run.{lineNumberOf, Entered, over, faulty, opened, enter, Standing, finished, at, byEntered, entering, onward, following, turn}
 use Rattle.promises.specs.Passing.{standsAfter, isNext, lacksRoom, nextHasRoom}
 use Rattle.promises.proofs.Checked.Operators.{by-choice}
 use Rattle.promises.proofs.Checked.Statements.{begun}

@@ -5,7 +5,7 @@ use mathlib.Core.List.{List, [], _∷_}
 use Prim.Native.Nat.{ℕ, zero, suc}
 use lib.Dec.{ltb}
 use Rattle.words.specs.declared.places.LineNumber.{LineNumber}
-use Rattle.loader.specs.Lines.{Line, linesOf}
+use Rattle.loader.specs.Lines.{Line, linesOf, nextLine}
 use Rattle.loader.specs.Loading.{loadOf}
 use Rattle.loader.specs.declared.loading.Loaded.{Loaded}
 use Rattle.loader.specs.declared.loading.Loaded.the-variants as loaded
@@ -13,29 +13,10 @@ use Rattle.grammar.specs.Trees.{Part}
 use Rattle.checker.specs.Check as check
 use Rattle.checker.specs.Check.{firstFault, checkOf}
 use Rattle.checker.specs.declared.checking.Verdict.the-variants.{Passed}
-use Rattle.machine.specs.Machine.{Rest, nothing, part, Position, Machine, Lent, fresh, withStep, headOf, tailOf}
+use Rattle.machine.specs.Machine.{Position, Machine, Lent, fresh, withStep}
+use Rattle.statements.specs.Parts.{Rest, nothing, part, headOf, tailOf}
 use Rattle.turns.specs.Steps.{Next, goesOn, enters, ends, stops, fails, doStatement}
-use Rattle.runner.specs.Run.{
-  Ran,
-  lineNumberOf,
-  Entered,
-  over,
-  faulty,
-  opened,
-  enter,
-  nextLine,
-  Standing,
-  finished,
-  at,
-  byEntered,
-  entering,
-  onward,
-  following,
-  turn,
-  running,
-  ifLoaded,
-  runOf,
-}
+use Rattle.runner.specs.Run.{Ran, lineNumberOf, Entered, over, faulty, opened, enter, Standing, finished, at, byEntered, entering, onward, following, turn, running, ifLoaded, runOf}
 use Rattle.promises.specs.Passing.{endsWell, checkedRunsEndWell}
 use Rattle.promises.proofs.Checked.Operators.{by-choice}
 use Rattle.promises.proofs.Checked.Lines.{

@@ -28,7 +28,8 @@ use Rattle.checker.specs.declared.checking.Verdict.the-variants.{Passed}
 use Rattle.loader.specs.Lines.{Line, linesOf}
 use Rattle.grammar.specs.Trees as tree
 use Rattle.grammar.specs.Trees.{Statement, Part}
-use Rattle.machine.specs.Machine.{Machine, Lent, fresh, withStep, headOf, tailOf}
+use Rattle.machine.specs.Machine.{Machine, Lent, fresh, withStep}
+use Rattle.statements.specs.Parts.{headOf, tailOf}
 use Rattle.turns.specs.Steps.{Next, goesOn, enters, ends, stops, fails, doStatement}
 use Rattle.runner.specs.Run.{Standing, finished, at, entering, turn, runOf}
 use Rattle.runner.specs.declared.running.Outcome.{Outcome}

@@ -22,7 +22,7 @@ use Rattle.grammar.specs.Functions.{formFor, anyFor}
 use Rattle.grammar.specs.Formulas.{countOf, formulaAt, climbAt, operandAt, argumentsAt, formulaOf}
 use Rattle.expressions.specs.Types.{allMeet, sortOf, sortsOf, depthOf, deepestOf}
 use Rattle.statements.specs.Statements.{itemsAt, printAt, forAt, inputAt, begunAt, partAt, readLine}
-use Rattle.statements.specs.Parts.{deepest, allSome, statementsOf, withinIf, deepestIn, allTyped}
+use Rattle.statements.specs.Parts.{deepest, allSome, partsOf, heads, deepestIn, allTyped}
 use Rattle.variables.specs.Strings.{make, letGo, letAllGo, produced}
 use Rattle.variables.specs.Variables.{wordOf, bytesOf, stringBytes, hasNumber, hasString, setNumber, setString, joinedStrings}
 use Rattle.strings.specs.Functions.{argument, startsWith, found, placeOf}
@@ -138,5 +138,5 @@ seenOf e r = record {
 }
 
 pub starred-hold : map (λ (e : Example). seenOf e (runOf (bytes (e .recipe)) [] (lending (e .space)) (e .budget))) starred ≡ map (λ (e : Example). e .seen) starred
-unfolding starred bytes leading isDigit valueFrom sameBytes meaning capitalOf isLetter isHex hexDigit signs pairs classOf reserved tellingOf markOf wordToken numberToken hexFrom hexToken textToken signToken tokenAt linesFrom numberOf isPlain numbered judged loadLines loadOf formFor anyFor countOf formulaAt climbAt operandAt argumentsAt formulaOf allMeet sortOf sortsOf depthOf deepestOf itemsAt printAt forAt inputAt begunAt partAt readLine deepest allSome statementsOf withinIf deepestIn allTyped signedValue num fit places trimmed digitByte numeral shown fromNumber make letGo letAllGo produced wordOf bytesOf stringBytes argument startsWith found placeOf isBefore wantAt valueOf valuesOf hasNumber hasString setNumber setString columnAfter write printItems returned sought passed enter running runOf joinedStrings present anyMissing firstFault checkOf askOf namesFrom namesIn numbersIn slotFrom sumOf nameBytes
+unfolding starred bytes leading isDigit valueFrom sameBytes meaning capitalOf isLetter isHex hexDigit signs pairs classOf reserved tellingOf markOf wordToken numberToken hexFrom hexToken textToken signToken tokenAt linesFrom numberOf isPlain numbered judged loadLines loadOf formFor anyFor countOf formulaAt climbAt operandAt argumentsAt formulaOf allMeet sortOf sortsOf depthOf deepestOf itemsAt printAt forAt inputAt begunAt partAt readLine deepest allSome partsOf heads deepestIn allTyped signedValue num fit places trimmed digitByte numeral shown fromNumber make letGo letAllGo produced wordOf bytesOf stringBytes argument startsWith found placeOf isBefore wantAt valueOf valuesOf hasNumber hasString setNumber setString columnAfter write printItems returned sought passed enter running runOf joinedStrings present anyMissing firstFault checkOf askOf namesFrom namesIn numbersIn slotFrom sumOf nameBytes
 starred-hold = refl

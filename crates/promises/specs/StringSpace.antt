@@ -22,7 +22,8 @@ use Rattle.variables.specs.Strings.{Value, whole, text, Room, value, produced}
 use Rattle.variables.specs.Variables.{Variables, bytesOf, stringBytes}
 use Rattle.strings.specs.Functions.{called}
 use Rattle.operators.specs.Values.{leftRight, taken, valueOf, valuesOf}
-use Rattle.machine.specs.Machine.{Machine, Lent, fresh, roomOf, withStep, noting, printed, write, commaBlanks, headOf}
+use Rattle.machine.specs.Machine.{Machine, Lent, fresh, roomOf, withStep, noting, printed, write, commaBlanks}
+use Rattle.statements.specs.Parts.{headOf}
 use Rattle.turns.specs.Steps.{shownValue, takeLine, isWholeKind}
 use Rattle.runner.specs.Run.{lineNumberOf, Standing, at, entering, turn}
 

@@ -1,4 +1,4 @@
-pub mod Elses
-pub mod Tallies
-pub mod Visits
+pub mod Heads
+pub mod Judging
 pub mod Walks
+pub mod Visits

@@ -1,202 +1,132 @@
--- A line, statement by statement in text order: what has been tallied, and what the rest comes to while some IFs have no ELSE.
-use mathlib.Core.Path.{_≡_, refl, sym, _∙_}
-use mathlib.Core.Bool.{Bool, true, false, _&&_}
-use mathlib.Core.List.{List, []}
-use Prim.Native.Nat.{ℕ, zero, suc, _+_, _-_, _≤_, max}
-use native.Mathlib.Numerals.{add-one}
+-- The walk over a line, statement by statement in text order, visits just the parts that the statements of the line begin. One law, over
+-- any line, read or not, and whatever IFs wait; who walks asks of each statement what it needs.
+use mathlib.Core.Path.{_≡_, refl, sym, _∙_, ap}
+use mathlib.Core.Bool.{Bool, true, false}
+use mathlib.Core.List.{List, [], _∷_, _++_, append-assoc}
+use Prim.Native.Nat.{ℕ, zero, suc, _+_, _-_, _*_, _≤_}
 use native.Mathlib.Omega.{arith}
 use Rattle.words.specs.declared.places.Place.{Place}
 use Rattle.words.specs.declared.symbols.Scanned.{Scanned}
 use Rattle.words.specs.declared.symbols.Sign.the-variants.{Colon}
 use Rattle.words.specs.declared.symbols.Word.the-variants.{Else}
 use Rattle.words.proofs.Choices.{by-test}
-use Rattle.grammar.specs.Tests.{choose, isSymbol, isKeyword, endsLine}
-use Rattle.grammar.specs.Trees.{Formula, Statement, ifElse, Part, last, more}
-use Rattle.expressions.specs.Types.{sortOf, depthOf}
-use Rattle.statements.specs.Statements.{Begun, bad, done, choice, begunAt, PartReading, badPart, goodPart, mappedPart, following, branched, whole, readLine, partOf}
-use Rattle.statements.specs.Parts.{formulasOf, deepest, rightlyTyped, statementsOf, withinIf, deepestIn, allTyped}
-use Rattle.expressions.specs.Types.{isWhole}
-use Rattle.reader.specs.Lines.{judgedReading, judgedOf}
-use Rattle.expressions.specs.bridge.Answers.{weight, cappedDepth}
-use Rattle.statements.specs.bridge.Answers.{begunAnswer}
-use Rattle.reader.specs.bridge.Answers.{verdictOf, Tallied, followsDone, followOf}
-use Rattle.statements.specs.declared.reading.StatementRead.{StatementRead}
-use Rattle.statements.specs.declared.reading.StatementRead.the-variants as statement
-use Rattle.reader.specs.declared.lines.Judged.{Judged}
-use Rattle.reader.specs.declared.lines.Judged.the-variants.{Unreadable}
-use Rattle.reader.specs.declared.lines.Follow.{Follow}
-use Rattle.reader.specs.declared.lines.Follow.the-variants as follow
+use Rattle.grammar.specs.Tests.{isSymbol, isKeyword, endsStatement, endsLine}
+use Rattle.grammar.specs.Trees.{Formula, Statement, empty, ifThen, ifElse, Part, last, more}
+use Rattle.grammar.specs.declared.tests.NamedLine.the-variants.{NoLine}
 use Rattle.grammar.proofs.Endings.{statement-ends, else-goes-on}
+use Rattle.expressions.specs.Types.{isWhole, sortOf}
+use Rattle.expressions.specs.bridge.Answers.{weight}
 use Rattle.expressions.proofs.Weights.{symbol-reads, keyword-reads}
-use Rattle.reader.proofs.Tallies.{deeper-last, typed-last, deeper-more, typed-more, deeper-then, typed-then, deeper-else, typed-else, capped-max, capped-verdict}
+use Rattle.statements.specs.Parts.{formulasOf, rightlyTyped, namedLine, headOf, placeOf, partsOf, partsWithin}
+use Rattle.statements.specs.Statements.{Begun, bad, done, choice, begunAt, PartReading, badPart, goodPart, mappedPart, following, branched, partOf}
+use Rattle.statements.specs.bridge.Answers.{begunAnswer}
+use Rattle.statements.specs.declared.reading.StatementRead.{StatementRead}
 use Rattle.statements.proofs.Parts.{weightAt, next-lighter, partBy, unrolled}
 use Rattle.statements.proofs.Beginning.{Within, begun-within, Alone, begun-alone}
+use Rattle.reader.specs.bridge.Walking.{followsDone, followOf, onwardOf, Visited, stuck, visited, ahead, endAt, restAt, resume, walkFrom, walkOn}
+use Rattle.reader.specs.declared.walking.Follow.{Follow}
+use Rattle.reader.specs.declared.walking.Follow.the-variants as follow
+use Rattle.reader.specs.declared.walking.Onward.{Onward}
+use Rattle.reader.specs.declared.walking.Onward.the-variants as onward
 
--- ---- what the rest of a line comes to
+pub ahead-twice : (xs ys : List Part) (v : Visited) → ahead (xs ++ ys) v ≡ ahead xs (ahead ys v)
+ahead-twice xs ys stuck = refl
+ahead-twice xs ys (visited zs e) = ap (λ l. visited l e) (append-assoc xs ys zs)
 
--- a part joined to what was tallied before it
-abbrev pub withPart : PartReading → ℕ → Bool → (ℕ → Bool → Scanned → Judged) → Judged
-withPart badPart depth typed go = Unreadable
-withPart (goodPart part t) depth typed go =
-    go (max depth (deepestIn (statementsOf part))) (typed && allTyped (statementsOf part)) t
+-- what the statement that a walk comes to is by itself
+abbrev pub Itself : Begun → Statement → Type 0
+Itself bad x = Unit {0}
+Itself (done y t) x = x ≡ y
+Itself (choice c t) x = (formulasOf x ≡ c ∷ []) × ((rightlyTyped x ≡ isWhole (sortOf c)) × (namedLine x ≡ NoLine))
 
--- from the token that ends a part on, while k IFs wait for an ELSE
-unfoldable pub restAt : List ℕ → ℕ → ℕ → Bool → Scanned → Judged
-restAt s zero depth typed t = choose (endsLine (t .token)) (λ _. verdictOf depth typed) (λ _. Unreadable)
-restAt s (suc k) depth typed t =
-    choose (isKeyword Else (t .token)) (λ _. withPart (partOf s true (t .next .0)) depth typed (restAt s k)) λ _.
-    choose (endsLine (t .token)) (λ _. verdictOf depth typed) (λ _. Unreadable)
+-- a walk over what was read comes to one part, and goes on
+record Fronted (p : ℕ) (b : Begun) (from onto : Visited) : Type 0 where
+  own : Part
+  is : from ≡ ahead (own ∷ []) onto
+  at : placeOf own ≡ p
+  itself : Itself b (headOf own)
 
--- from a part on
-abbrev pub resume : List ℕ → ℕ → ℕ → Bool → PartReading → Judged
-resume s k depth typed r = withPart r depth typed (restAt s k)
-
--- ---- a line begins with nothing tallied and no IF waiting
-
-whole-resumed : (s : List ℕ) (r : PartReading) → resume s 0 0 true r ≡ judgedReading (whole r)
+-- the token that ends a part: ELSE, or the line's end
+rest-else : (s : List ℕ) (k : ℕ) (t : Scanned) → isKeyword Else (t .token) ≡ true → restAt s k t ≡ walkOn s (onwardOf k (follow.Else (t .next)))
 unfolding restAt
-whole-resumed s badPart = refl
-whole-resumed s (goodPart part t) =
-    let e : max 0 (deepestIn (statementsOf part)) ≡ deepestIn (statementsOf part) = omega arith in
-    by-test (endsLine (t .token)) (λ f. rw (f, e)) (λ f. rw f)
+rest-else s zero t e = rw e
+rest-else s (suc k) t e = rw e
 
-pub line-begins : (s : List ℕ) → resume s 0 0 true (partOf s false 0) ≡ judgedOf s
-unfolding readLine partOf
-line-begins s = whole-resumed s (partOf s false 0)
-
--- ---- a depth above nine is as good as nine
-
-with-alike : (r : PartReading) (a b : ℕ) (typed : Bool) (go : ℕ → Bool → Scanned → Judged)
-    → ((x y : ℕ) (u : Bool) (t : Scanned) → cappedDepth x ≡ cappedDepth y → go x u t ≡ go y u t)
-    → cappedDepth a ≡ cappedDepth b → withPart r a typed go ≡ withPart r b typed go
-with-alike badPart a b typed go same e = refl
-with-alike (goodPart part t) a b typed go same e =
-    same (max a (deepestIn (statementsOf part))) (max b (deepestIn (statementsOf part))) (typed && allTyped (statementsOf part)) t
-    (capped-max a b (deepestIn (statementsOf part)) e)
-
-rest-alike : (s : List ℕ) (k a b : ℕ) (typed : Bool) (t : Scanned) → cappedDepth a ≡ cappedDepth b → restAt s k a typed t ≡ restAt s k b typed t
+rest-ends : (s : List ℕ) (k : ℕ) (t : Scanned) → isKeyword Else (t .token) ≡ false → restAt s k t ≡ endAt t
 unfolding restAt
-rest-alike s zero a b typed t e = rw (capped-verdict a b typed e)
-rest-alike s (suc k) a b typed t e =
-    by-test (isKeyword Else (t .token))
-    (λ f. rw f (with-alike (partOf s true (t .next .0)) a b typed (restAt s k) (λ x y u v. rest-alike s k x y u v) e))
-    (λ f. rw (f, capped-verdict a b typed e))
+rest-ends s zero t e = refl
+rest-ends s (suc k) t e = rw e
 
-resume-capped : (s : List ℕ) (k a b : ℕ) (typed : Bool) (r : PartReading) → resume s k (max a b) typed r ≡ resume s k (max a (cappedDepth b)) typed r
-resume-capped s k a b typed r =
-    with-alike r (max a b) (max a (cappedDepth b)) typed (restAt s k) (λ x y u t. rest-alike s k x y u t) (omega arith)
+module _ (s : List ℕ) (k : ℕ) where
+  -- one that is done, and what follows it
+  module _ (p : ℕ) (x : Statement) (alone : partsWithin x ≡ []) where
+    more-fronted : (t : Scanned) (r : PartReading) → Fronted p (done x t) (resume s k (mappedPart (more p x) r)) (resume s k r)
+    unfolding partsOf
+    more-fronted t badPart = record { own = last p x; is = refl; at = refl; itself = refl }
+    more-fronted t (goodPart rest u) =
+        record { own = more p x rest; is = rw alone (ahead-twice (more p x rest ∷ []) (partsOf rest) (restAt s k u)); at = refl; itself = refl }
 
--- ---- one statement
+    last-fronted : (t : Scanned) {v : Visited} → restAt s k t ≡ v → Fronted p (done x t) (resume s k (goodPart (last p x) t)) v
+    unfolding partsOf
+    last-fronted t e = record { own = last p x; is = rw alone (ap (ahead (last p x ∷ [])) e); at = refl; itself = refl }
 
--- the rest, by what follows a statement
-abbrev pub stepped : List ℕ → Follow → ℕ → ℕ → Bool → Judged
-stepped s (follow.Statement q) k depth typed = resume s k depth typed (partOf s false (q .0))
-stepped s (follow.Part q) k depth typed = resume s k depth typed (partOf s true (q .0))
-stepped s (follow.Else q) zero depth typed = Unreadable
-stepped s (follow.Else q) (suc k) depth typed = resume s k depth typed (partOf s true (q .0))
-stepped s follow.End k depth typed = verdictOf depth typed
-stepped s follow.Nothing k depth typed = Unreadable
-
--- a part whose statements come to as much
-resume-mapped : (s : List ℕ) (k a b : ℕ) (u v : Bool) (make : Part → Part) (r : PartReading)
-    → ((part : Part) → max a (deepestIn (statementsOf (make part))) ≡ max b (deepestIn (statementsOf part)))
-    → ((part : Part) → u && allTyped (statementsOf (make part)) ≡ v && allTyped (statementsOf part))
-    → resume s k a u (mappedPart make r) ≡ resume s k b v r
-resume-mapped s k a b u v make badPart d e = refl
-resume-mapped s k a b u v make (goodPart part t) d e = rw (d part, e part)
-
--- the token that ends a part is ELSE, or not
-rest-else : (s : List ℕ) (k depth : ℕ) (typed : Bool) (t : Scanned) → isKeyword Else (t .token) ≡ true
-    → restAt s k depth typed t ≡ stepped s (follow.Else (t .next)) k depth typed
-unfolding restAt
-rest-else s zero depth typed t e = rw (else-goes-on (t .token) e)
-rest-else s (suc k) depth typed t e = rw e
-
-rest-ends : (s : List ℕ) (k depth : ℕ) (typed : Bool) (t : Scanned) → isKeyword Else (t .token) ≡ false
-    → restAt s k depth typed t ≡ choose (endsLine (t .token)) (λ _. verdictOf depth typed) (λ _. Unreadable)
-unfolding restAt
-rest-ends s zero depth typed t e = refl
-rest-ends s (suc k) depth typed t e = rw e
-
-stepped-capped : (s : List ℕ) (f : Follow) (k a b : ℕ) (typed : Bool) → stepped s f k (max a b) typed ≡ stepped s f k (max a (cappedDepth b)) typed
-stepped-capped s (follow.Statement q) k a b typed = resume-capped s k a b typed (partOf s false (q .0))
-stepped-capped s (follow.Part q) k a b typed = resume-capped s k a b typed (partOf s true (q .0))
-stepped-capped s (follow.Else q) zero a b typed = refl
-stepped-capped s (follow.Else q) (suc k) a b typed = resume-capped s k a b typed (partOf s true (q .0))
-stepped-capped s follow.End k a b typed = capped-verdict (max a b) (max a (cappedDepth b)) typed (omega arith)
-stepped-capped s follow.Nothing k a b typed = refl
-
-module _ (s : List ℕ) (p k depth : ℕ) (typed : Bool) where
-  -- one that is done
-  done-steps : (x : Statement) (t : Scanned) → withinIf x ≡ []
-      → resume s k depth typed (following p x t (λ q. partOf s false q)) ≡ stepped s (followsDone t) k (max depth (deepest (formulasOf x))) (typed && rightlyTyped x)
-  done-steps x t alone =
-      by-test (isSymbol Colon (t .token))
-      (λ e.
-      rw e
-      (resume-mapped s k depth (max depth (deepest (formulasOf x))) typed (typed && rightlyTyped x) (more p x) (partOf s false (t .next .0))
-      (deeper-more depth typed p x alone) (typed-more depth typed p x alone)))
-      λ e.
-      by-test (isKeyword Else (t .token))
-      (λ f.
-      rw (statement-ends, e, else-goes-on (t .token) f, f, deeper-last depth typed p x alone, typed-last depth typed p x alone)
-      (rest-else s k (max depth (deepest (formulasOf x))) (typed && rightlyTyped x) t f))
-      λ f.
-      by-test (endsLine (t .token))
-      (λ g.
-      rw (statement-ends, e, f, g, deeper-last depth typed p x alone, typed-last depth typed p x alone)
-      (rest-ends s k (max depth (deepest (formulasOf x))) (typed && rightlyTyped x) t f ∙ rw g))
-      (λ g. rw (statement-ends, e, f, g))
+    done-fronted : (t : Scanned) → Fronted p (done x t) (resume s k (following p x t (λ q. partOf s false q))) (walkOn s (onwardOf k (followsDone t)))
+    done-fronted t =
+        by-test (isSymbol Colon (t .token)) (λ e. rw e (more-fronted t (partOf s false (t .next .0)))) λ e.
+        by-test (isKeyword Else (t .token))
+        (λ f. rw (statement-ends, e, else-goes-on (t .token) f, f) (last-fronted t (rest-else s k t f)))
+        λ f.
+        by-test (endsLine (t .token))
+        (λ g. rw (statement-ends, e, f, g) (last-fronted t (rest-ends s k t f ∙ rw (f, g))))
+        (λ g. rw (statement-ends, e, f, g) (record { own = last p x; is = refl; at = refl; itself = refl }))
 
   -- an IF: one more waits for its ELSE
-  choice-steps : (c : Formula) (r : PartReading)
-      → resume s k depth typed (branched p c r (λ q. partOf s true q)) ≡ resume s (suc k) (max depth (depthOf c)) (typed && isWhole (sortOf c)) r
-  unfolding restAt
-  choice-steps c badPart = refl
-  choice-steps c (goodPart part t) =
-      let d = max depth (depthOf c) in
-      let y = typed && isWhole (sortOf c) in
-      by-test (isKeyword Else (t .token))
-      (λ e.
-      rw e
-      (resume-mapped s k depth (max d (deepestIn (statementsOf part))) typed (y && allTyped (statementsOf part))
-      (λ other. last p (ifElse c part other)) (partOf s true (t .next .0))
-      (deeper-else depth typed p c part) (typed-else depth typed p c part)))
-      (λ e.
-      rw (e, deeper-then depth typed p c part, typed-then depth typed p c part)
-      (rest-ends s k (max d (deepestIn (statementsOf part))) (y && allTyped (statementsOf part)) t e))
+  module _ (p : ℕ) (c : Formula) (t : Scanned) where
+    else-fronted : (r : Part) (o : PartReading)
+        → Fronted p (choice c t) (resume s k (mappedPart (λ other. last p (ifElse c r other)) o)) (ahead (partsOf r) (resume s k o))
+    unfolding partsOf
+    else-fronted r badPart = record { own = last p (ifThen c r); is = refl; at = refl; itself = (refl, (refl, refl)) }
+    else-fronted r (goodPart other v) =
+        let own = last p (ifElse c r other) in
+        record {
+          own = own;
+          is = ahead-twice (own ∷ []) (partsOf r ++ partsOf other) (restAt s k v)
+              ∙ ap (ahead (own ∷ [])) (ahead-twice (partsOf r) (partsOf other) (restAt s k v));
+          at = refl;
+          itself = (refl, (refl, refl));
+        }
 
-  -- any
-  steps-by : (b : Begun) (k' depth' : ℕ) (typed' : Bool) → Alone b → Tallied k depth typed (begunAnswer b) k' depth' typed'
-      → resume s k depth typed (partBy p (partOf s) b) ≡ stepped s (followOf (begunAnswer b)) k' depth' typed'
-  steps-by bad k' depth' typed' a h = refl
-  steps-by (done x t) k' depth' typed' a h =
-      rw (h .0, h .1 .0, h .1 .1)
-      (done-steps x t a ∙ stepped-capped s (followsDone t) k depth (deepest (formulasOf x)) (typed && rightlyTyped x))
-  steps-by (choice c t) k' depth' typed' a h =
-      rw (h .0, h .1 .0, h .1 .1, add-one)
-      (choice-steps c (partOf s true (t .next .0))
-      ∙ resume-capped s (suc k) depth (depthOf c) (typed && isWhole (sortOf c)) (partOf s true (t .next .0)))
+    then-fronted : (r : Part) (u : Scanned) {v : Visited} → restAt s k u ≡ v
+        → Fronted p (choice c t) (resume s k (goodPart (last p (ifThen c r)) u)) (ahead (partsOf r) v)
+    unfolding partsOf
+    then-fronted r u {v} e =
+        let own = last p (ifThen c r) in
+        record { own = own; is = ap (ahead (own ∷ partsOf r)) e ∙ ahead-twice (own ∷ []) (partsOf r) v; at = refl; itself = (refl, (refl, refl)) }
 
--- from a statement that was read and tallied to what follows it
-pub walk-steps : (s : List ℕ) (first : Bool) (p k depth : ℕ) (typed : Bool) {read : StatementRead} {f : Follow}
-    (k' depth' : ℕ) (typed' : Bool) {j : Judged}
-    → read ≡ begunAnswer (begunAt s first p) → Tallied k depth typed read k' depth' typed' → f ≡ followOf read
-    → resume s k depth typed (partOf s first p) ≡ j → stepped s f k' depth' typed' ≡ j
-walk-steps s first p k depth typed k' depth' typed' e h i r =
-    rw (i, e)
-    (sym (steps-by s p k depth typed (begunAt s first p) k' depth' typed' (begun-alone s first p) (rw e at h))
-    ∙ (rw (unrolled s first p) at r))
+    choice-fronted : (r : PartReading) → Fronted p (choice c t) (resume s k (branched p c r (λ q. partOf s true q))) (resume s (suc k) r)
+    choice-fronted badPart = record { own = last p (ifThen c (last p empty)); is = refl; at = refl; itself = (refl, (refl, refl)) }
+    choice-fronted (goodPart r u) =
+        by-test (isKeyword Else (u .token))
+        (λ e. rw (e, rest-else s (suc k) u e) (else-fronted r (partOf s true (u .next .0))))
+        (λ e. rw e (then-fronted r u (rest-ends s k u e ∙ sym (rest-ends s (suc k) u e))))
 
--- an ELSE that no IF waits for
-pub else-stops : (s : List ℕ) (q : Place) {k : ℕ} (depth : ℕ) (typed : Bool) → k ≡ 0 → stepped s (follow.Else q) k depth typed ≡ Unreadable
-else-stops s q depth typed e = rw e
+  fronted-by : (p : ℕ) (b : Begun) → Alone b → Fronted p b (resume s k (partBy p (partOf s) b)) (walkOn s (onwardOf k (followOf (begunAnswer b))))
+  fronted-by p bad a = record { own = last p empty; is = refl; at = refl; itself = tt }
+  fronted-by p (done x t) a = done-fronted p x a t
+  fronted-by p (choice c t) a = choice-fronted p c t (partOf s true (t .next .0))
 
--- where an IF waits, its ELSE takes the walk on
-pub else-steps : (s : List ℕ) (q : Place) (k depth : ℕ) (typed : Bool) → 1 ≤ k
-    → stepped s (follow.Else q) k depth typed ≡ resume s (k - 1) depth typed (partOf s true (q .0))
-else-steps s q zero depth typed h = absurd (omega arith)
-else-steps s q (suc k) depth typed h = let e : suc k - 1 ≡ k = omega arith in rw e
+-- from a statement that was read to what the walk comes to after it
+pub record Stepped (s : List ℕ) (first : Bool) (k p : ℕ) (o : Onward) : Type 0 where
+  pub own : Part
+  pub is : walkFrom s first k p ≡ ahead (own ∷ []) (walkOn s o)
+  pub at : placeOf own ≡ p
+  pub itself : Itself (begunAt s first p) (headOf own)
+
+pub stepped : (s : List ℕ) (first : Bool) (k p : ℕ) {read : StatementRead} {o : Onward} → read ≡ begunAnswer (begunAt s first p)
+    → o ≡ onwardOf k (followOf read) → Stepped s first k p o
+stepped s first k p e i =
+    let f = fronted-by s k p (begunAt s first p) (begun-alone s first p) in
+    record { own = f .own; is = rw (i, e) (ap (resume s k) (unrolled s first p) ∙ f .is); at = f .at; itself = f .itself }
 
 -- ---- the walk ends, and few IFs wait
 
@@ -219,12 +149,34 @@ lighter-by s w bad h = tt
 lighter-by s w (done x t) h = done-lighter s w t h
 lighter-by s w (choice c t) h = omega (arith, h .1, next-lighter s t (h .0))
 
-pub walk-lighter : (s : List ℕ) (first : Bool) (p : ℕ) {read : StatementRead} {f : Follow} → read ≡ begunAnswer (begunAt s first p) → f ≡ followOf read
-    → Lighter s (weightAt s p) f
-walk-lighter s first p e i = rw (i, e) (lighter-by s (weightAt s p) (begunAt s first p) (begun-within s first p))
+pub follow-lighter : (s : List ℕ) (first : Bool) (p : ℕ) → Lighter s (weightAt s p) (followOf (begunAnswer (begunAt s first p)))
+follow-lighter s first p = lighter-by s (weightAt s p) (begunAt s first p) (begun-within s first p)
 
-pub waiting-grows : (k depth : ℕ) (typed : Bool) (read : StatementRead) (k' depth' : ℕ) (typed' : Bool)
-    → Tallied k depth typed read k' depth' typed' → k' ≤ k + 1
-waiting-grows k depth typed statement.Bad k' depth' typed' h = omega (arith, h .0)
-waiting-grows k depth typed (statement.Done own) k' depth' typed' h = omega (arith, h .0)
-waiting-grows k depth typed (statement.Choice own) k' depth' typed' h = omega (arith, h .0)
+-- and with four for each IF that waits it weighs no more
+abbrev pub Fewer : List ℕ → ℕ → ℕ → Onward → Type 0
+Fewer s k w (onward.Statement o) = (weightAt s (o .at .0) + 4 ≤ w) × (4 * o .waiting + weightAt s (o .at .0) ≤ 4 * k + w)
+Fewer s k w (onward.Else q) = Unit {0}
+Fewer s k w onward.End = Unit {0}
+Fewer s k w onward.Nothing = Unit {0}
+
+fewer-by : (s : List ℕ) (k w : ℕ) (f : Follow) → Lighter s w f → Fewer s k w (onwardOf k f)
+fewer-by s k w (follow.Statement q) h = (h, omega arith)
+fewer-by s k w (follow.Part q) h = (h, omega arith)
+fewer-by s zero w (follow.Else q) h = tt
+fewer-by s (suc k) w (follow.Else q) h = (h, omega arith)
+fewer-by s k w follow.End h = tt
+fewer-by s k w follow.Nothing h = tt
+
+pub fewer : (s : List ℕ) (first : Bool) (k p : ℕ) {read : StatementRead} {o : Onward} → read ≡ begunAnswer (begunAt s first p)
+    → o ≡ onwardOf k (followOf read) → Fewer s k (weightAt s p) o
+fewer s first k p e i =
+    rw (i, e) (fewer-by s k (weightAt s p) (followOf (begunAnswer (begunAt s first p))) (follow-lighter s first p))
+
+-- ---- the code's count of those that wait
+
+pub else-none : (k : ℕ) (q : Place) → k ≡ 0 → onward.Else q ≡ onwardOf k (follow.Else q)
+else-none k q e = rw e
+
+pub else-some : (k : ℕ) (q : Place) → 1 ≤ k → onward.Statement (record { at = q; first = true; waiting = k - 1 }) ≡ onwardOf k (follow.Else q)
+else-some zero q h = absurd (omega arith)
+else-some (suc k) q h = let e : suc k - 1 ≡ k = omega arith in rw e

@@ -18,7 +18,7 @@ use Rattle.grammar.specs.Functions.{formFor, anyFor}
 use Rattle.grammar.specs.Formulas.{good, countOf, formulaAt, climbAt, operandAt, argumentsAt, formulaOf}
 use Rattle.expressions.specs.Types.{allMeet, sortOf, sortsOf, depthOf, deepestOf}
 use Rattle.statements.specs.Statements.{itemsAt, printAt, forAt, inputAt, begunAt, partAt, readLine}
-use Rattle.statements.specs.Parts.{deepest, allSome, statementsOf, withinIf, deepestIn, allTyped}
+use Rattle.statements.specs.Parts.{deepest, allSome, partsOf, heads, deepestIn, allTyped}
 use Rattle.reader.specs.Lines.{judgedOf}
 use Rattle.reader.specs.declared.lines.Judged.{Judged}
 use Rattle.reader.specs.declared.lines.Judged.the-variants.{Unreadable, TooDeep, Reads}
@@ -81,7 +81,7 @@ lines =
     ∷ []
 
 pub lines-hold : map (λ (e : Example). judgedOf (bytes (e .line))) lines ≡ map (λ (e : Example). e .judged) lines
-unfolding lines bytes leading isDigit valueFrom sameBytes meaning capitalOf isLetter isHex hexDigit signs pairs classOf reserved tellingOf markOf wordToken numberToken hexFrom hexToken textToken signToken tokenAt formFor anyFor countOf formulaAt climbAt operandAt argumentsAt formulaOf allMeet sortOf sortsOf depthOf deepestOf itemsAt printAt forAt inputAt begunAt partAt readLine deepest allSome statementsOf withinIf deepestIn allTyped
+unfolding lines bytes leading isDigit valueFrom sameBytes meaning capitalOf isLetter isHex hexDigit signs pairs classOf reserved tellingOf markOf wordToken numberToken hexFrom hexToken textToken signToken tokenAt formFor anyFor countOf formulaAt climbAt operandAt argumentsAt formulaOf allMeet sortOf sortsOf depthOf deepestOf itemsAt printAt forAt inputAt begunAt partAt readLine deepest allSome partsOf heads deepestIn allTyped
 lines-hold = refl
 
 -- ---- operators group to the left, and `*` is tighter than `-`

@@ -26,7 +26,8 @@ use Rattle.statements.proofs.Views.{line-view}
 use Rattle.machine.specs.Machine.{Machine}
 use Rattle.machine.specs.bridge.Holding.{linesAt, bodyOf, positionOf, Begins, Positioned}
 use Rattle.machine.specs.declared.positions.Position.{Position}
-use Rattle.machine.proofs.Standing.{true-part, Reaches, reaches-next, Told, line-told, told-as, reached-some, reached-none}
+use Rattle.statements.proofs.Firsts.{true-part}
+use Rattle.machine.proofs.Standing.{Reaches, reaches-next, Told, line-told, told-as, reached-some, reached-none}
 use Rattle.runner.specs.Run as run
 use Rattle.runner.specs.Run.{enter, judgedLine, faulty, opened}
 use Rattle.runner.specs.bridge.Standings.{Reached, AtAs, OverAs, StandsAs}

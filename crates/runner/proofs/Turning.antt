@@ -10,7 +10,7 @@ use Rattle.words.specs.declared.symbols.Scanned.{Scanned}
 use Rattle.loader.specs.declared.lines.LineSpan.{LineSpan}
 use Rattle.grammar.specs.Trees.{Part}
 use Rattle.statements.specs.Statements.{goodPart, partOf}
-use Rattle.machine.specs.Machine.{headOf, tailOf}
+use Rattle.statements.specs.Parts.{headOf, tailOf}
 use Rattle.machine.specs.Machine as spec
 use Rattle.machine.specs.bridge.Holding.{linesAt, Parted, foundIn, entryAt, Sound, Same}
 use Rattle.machine.specs.bridge.Seeking.{soughtBy}

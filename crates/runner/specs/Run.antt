@@ -4,11 +4,11 @@ use mathlib.Core.List.{List, [], _∷_, _++_}
 use Prim.Native.Nat.{ℕ, zero, suc, _+_, _-_}
 use lib.Dec.{ltb}
 use lib.ListN.{length, drop, replicate}
-use Rattle.whole.specs.Digits.{leadingDigits, leadingValue}
+use Rattle.whole.specs.Digits.{leadingValue}
 use Rattle.whole.specs.Errors.{numberOf}
 use Rattle.whole.specs.declared.errors.Error.{Error}
 use Rattle.whole.specs.declared.errors.Error.the-variants.{Syntax, FormulaTooComplex}
-use Rattle.loader.specs.Lines.{Line, linesOf}
+use Rattle.loader.specs.Lines.{Line, linesOf, afterNumber, nextLine}
 use Rattle.loader.specs.Loading.{loadOf}
 use Rattle.loader.specs.Refusals.{refusalNumber}
 use Rattle.loader.specs.declared.loading.Loaded.{Loaded}
@@ -17,15 +17,15 @@ use Rattle.loader.specs.declared.refusals.Refusal.the-variants.{SpaceTooLong}
 use Rattle.words.specs.Places.{place, lineNumber}
 use Rattle.words.specs.declared.places.LineNumber.{LineNumber}
 use Rattle.grammar.specs.Trees.{Part, more}
-use Rattle.statements.specs.Statements.{LineReading, doesNotRead, reads, readLine}
-use Rattle.statements.specs.Parts.{statementsOf, deepestIn}
+use Rattle.reader.specs.Lines.{Judgement, unreadable, tooDeep, holds, judgement}
+use Rattle.statements.specs.Parts.{Rest, nothing, part, headOf, tailOf}
 use Rattle.variables.specs.Variables.{Variables, stringBytes, joinedStrings}
 use Rattle.variables.specs.Tables.{numbersTable, stringsTable}
 use Rattle.variables.specs.declared.tables.Tables.{Tables}
 use Rattle.runner.specs.declared.running.Ran as code
 use Rattle.runner.specs.declared.running.Outcome.{Outcome}
 use Rattle.runner.specs.declared.running.Outcome.the-variants.{Ended, Stopped, Out, Failed, Refused}
-use Rattle.machine.specs.Machine.{Rest, nothing, part, Machine, Lent, fresh, withStep, headOf, tailOf}
+use Rattle.machine.specs.Machine.{Machine, Lent, fresh, withStep}
 use Rattle.turns.specs.Steps.{Next, goesOn, enters, ends, stops, fails, doStatement}
 
 pub record Ran : Type 0 where
@@ -46,20 +46,17 @@ pub data Entered : Type 0 where
   faulty : Error → Entered
   opened : Part → Entered
 
--- 2 if it doesn't read; else 16 if its parentheses nest more than 8 deep
-abbrev pub judgedLine : LineReading → Entered
-judgedLine doesNotRead = faulty Syntax
-judgedLine (reads p) = cond (ltb 8 (deepestIn (statementsOf p))) (faulty FormulaTooComplex) (opened p)
+-- 2 if it doesn't read; else 16 if it is nested too deep
+abbrev pub judgedLine : Judgement → Entered
+judgedLine unreadable = faulty Syntax
+judgedLine tooDeep = faulty FormulaTooComplex
+judgedLine (holds p) = opened p
 
 unfoldable pub enter : List Line → Entered
 enter [] = over
-enter (l ∷ ls) = judgedLine (readLine (drop (length (leadingDigits (l .bytes))) (l .bytes)))
+enter (l ∷ ls) = judgedLine (judgement (afterNumber l))
 
 -- ---- where the run stands: at a statement of a line, or it is over
-
-abbrev pub nextLine : List Line → List Line
-nextLine [] = []
-nextLine (l ∷ ls) = ls
 
 pub data Standing : Type 0 where
   finished : Ran → Standing

@@ -17,7 +17,7 @@ use Rattle.grammar.specs.Formulas as formulas
 use Rattle.grammar.specs.Formulas.{Reading, good, after, enough, formulaOf}
 use Rattle.statements.specs.Statements.{Begun, bad, done, choice, Items, noItems, items, withItem, isSeparator, afterShown, itemsAt, begunAt}
 use Rattle.statements.specs.bridge.Answers.{itemsOf}
-use Rattle.statements.specs.Parts.{withinIf}
+use Rattle.statements.specs.Parts.{partsWithin}
 use Rattle.expressions.specs.bridge.Answers.{weight}
 use Rattle.expressions.proofs.Weights.{reads-if, after-lighter, symbol-reads, keyword-reads}
 use Rattle.expressions.proofs.Grammar.{formula-lighter}
@@ -167,11 +167,11 @@ module _ (s : List ℕ) where
 
 abbrev pub Alone : Begun → Type 0
 Alone bad = Unit {0}
-Alone (done x t) = withinIf x ≡ []
+Alone (done x t) = partsWithin x ≡ []
 Alone (choice c t) = Unit {0}
 
-done-alone : (s : List ℕ) (first : Bool) (t : Scanned) (x : Statement) (u : Scanned) → Stands s first t x u → withinIf x ≡ []
-unfolding withinIf
+done-alone : (s : List ℕ) (first : Bool) (t : Scanned) (x : Statement) (u : Scanned) → Stands s first t x u → partsWithin x ≡ []
+unfolding partsWithin
 done-alone s first t empty u h = refl
 done-alone s first t (assign v f) u h = refl
 done-alone s first t (print is) u h = refl

@@ -1,5 +1,6 @@
 pub mod Beginning
 pub mod Findings
+pub mod Firsts
 pub mod Fuel
 pub mod Others
 pub mod Parts

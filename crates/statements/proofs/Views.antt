@@ -17,7 +17,7 @@ use Rattle.grammar.specs.Formulas as formulas
 use Rattle.grammar.specs.Formulas.{Reading, good, after, formulaOf}
 use Rattle.statements.specs.Statements.{Begun, bad, done, choice, Items, noItems, items, withItem, isSeparator, afterShown, begunAt, PartReading, badPart, goodPart, mappedPart, branched, reads, whole, readLine, partOf}
 use Rattle.statements.specs.bridge.Answers.{itemsOf}
-use Rattle.statements.specs.Parts.{statementsOf, withinIf}
+use Rattle.statements.specs.Parts.{partsOf, partsWithin}
 use Rattle.statements.proofs.Fuel.{items-unrolled}
 use Rattle.statements.proofs.Standing.{Stands, Chosen, begun-seen}
 use Rattle.statements.proofs.Parts.{partBy, unrolled}
@@ -48,8 +48,8 @@ abbrev pub start : List ℕ → ℕ → Scanned
 start s p = tokenAt s (place p)
 
 -- it has a statement
-has-some : (part : Part) (l : List Statement) → statementsOf part ++ l ≡ [] → ⊥
-unfolding statementsOf
+has-some : (part : Part) (l : List Part) → partsOf part ++ l ≡ [] → ⊥
+unfolding partsOf
 has-some (last q x) l e = let z : _≡_ {A = ℕ} 0 1 = cc in omega arith
 has-some (more q x rest) l e = let z : _≡_ {A = ℕ} 0 1 = cc in omega arith
 
@@ -148,14 +148,14 @@ module _ (s : List ℕ) (first : Bool) (p : ℕ) where
 
   -- ---- the last statement, by what it is
 
-  pub last-view : {q : ℕ} {x : Statement} {u : Scanned} → withinIf x ≡ [] → partOf s first p ≡ goodPart (last q x) u → Last q x u
-  unfolding withinIf
+  pub last-view : {q : ℕ} {x : Statement} {u : Scanned} → partsWithin x ≡ [] → partOf s first p ≡ goodPart (last q x) u → Last q x u
+  unfolding partsWithin
   last-view n e = by-final n (final-view e)
     where
-      by-final : {q : ℕ} {x : Statement} {u : Scanned} → withinIf x ≡ [] → Final q x u → Last q x u
+      by-final : {q : ℕ} {x : Statement} {u : Scanned} → partsWithin x ≡ [] → Final q x u → Last q x u
       by-final n (plain h) = h
-      by-final n (thens {c} {part} h) = absurd (has-some part [] (append-nil (statementsOf part) ∙ n))
-      by-final n (elses {c} {part} {other} h) = absurd (has-some part (statementsOf other) n)
+      by-final n (thens {c} {part} h) = absurd (has-some part [] (append-nil (partsOf part) ∙ n))
+      by-final n (elses {c} {part} {other} h) = absurd (has-some part (partsOf other) n)
 
   pub then-view : {q : ℕ} {c : Formula} {part : Part} {u : Scanned} → partOf s first p ≡ goodPart (last q (ifThen c part)) u
       → Thens q c part u

@@ -81,30 +81,57 @@ namedLine end = NoLine
 namedLine stop = NoLine
 namedLine remark = NoLine
 
+-- ---- a part: its first statement, where that stands in the line, and what is left of the part after it
+
+abbrev pub headOf : Part → Statement
+headOf (last p x) = x
+headOf (more p x rest) = x
+
+abbrev pub placeOf : Part → ℕ
+placeOf (last p x) = p
+placeOf (more p x rest) = p
+
+-- what of a part is still to be done
+pub data Rest : Type 0 where
+  nothing : Rest
+  part : Part → Rest
+
+abbrev pub tailOf : Part → Rest
+tailOf (last p x) = nothing
+tailOf (more p x rest) = part rest
+
 -- ---- all statements of a part, in text order
 
+-- each as the part that it begins; those of an IF's parts stand after the IF
 unfoldable mutual
-  pub statementsOf : Part → List Statement
-  statementsOf (last p statement) = statement ∷ withinIf statement
-  statementsOf (more p statement part) = statement ∷ (withinIf statement ++ statementsOf part)
+  pub partsOf : Part → List Part
+  partsOf (last p x) = last p x ∷ partsWithin x
+  partsOf (more p x rest) = more p x rest ∷ (partsWithin x ++ partsOf rest)
 
   -- those of the parts of an IF
-  pub withinIf : Statement → List Statement
-  withinIf empty = []
-  withinIf (assign v f) = []
-  withinIf (print is) = []
-  withinIf (ifThen c p) = statementsOf p
-  withinIf (ifElse c p q) = statementsOf p ++ statementsOf q
-  withinIf (goto l) = []
-  withinIf (gosub l) = []
-  withinIf return = []
-  withinIf (for v from to by) = []
-  withinIf next = []
-  withinIf (nextOf v) = []
-  withinIf (lineInput t v) = []
-  withinIf end = []
-  withinIf stop = []
-  withinIf remark = []
+  pub partsWithin : Statement → List Part
+  partsWithin empty = []
+  partsWithin (assign v f) = []
+  partsWithin (print is) = []
+  partsWithin (ifThen c p) = partsOf p
+  partsWithin (ifElse c p q) = partsOf p ++ partsOf q
+  partsWithin (goto l) = []
+  partsWithin (gosub l) = []
+  partsWithin return = []
+  partsWithin (for v from to by) = []
+  partsWithin next = []
+  partsWithin (nextOf v) = []
+  partsWithin (lineInput t v) = []
+  partsWithin end = []
+  partsWithin stop = []
+  partsWithin remark = []
+
+unfoldable pub heads : List Part → List Statement
+heads [] = []
+heads (p ∷ ps) = headOf p ∷ heads ps
+
+abbrev pub statementsOf : Part → List Statement
+statementsOf p = heads (partsOf p)
 
 unfoldable pub deepestIn : List Statement → ℕ
 deepestIn [] = 0

@@ -58,7 +58,7 @@ use Rattle.statements.specs.bridge.Answers.{itemsOf}
 use Rattle.statements.proofs.Parts.{partBy, unrolled}
 use Rattle.statements.proofs.Views.{Final, plain, thens, elses, more-view, final-view}
 use Rattle.machine.specs.Machine as spec
-use Rattle.machine.specs.Machine.{Rest, nothing, part, headOf, tailOf}
+use Rattle.statements.specs.Parts.{Rest, nothing, part, headOf, tailOf}
 use Rattle.machine.specs.bridge.Holding.{linesAt, positionOf, Parted, Positioned, Sound}
 use Rattle.machine.specs.bridge.Seeking.{soughtBy}
 use Rattle.machine.specs.declared.state.Machine.{Machine}
@@ -66,7 +66,7 @@ use Rattle.machine.specs.declared.positions.Turned.{Turned}
 use Rattle.machine.specs.declared.positions.Next.the-variants as next
 use Rattle.machine.specs.declared.records.Record.{Record}
 use Rattle.machine.specs.declared.records.Found.{Found}
-use Rattle.machine.proofs.Standing.{true-part}
+use Rattle.statements.proofs.Firsts.{true-part}
 use Rattle.turns.specs.Steps.{doStatement}
 use Rattle.turns.specs.bridge.Turns.{turnedTo, afterOf, Turns, anyRecords, Told, Standing}
 use Rattle.turns.specs.bridge.Doing.{Begins, Does}

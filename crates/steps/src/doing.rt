@@ -3,7 +3,7 @@ ghost use mathlib.Core.Path.{_≡_};
 ghost use mathlib.Core.Bool.{true};
 ghost use Rattle.grammar.specs.Trees.{Part};
 ghost use Rattle.statements.specs.Statements.{goodPart, partOf};
-ghost use Rattle.machine.specs.Machine.{headOf, tailOf};
+ghost use Rattle.statements.specs.Parts.{headOf, tailOf};
 ghost use Rattle.machine.specs.bridge.Holding.{linesAt, Parted, Sound};
 ghost use Rattle.machine.specs.bridge.Seeking.{soughtBy};
 ghost use Rattle.turns.specs.Steps.{doStatement};

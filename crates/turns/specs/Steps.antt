@@ -30,32 +30,8 @@ use Rattle.grammar.specs.Trees.{Formula, Variable, Item, Statement, Part}
 use Rattle.variables.specs.Strings.{Value, whole, text, Outcome, value, fault, make}
 use Rattle.variables.specs.Variables.{wordOf, setNumber, setString, numbersFull, stringsFull}
 use Rattle.operators.specs.Values.{valueOf}
-use Rattle.machine.specs.Machine.{
-  nothing,
-  part,
-  Position,
-  Record,
-  loop,
-  call,
-  Machine,
-  mostRecords,
-  roomOf,
-  withVariables,
-  withRecords,
-  withInput,
-  noting,
-  Printed,
-  full,
-  printed,
-  write,
-  commaBlanks,
-  Search,
-  missing,
-  found,
-  sought,
-  below,
-  passed,
-}
+use Rattle.machine.specs.Machine.{Position, Record, loop, call, Machine, mostRecords, roomOf, withVariables, withRecords, withInput, noting, Printed, full, printed, write, commaBlanks, Search, missing, found, sought, below, passed}
+use Rattle.statements.specs.Parts.{nothing, part}
 
 -- what a statement comes to: the run goes on at a place, or at a line's start, or it ends
 pub data Next : Type 0 where

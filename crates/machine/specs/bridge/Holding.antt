@@ -6,19 +6,19 @@ use mathlib.Core.List.{List, [], _∷_, _++_}
 use Prim.Native.Nat.{ℕ, zero, suc, _+_, _≤_, _<_}
 use lib.Dec.{leb}
 use lib.ListN.{length, getD, take, drop}
-use Rattle.whole.specs.Digits.{leadingDigits}
 use Rattle.words.specs.Names.{alike}
 use Rattle.words.specs.Places.{place}
 use Rattle.words.specs.declared.names.Telling.{Telling}
 use Rattle.words.specs.declared.symbols.Scanned.{Scanned}
-use Rattle.loader.specs.Lines.{Line, linesFrom, linesOf}
+use Rattle.loader.specs.Lines.{Line, linesFrom, linesOf, afterNumber}
 use Rattle.grammar.specs.Trees.{Part}
 use Rattle.statements.specs.Statements.{PartReading, badPart, goodPart, partOf}
 use Rattle.variables.specs.Variables.{Variables}
 use Rattle.variables.specs.bridge.Memory.{numbersHeld, stringsHeld, TidyNumbers, TidyStrings}
 use Rattle.variables.specs.Tables.{sumOf, emptyTables}
 use Rattle.machine.specs.Machine as spec
-use Rattle.machine.specs.Machine.{Rest, nothing, part, loop, call, columnAfter}
+use Rattle.machine.specs.Machine.{loop, call, columnAfter}
+use Rattle.statements.specs.Parts.{Rest, nothing, part}
 use Rattle.machine.specs.declared.state.Machine.{Machine}
 use Rattle.machine.specs.declared.state.Printer.{Printer}
 use Rattle.machine.specs.declared.positions.Position.{Position}
@@ -38,7 +38,7 @@ linesAt text p = linesFrom p (drop p text)
 -- what stands after the number of the first of some lines
 abbrev pub bodyOf : List Line → List ℕ
 bodyOf [] = []
-bodyOf (l ∷ ls) = drop (length (leadingDigits (l .bytes))) (l .bytes)
+bodyOf (l ∷ ls) = afterNumber l
 
 -- what is left of a part, from a place of the line on
 abbrev pub restBy : PartReading → Rest

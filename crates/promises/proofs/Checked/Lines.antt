@@ -10,13 +10,13 @@ use Rattle.words.proofs.Choices.{by-test, both}
 use Rattle.loader.specs.Lines.{Line}
 use Rattle.grammar.specs.Trees.{Statement, Part, last, more}
 use Rattle.statements.specs.Statements.{LineReading, doesNotRead, reads, readLine}
-use Rattle.statements.specs.Parts.{rightlyTyped, namedLine, statementsOf, withinIf, deepestIn, allTyped}
+use Rattle.statements.specs.Parts.{rightlyTyped, namedLine, statementsOf, withinIf, deepestIn, allTyped, Rest, nothing, part, headOf, tailOf}
 use Rattle.checker.specs.Check.{missing, anyMissing, faultIn, bodyOf, orElse, firstFault}
 use Rattle.checker.specs.declared.checking.Soundness.{Soundness}
 use Rattle.checker.specs.declared.checking.Soundness.the-variants.{Sound, Fault}
 use Rattle.checker.specs.declared.checking.Verdict.{Verdict}
 use Rattle.checker.specs.declared.checking.Verdict.the-variants.{Passed}
-use Rattle.machine.specs.Machine.{Rest, nothing, part, Position, Record, loop, call, headOf, tailOf}
+use Rattle.machine.specs.Machine.{Position, Record, loop, call}
 use Rattle.runner.specs.Run.{Entered, over, faulty, opened, judgedLine, enter}
 use Rattle.promises.proofs.Checked.Operators.{Allowed}
 

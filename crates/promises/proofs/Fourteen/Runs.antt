@@ -10,31 +10,14 @@ use Rattle.whole.specs.Digits.{leadingDigits}
 use Rattle.whole.specs.declared.errors.Error.the-variants.{OutOfStringSpace}
 use Rattle.words.specs.declared.places.LineNumber.{LineNumber}
 use Rattle.words.proofs.Choices.{by-test}
-use Rattle.loader.specs.Lines.{Line, linesOf}
+use Rattle.loader.specs.Lines.{Line, linesOf, nextLine}
 use Rattle.grammar.specs.Trees.{Statement, Part}
 use Rattle.statements.specs.Statements.{LineReading, doesNotRead, reads, readLine}
-use Rattle.statements.specs.Parts.{statementsOf, deepestIn}
+use Rattle.statements.specs.Parts.{statementsOf, deepestIn, Rest, nothing, part, headOf, tailOf}
 use Rattle.variables.specs.Variables.{stringBytes}
-use Rattle.machine.specs.Machine.{Rest, nothing, part, Position, Machine, Lent, fresh, withStep, headOf, tailOf}
+use Rattle.machine.specs.Machine.{Position, Machine, Lent, fresh, withStep}
 use Rattle.turns.specs.Steps.{Next, goesOn, enters, ends, stops, fails, doStatement}
-use Rattle.runner.specs.Run.{
-  Ran,
-  endsWith,
-  lineNumberOf,
-  judgedLine,
-  enter,
-  nextLine,
-  Standing,
-  finished,
-  at,
-  byEntered,
-  entering,
-  onward,
-  following,
-  turn,
-  running,
-  runOf,
-}
+use Rattle.runner.specs.Run.{Ran, endsWith, lineNumberOf, judgedLine, enter, Standing, finished, at, byEntered, entering, onward, following, turn, running, runOf}
 use Rattle.runner.specs.declared.running.Outcome.the-variants.{Failed}
 use Rattle.promises.specs.Unfinished.{LiveIsExact}
 use Rattle.promises.specs.StringSpace as asks

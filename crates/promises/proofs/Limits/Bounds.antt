@@ -11,7 +11,7 @@ use Rattle.words.specs.Places.{place}
 use Rattle.words.specs.declared.places.LineNumber.{LineNumber}
 use Rattle.words.specs.declared.places.Place.{Place}
 use Rattle.words.proofs.Choices.{by-test}
-use Rattle.loader.specs.Lines.{Line, linesOf}
+use Rattle.loader.specs.Lines.{Line, linesOf, nextLine}
 use Rattle.loader.specs.Loading.{loadOf}
 use Rattle.loader.specs.declared.loading.Loaded.{Loaded}
 use Rattle.loader.specs.declared.loading.Loaded.the-variants as loaded
@@ -22,28 +22,10 @@ use Rattle.variables.specs.Strings as string
 use Rattle.variables.specs.Strings.{Room, value}
 use Rattle.variables.specs.Variables.{stringBytes}
 use Rattle.operators.specs.Values.{valueOf}
-use Rattle.machine.specs.Machine.{Rest, nothing, part, Machine, Lent, fresh, roomOf, withStep, headOf, tailOf}
+use Rattle.machine.specs.Machine.{Machine, Lent, fresh, roomOf, withStep}
+use Rattle.statements.specs.Parts.{Rest, nothing, part, headOf, tailOf}
 use Rattle.turns.specs.Steps.{Next, goesOn, enters, ends, stops, fails, doStatement}
-use Rattle.runner.specs.Run.{
-  endsWith,
-  lineNumberOf,
-  Entered,
-  over,
-  faulty,
-  opened,
-  enter,
-  nextLine,
-  Standing,
-  finished,
-  at,
-  byEntered,
-  entering,
-  onward,
-  following,
-  turn,
-  running,
-  runOf,
-}
+use Rattle.runner.specs.Run.{endsWith, lineNumberOf, Entered, over, faulty, opened, enter, Standing, finished, at, byEntered, entering, onward, following, turn, running, runOf}
 use Rattle.runner.specs.declared.running.Outcome.the-variants.{Refused}
 use Rattle.promises.specs.Unfinished.{LiveIsExact}
 use Rattle.promises.proofs.Limits.Keeping.{Leaves, Keeps, statement-keeps}

@@ -7,31 +7,12 @@ use Prim.Native.Nat.{ℕ, zero, suc}
 use borrow.Author.Tests.{lt-ltb, le-ltb}
 use Rattle.words.specs.declared.places.LineNumber.{LineNumber}
 use Rattle.words.specs.declared.places.Place.{Place}
-use Rattle.loader.specs.Lines.{Line, linesOf}
+use Rattle.loader.specs.Lines.{Line, linesOf, nextLine}
 use Rattle.loader.specs.declared.refusals.Refusal.{Refusal}
-use Rattle.machine.specs.Machine.{Rest, nothing, part, Machine, Lent, fresh, withStep, headOf, tailOf}
+use Rattle.machine.specs.Machine.{Machine, Lent, fresh, withStep}
+use Rattle.statements.specs.Parts.{Rest, nothing, part, headOf, tailOf}
 use Rattle.turns.specs.Steps.{Next, goesOn, enters, ends, stops, fails, doStatement}
-use Rattle.runner.specs.Run.{
-  endsWith,
-  lineNumberOf,
-  Entered,
-  over,
-  faulty,
-  opened,
-  enter,
-  nextLine,
-  Standing,
-  finished,
-  at,
-  byEntered,
-  entering,
-  onward,
-  following,
-  turn,
-  running,
-  isRefused,
-  runOf,
-}
+use Rattle.runner.specs.Run.{endsWith, lineNumberOf, Entered, over, faulty, opened, enter, Standing, finished, at, byEntered, entering, onward, following, turn, running, isRefused, runOf}
 use Rattle.runner.specs.declared.running.Outcome.{Outcome}
 use Rattle.runner.specs.declared.running.Outcome.the-variants.{Refused}
 use Rattle.promises.specs.Demands.{RefusedFor, longSpace, notLoaded}

@@ -8,15 +8,15 @@ use Rattle.whole.specs.Bytes.{bytes}
 use Rattle.whole.specs.Digits.{leadingDigits}
 use Rattle.words.specs.declared.places.LineNumber.{LineNumber}
 use Rattle.words.proofs.Choices.{by-test}
-use Rattle.loader.specs.Lines.{Line, linesOf}
+use Rattle.loader.specs.Lines.{Line, linesOf, nextLine}
 use Rattle.loader.specs.Loading.{loadOf}
 use Rattle.loader.specs.declared.loading.Loaded.{Loaded}
 use Rattle.loader.specs.declared.loading.Loaded.the-variants as loaded
 use Rattle.grammar.specs.Trees.{Part, last, more}
-use Rattle.statements.specs.Parts.{formulasOf, statementsOf, withinIf}
-use Rattle.machine.specs.Machine.{Rest, nothing, part, Position, Machine, Lent, fresh, withStep, headOf, tailOf}
+use Rattle.statements.specs.Parts.{formulasOf, statementsOf, withinIf, Rest, nothing, part, headOf, tailOf}
+use Rattle.machine.specs.Machine.{Position, Machine, Lent, fresh, withStep}
 use Rattle.turns.specs.Steps.{Next, goesOn, enters, ends, stops, fails, doStatement}
-use Rattle.runner.specs.Run.{Ran, lineNumberOf, Entered, over, faulty, opened, enter, nextLine, Standing, finished, at, byEntered, entering, onward, following, turn, running, ifLoaded, runOf}
+use Rattle.runner.specs.Run.{Ran, lineNumberOf, Entered, over, faulty, opened, enter, Standing, finished, at, byEntered, entering, onward, following, turn, running, ifLoaded, runOf}
 use Rattle.runner.specs.Examples.{lending, nested, nested-highest}
 use Rattle.promises.specs.Unfinished.{mostUnfinished, fewUnfinished, mostIsReached}
 use Rattle.promises.proofs.Waiting.Nesting.{Fine}

@@ -17,11 +17,11 @@ use Rattle.words.proofs.Choices.{by-test}
 use Rattle.loader.specs.Lines.{Line, linesOf, fromNumber}
 use Rattle.grammar.specs.Trees as tree
 use Rattle.grammar.specs.Trees.{Formula, Variable, Item, Statement}
-use Rattle.statements.specs.Parts.{itemFormulas, formulasOf, statementsOf, withinIf}
+use Rattle.statements.specs.Parts.{itemFormulas, formulasOf, statementsOf, withinIf, Rest, nothing, part}
 use Rattle.variables.specs.Strings.{Value, whole, text, Room, Outcome, value, fault, make}
 use Rattle.variables.specs.Variables.{wordOf, numbersFull, stringsFull}
 use Rattle.operators.specs.Values.{valueOf}
-use Rattle.machine.specs.Machine.{Rest, nothing, part, Position, Record, loop, call, Machine, mostRecords, roomOf, withRecords, withInput, noting, write, commaBlanks, Search, missing, found, sought, below, passed}
+use Rattle.machine.specs.Machine.{Position, Record, loop, call, Machine, mostRecords, roomOf, withRecords, withInput, noting, write, commaBlanks, Search, missing, found, sought, below, passed}
 use Rattle.turns.specs.Steps.{Next, goesOn, enters, ends, stops, fails, worked, wholeOnly, workedWhole, withNumber, assigned, written, shownValue, printItems, toLine, pushed, returned, turned, nextOn, takeLine, filled, inputLine, isWholeKind, doStatement}
 use Rattle.control.specs.bridge.Answers.{loopsFrom}
 use Rattle.promises.specs.Unfinished.{mostUnfinished}

@@ -13,7 +13,7 @@ use Rattle.loader.specs.declared.lines.LineFound.the-variants.{Is}
 use Rattle.loader.specs.declared.loading.Loaded.the-variants.{Fine}
 use Rattle.loader.specs.declared.refusals.Refusal.{Refusal}
 use Rattle.variables.specs.declared.tables.Tables.{Tables}
-use Rattle.machine.specs.Machine.{headOf, tailOf}
+use Rattle.statements.specs.Parts.{headOf, tailOf}
 use Rattle.machine.specs.Machine as spec
 use Rattle.machine.specs.bridge.Holding.{linesAt, bodyOf, positionOf, Begins, Parted, Positioned, Sound, Same}
 use Rattle.machine.specs.declared.state.Machine.{Machine}

@@ -1,7 +1,7 @@
 -- The ladder of tests is that of the definition.
 use borrow.Author.Needs.{needs}
-use Rattle.reader.proofs.lines.after_done.Statement.{statement}
-use Rattle.reader.proofs.lines.after_done.Tie as tie
+use Rattle.reader.proofs.walking.after_done.Statement.{statement}
+use Rattle.reader.proofs.walking.after_done.Tie as tie
 
 pub after-done-spec : {M : Type 1} → statement M
 after-done-spec =

@@ -1,7 +1,7 @@
 -- Each arm is a clause of the definition.
 use borrow.Author.Needs.{needs}
-use Rattle.reader.proofs.lines.follows.Statement.{statement}
-use Rattle.reader.proofs.lines.follows.Tie as tie
+use Rattle.reader.proofs.walking.follows.Statement.{statement}
+use Rattle.reader.proofs.walking.follows.Tie as tie
 
 pub follows-spec : {M : Type 1} → statement M
 follows-spec =
