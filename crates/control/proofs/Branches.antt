@@ -15,7 +15,7 @@ use Rattle.grammar.specs.Tests.{isKeyword}
 use Rattle.grammar.specs.Trees.{Formula, Part, ifThen, ifElse}
 use Rattle.statements.specs.Statements.{goodPart, partOf}
 use Rattle.reader.specs.Lines.{elseAt}
-use Rattle.reader.specs.declared.branches.Branch.the-variants as way
+use Rattle.reader.specs.declared.branches.Start.the-variants as way
 use Rattle.variables.specs.declared.values.Worked.the-variants.{Whole, Text, Fault}
 use Rattle.machine.specs.Machine as spec
 use Rattle.statements.specs.Parts.{part}

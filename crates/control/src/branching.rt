@@ -18,7 +18,7 @@ use machine::Machine;
 use machine::Next;
 use machine::Position;
 use machine::Turned;
-use reader::Branch;
+use reader::Start;
 use reader::else_of;
 use turns::fails;
 use turns::turned_to;
@@ -29,16 +29,16 @@ use words::Place;
 use words::Scanned;
 
 // A part of the line is entered, or the line is over.
-fn position_of(here: Place, branch: Branch) -> Position
+fn position_of(here: Place, branch: Start) -> Position
     ensures { λ r. ⌜ ((m : Machine) → turnedTo m (next.On r) ≡ takenTurn m here branch) ⌝ }
 {
     match branch {
-        Branch::At(at) => Position {
+        Start::At(at) => Position {
             line: here,
             at,
             over: false,
         },
-        Branch::None => Position {
+        Start::None => Position {
             line: here,
             at: Place(0),
             over: true,
@@ -46,7 +46,7 @@ fn position_of(here: Place, branch: Branch) -> Position
     }
 }
 
-fn taken(machine: Machine, here: Place, branch: Branch) -> Turned
+fn taken(machine: Machine, here: Place, branch: Start) -> Turned
     ensures { λ r. ⌜ r ≡ takenTurn machine here branch ⌝ }
 {
     turned_to(machine, Next::On(position_of(here, branch)))
@@ -79,7 +79,7 @@ pub fn choose(
             if word == 0 {
                 return taken(machine, here, else_of(line, part));
             }
-            taken(machine, here, Branch::At(part))
+            taken(machine, here, Start::At(part))
         }
     }
 }

@@ -4,23 +4,22 @@ use mathlib.Core.Bool.{Bool, true, false, cond}
 use mathlib.Core.List.{List, [], _∷_, _++_}
 use mathlib.Core.Logic.{_↔_}
 use Prim.Native.Nat.{ℕ}
-use borrow.Author.Tests.{ltb-true, ltb-false, lt-ltb, le-ltb}
-use lib.Dec.{ltb}
 use Rattle.whole.specs.Digits.{leadingValue}
 use Rattle.whole.specs.declared.errors.Error.{Error}
-use Rattle.whole.specs.declared.errors.Error.the-variants.{FormulaTooComplex, TypeMismatch, UndefinedLine}
+use Rattle.whole.specs.declared.errors.Error.the-variants.{TypeMismatch, UndefinedLine}
 use Rattle.words.specs.Places.{lineNumber}
 use Rattle.words.specs.declared.places.LineNumber.{LineNumber}
 use Rattle.words.specs.declared.places.Place.{Place}
-use Rattle.loader.specs.Lines.{Line, linesOf}
+use Rattle.loader.specs.Lines.{Line, linesOf, afterNumber}
 use Rattle.loader.specs.Loading.{loadOf}
 use Rattle.loader.specs.declared.loading.Loaded.{Loaded}
 use Rattle.loader.specs.declared.loading.Loaded.the-variants as loaded
 use Rattle.loader.specs.declared.refusals.Refusal.{Refusal}
 use Rattle.grammar.specs.Trees.{Part}
-use Rattle.statements.specs.Statements.{LineReading, doesNotRead, reads, readLine}
-use Rattle.statements.specs.Parts.{statementsOf, deepestIn, allTyped}
-use Rattle.checker.specs.Check.{anyMissing, faultIn, bodyOf, orElse, firstFault, checkOf}
+use Rattle.statements.specs.Parts.{statementsOf, allTyped}
+use Rattle.reader.specs.Lines as lines
+use Rattle.reader.specs.Lines.{Judgement, holds, judgement}
+use Rattle.checker.specs.Check.{anyMissing, faultIn, orElse, firstFault, checkOf}
 use Rattle.checker.specs.declared.checking.Soundness.{Soundness}
 use Rattle.checker.specs.declared.checking.Soundness.the-variants.{Sound, Fault}
 use Rattle.checker.specs.declared.checking.Verdict.the-variants.{Passed, Refused, Faulty}
@@ -34,32 +33,32 @@ module _ (all : List Line) (l : Line) where
   same-fault : {d e : Error} → Fault d ≡ Fault e → HasFault all l d → HasFault all l e
   same-fault {d} {e} h f = let g : e ≡ d = cc in rw g f
 
-  found-in : (p : Part) (deep typed missing : Bool) → readLine (bodyOf l) ≡ reads p → ltb 8 (deepestIn (statementsOf p)) ≡ deep
+  found-in : (p : Part) (typed missing : Bool) → judgement (afterNumber l) ≡ holds p
       → allTyped (statementsOf p) ≡ typed → anyMissing all (statementsOf p) ≡ missing
-      → (e : Error) → cond deep (Fault FormulaTooComplex) (cond typed (cond missing (Fault UndefinedLine) Sound) (Fault TypeMismatch)) ≡ Fault e
+      → (e : Error) → cond typed (cond missing (Fault UndefinedLine) Sound) (Fault TypeMismatch) ≡ Fault e
       → HasFault all l e
-  found-in p true typed missing r d t m e h = same-fault h (tooDeep r (ltb-true _ _ d))
-  found-in p false false missing r d t m e h = same-fault h (wronglyTyped r (ltb-false _ _ d) t)
-  found-in p false true true r d t m e h = same-fault h (namesMissing r (ltb-false _ _ d) t m)
-  found-in p false true false r d t m e h = never (cc)
+  found-in p false missing r t m e h = same-fault h (wronglyTyped r t)
+  found-in p true true r t m e h = same-fault h (namesMissing r t m)
+  found-in p true false r t m e h = never (cc)
 
-  found-fault : (x : LineReading) → readLine (bodyOf l) ≡ x → (e : Error) → faultIn all x ≡ Fault e → HasFault all l e
-  found-fault doesNotRead r e h = same-fault h (unreadable r)
-  found-fault (reads p) r e h = found-in p _ _ _ r refl refl refl e h
+  found-fault : (g : Judgement) → judgement (afterNumber l) ≡ g → (e : Error) → faultIn all g ≡ Fault e → HasFault all l e
+  found-fault lines.unreadable r e h = same-fault h (unreadable r)
+  found-fault lines.tooDeep r e h = same-fault h (tooDeep r)
+  found-fault (holds p) r e h = found-in p _ _ r refl refl e h
 
   -- and the one that is there is found
-  fault-found : (e : Error) → HasFault all l e → faultIn all (readLine (bodyOf l)) ≡ Fault e
+  fault-found : (e : Error) → HasFault all l e → faultIn all (judgement (afterNumber l)) ≡ Fault e
   fault-found e (unreadable r) = rw r
-  fault-found e (tooDeep r d) = rw (r, lt-ltb _ _ d)
-  fault-found e (wronglyTyped r d t) = rw (r, le-ltb _ _ d, t)
-  fault-found e (namesMissing r d t m) = rw (r, le-ltb _ _ d, t, m)
+  fault-found e (tooDeep r) = rw r
+  fault-found e (wronglyTyped r t) = rw (r, t)
+  fault-found e (namesMissing r t m) = rw (r, t, m)
 
   -- a line without one is sound
-  sound-line : (x : Soundness) → faultIn all (readLine (bodyOf l)) ≡ x → Faultless all l → x ≡ Sound
+  sound-line : (x : Soundness) → faultIn all (judgement (afterNumber l)) ≡ x → Faultless all l → x ≡ Sound
   sound-line Sound e h = refl
   sound-line (Fault d) e h = absurd (h d (found-fault _ refl d e))
 
-  faultless : faultIn all (readLine (bodyOf l)) ≡ Sound → Faultless all l
+  faultless : faultIn all (judgement (afterNumber l)) ≡ Sound → Faultless all l
   faultless h e f = let g = fault-found e f in never (cc)
 
 -- ---- the lines of a recipe, from one on
@@ -99,9 +98,9 @@ module _ (all : List Line) where
   gives-first : (ls : List Line) (e : Error) (n : LineNumber) → firstFault all ls ≡ Faulty e n → First all ls e n
   unfolding firstFault
   gives-first [] e n h = never (cc)
-  gives-first (l ∷ ls) e n h = go (faultIn all (readLine (bodyOf l))) refl h (gives-first ls e n)
+  gives-first (l ∷ ls) e n h = go (faultIn all (judgement (afterNumber l))) refl h (gives-first ls e n)
     where
-      go : (x : Soundness) → faultIn all (readLine (bodyOf l)) ≡ x
+      go : (x : Soundness) → faultIn all (judgement (afterNumber l)) ≡ x
           → orElse x (lineNumber (leadingValue (l .bytes))) (λ _. firstFault all ls) ≡ Faulty e n
           → (firstFault all ls ≡ Faulty e n → First all ls e n) → First all (l ∷ ls) e n
       go Sound r k later = first-later l ls (faultless all l r) (later k)
@@ -118,9 +117,9 @@ module _ (all : List Line) where
   passes : (ls : List Line) → firstFault all ls ≡ Passed → AllFaultless all ls
   unfolding firstFault AllFaultless
   passes [] h = tt
-  passes (l ∷ ls) h = go (faultIn all (readLine (bodyOf l))) refl h (passes ls)
+  passes (l ∷ ls) h = go (faultIn all (judgement (afterNumber l))) refl h (passes ls)
     where
-      go : (x : Soundness) → faultIn all (readLine (bodyOf l)) ≡ x
+      go : (x : Soundness) → faultIn all (judgement (afterNumber l)) ≡ x
           → orElse x (lineNumber (leadingValue (l .bytes))) (λ _. firstFault all ls) ≡ Passed
           → (firstFault all ls ≡ Passed → AllFaultless all ls) → Faultless all l × AllFaultless all ls
       go Sound r k later = (faultless all l r, later k)
@@ -135,7 +134,7 @@ module _ (all : List Line) where
   never-refused : (ls : List Line) (r : Refusal) (p : Place) → firstFault all ls ≡ Refused r p → ⊥
   unfolding firstFault
   never-refused [] r p h = never (cc)
-  never-refused (l ∷ ls) r p h = go (faultIn all (readLine (bodyOf l))) h (never-refused ls r p)
+  never-refused (l ∷ ls) r p h = go (faultIn all (judgement (afterNumber l))) h (never-refused ls r p)
     where
       go : (x : Soundness) → orElse x (lineNumber (leadingValue (l .bytes))) (λ _. firstFault all ls) ≡ Refused r p
           → (firstFault all ls ≡ Refused r p → ⊥) → ⊥

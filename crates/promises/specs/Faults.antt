@@ -2,29 +2,29 @@
 use mathlib.Core.Path.{_≡_}
 use mathlib.Core.Bool.{true, false}
 use mathlib.Core.List.{List, [], _∷_, _++_}
-use Prim.Native.Nat.{ℕ, _≤_, _<_}
+use Prim.Native.Nat.{ℕ}
 use Rattle.whole.specs.Digits.{leadingValue}
 use Rattle.whole.specs.declared.errors.Error.{Error}
 use Rattle.whole.specs.declared.errors.Error.the-variants.{Syntax, FormulaTooComplex, TypeMismatch, UndefinedLine}
 use Rattle.words.specs.Places.{lineNumber}
 use Rattle.words.specs.declared.places.LineNumber.{LineNumber}
-use Rattle.loader.specs.Lines.{Line, linesOf}
+use Rattle.loader.specs.Lines.{Line, linesOf, afterNumber}
 use Rattle.grammar.specs.Trees.{Part}
-use Rattle.statements.specs.Statements.{doesNotRead, reads, readLine}
-use Rattle.statements.specs.Parts.{statementsOf, deepestIn, allTyped}
-use Rattle.checker.specs.Check.{anyMissing, bodyOf}
+use Rattle.statements.specs.Parts.{statementsOf, allTyped}
+use Rattle.reader.specs.Lines as lines
+use Rattle.reader.specs.Lines.{holds, judgement}
+use Rattle.checker.specs.Check.{anyMissing}
 
 -- the fault of a line of a recipe, all of whose lines are `all`; every branch of an IF counts
 pub data HasFault (all : List Line) (l : Line) : Error → Type 0 where
   -- 2: what stands after its number does not read
-  unreadable : readLine (bodyOf l) ≡ doesNotRead → HasFault all l Syntax
-  -- 16: it reads, and parentheses nest more than 8 deep
-  tooDeep : {p : Part} → readLine (bodyOf l) ≡ reads p → 8 < deepestIn (statementsOf p) → HasFault all l FormulaTooComplex
-  -- 13: it reads and nests at most 8 deep, and not every statement is rightly typed
-  wronglyTyped : {p : Part} → readLine (bodyOf l) ≡ reads p → deepestIn (statementsOf p) ≤ 8 → allTyped (statementsOf p) ≡ false
-      → HasFault all l TypeMismatch
-  -- 8: it reads, nests at most 8 deep and is rightly typed, and a statement names a line that the recipe has not
-  namesMissing : {p : Part} → readLine (bodyOf l) ≡ reads p → deepestIn (statementsOf p) ≤ 8 → allTyped (statementsOf p) ≡ true
+  unreadable : judgement (afterNumber l) ≡ lines.unreadable → HasFault all l Syntax
+  -- 16: it reads, and parentheses nest too deep
+  tooDeep : judgement (afterNumber l) ≡ lines.tooDeep → HasFault all l FormulaTooComplex
+  -- 13: it reads and does not nest too deep, and not every statement is rightly typed
+  wronglyTyped : {p : Part} → judgement (afterNumber l) ≡ holds p → allTyped (statementsOf p) ≡ false → HasFault all l TypeMismatch
+  -- 8: it reads, does not nest too deep and is rightly typed, and a statement names a line that the recipe has not
+  namesMissing : {p : Part} → judgement (afterNumber l) ≡ holds p → allTyped (statementsOf p) ≡ true
       → anyMissing all (statementsOf p) ≡ true → HasFault all l UndefinedLine
 
 abbrev pub Faultless : List Line → Line → Type 0

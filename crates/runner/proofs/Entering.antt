@@ -4,22 +4,20 @@ use mathlib.Core.Bool.{Bool, true, false}
 use mathlib.Core.List.{List, _∷_}
 use Prim.Native.Nat.{ℕ, _-_}
 use native.Mathlib.Omega.{arith}
-use lib.Dec.{ltb}
 use lib.ListN.{take, drop}
 use Rattle.whole.specs.declared.errors.Error.the-variants.{Syntax, FormulaTooComplex}
 use Rattle.words.specs.Places.{place}
 use Rattle.words.specs.declared.places.Place.{Place}
 use Rattle.words.specs.declared.symbols.Scanned.{Scanned}
-use Rattle.words.proofs.Choices.{by-test}
 use Rattle.loader.specs.Lines.{Line, lineAt}
 use Rattle.loader.specs.Loading.{loadOf}
 use Rattle.loader.specs.declared.lines.LineSpan.{LineSpan}
 use Rattle.loader.specs.declared.lines.LineFound.the-variants.{Is, None}
 use Rattle.loader.specs.declared.loading.Loaded.the-variants.{Fine}
 use Rattle.grammar.specs.Trees.{Part}
-use Rattle.statements.specs.Statements.{goodPart, LineReading, doesNotRead, reads, readLine, partOf}
-use Rattle.statements.specs.Parts.{statementsOf, deepestIn}
-use Rattle.reader.specs.Lines.{judgedReading, judgedOf}
+use Rattle.statements.specs.Statements.{goodPart, partOf}
+use Rattle.reader.specs.Lines.{Judgement, unreadable, tooDeep, holds, judgement, judgedAs, judgedOf}
+use Rattle.reader.proofs.Judging.{held}
 use Rattle.reader.specs.declared.lines.Judged.{Judged}
 use Rattle.reader.specs.declared.lines.Judged.the-variants.{Unreadable, TooDeep, Reads}
 use Rattle.statements.proofs.Views.{line-view}
@@ -36,29 +34,24 @@ use Rattle.runner.specs.declared.running.Standing.{Standing}
 
 -- ---- the judgement of a line, as the code makes it and as the definition does
 
-judged-bad : (x : LineReading) → judgedReading x ≡ Unreadable → judgedLine x ≡ faulty Syntax
-judged-bad doesNotRead e = refl
-judged-bad (reads p) e =
-    let z : _≡_ {A = ℕ} 0 1 = by-test (ltb 8 (deepestIn (statementsOf p))) (λ t. let f = rw t at e in cc) (λ t. let f = rw t at e in cc) in
-    absurd (omega arith)
+judged-bad : (g : Judgement) → judgedAs g ≡ Unreadable → judgedLine g ≡ faulty Syntax
+judged-bad unreadable e = refl
+judged-bad tooDeep e = let z : _≡_ {A = ℕ} 0 1 = cc in absurd (omega arith)
+judged-bad (holds p) e = let z : _≡_ {A = ℕ} 0 1 = cc in absurd (omega arith)
 
-judged-deep : (x : LineReading) → judgedReading x ≡ TooDeep → judgedLine x ≡ faulty FormulaTooComplex
-judged-deep doesNotRead e = let z : _≡_ {A = ℕ} 0 1 = cc in absurd (omega arith)
-judged-deep (reads p) e =
-    by-test (ltb 8 (deepestIn (statementsOf p))) (λ t. rw t)
-    (λ t. let f = rw t at e in let z : _≡_ {A = ℕ} 0 1 = cc in absurd (omega arith))
+judged-deep : (g : Judgement) → judgedAs g ≡ TooDeep → judgedLine g ≡ faulty FormulaTooComplex
+judged-deep unreadable e = let z : _≡_ {A = ℕ} 0 1 = cc in absurd (omega arith)
+judged-deep tooDeep e = refl
+judged-deep (holds p) e = let z : _≡_ {A = ℕ} 0 1 = cc in absurd (omega arith)
 
-record Opens (x : LineReading) : Type 0 where
+record Opens (g : Judgement) : Type 0 where
   part : Part
-  is : x ≡ reads part
-  opens : judgedLine x ≡ opened part
+  is : g ≡ holds part
 
-judged-reads : (x : LineReading) {typed : Bool} → judgedReading x ≡ Reads typed → Opens x
-judged-reads doesNotRead e = let z : _≡_ {A = ℕ} 0 1 = cc in absurd (omega arith)
-judged-reads (reads p) e =
-    by-test (ltb 8 (deepestIn (statementsOf p)))
-    (λ t. let f = rw t at e in let z : _≡_ {A = ℕ} 0 1 = cc in absurd (omega arith))
-    (λ t. record { part = p; is = refl; opens = rw t })
+judged-reads : (g : Judgement) {typed : Bool} → judgedAs g ≡ Reads typed → Opens g
+judged-reads unreadable e = let z : _≡_ {A = ℕ} 0 1 = cc in absurd (omega arith)
+judged-reads tooDeep e = let z : _≡_ {A = ℕ} 0 1 = cc in absurd (omega arith)
+judged-reads (holds p) e = record { part = p; is = refl }
 
 -- ---- a line entered
 
@@ -85,7 +78,7 @@ reached loads w = record { loads = loads; before = w .before; all = w .all }
 reaches : {text : List ℕ} {p : ℕ} → Reached text p → Reaches text p
 reaches w = record { before = w .before; all = w .all }
 
-enter-some : {lines : List Line} {l : Line} {ls : List Line} → lines ≡ l ∷ ls → enter lines ≡ judgedLine (readLine (bodyOf lines))
+enter-some : {lines : List Line} {l : Line} {ls : List Line} → lines ≡ l ∷ ls → enter lines ≡ judgedLine (judgement (bodyOf lines))
 unfolding enter
 enter-some e = rw e
 
@@ -105,29 +98,29 @@ module _ {text : List ℕ} {p : ℕ} (w : Reached text p) where
     enter-told = told-as (reached-some (reaches w) e) (w .loads) e
 
     module _ {j : Judged} (k : j ≡ judgedOf (take (span .end .0 - span .body .0) (drop (span .body .0) text))) where
-      judged : judgedReading (readLine (bodyOf (linesAt text p))) ≡ j
+      judged : judgedAs (judgement (bodyOf (linesAt text p))) ≡ j
       judged = sym (k ∙ ap judgedOf (enter-told .body))
 
-      begun : (m : Machine) {x : run.Entered} → judgedLine (readLine (bodyOf (linesAt text p))) ≡ x
+      begun : (m : Machine) {x : run.Entered} → judgedLine (judgement (bodyOf (linesAt text p))) ≡ x
           → run.entering m (linesAt text p) ≡ run.byEntered x m (linesAt text p)
       begun m f = ap (λ y. run.byEntered y m (linesAt text p)) (enter-some (enter-told .here) ∙ f)
 
       -- it does not read,
       pub enter-unreadable : j ≡ Unreadable → (m : Machine) → OverAs (Failed Syntax (span .number)) m (run.entering m (linesAt text p))
       enter-unreadable f m =
-          record { begun = refl; is = rw (← (told-number enter-told)) (begun m (judged-bad (readLine (bodyOf (linesAt text p))) (judged ∙ f))) }
+          record { begun = refl; is = rw (← (told-number enter-told)) (begun m (judged-bad (judgement (bodyOf (linesAt text p))) (judged ∙ f))) }
 
       -- it nests too deep,
       pub enter-deep : j ≡ TooDeep → (m : Machine) → OverAs (Failed FormulaTooComplex (span .number)) m (run.entering m (linesAt text p))
       enter-deep f m =
-          record { begun = refl; is = rw (← (told-number enter-told)) (begun m (judged-deep (readLine (bodyOf (linesAt text p))) (judged ∙ f))) }
+          record { begun = refl; is = rw (← (told-number enter-told)) (begun m (judged-deep (judgement (bodyOf (linesAt text p))) (judged ∙ f))) }
 
       -- or the run stands at its first statement
       pub enter-reads : {typed : Bool} → j ≡ Reads typed → (m : Machine) → AtAs text span (place 0) m (run.entering m (linesAt text p))
       enter-reads f m =
-          let o = judged-reads (readLine (bodyOf (linesAt text p))) (judged ∙ f) in
-          let v = line-view (bodyOf (linesAt text p)) (o .is) in
-          at-line (sym (enter-told .starts)) (w .loads) (reached-some (reaches w) e) e (true-part (bodyOf (linesAt text p)) 0 (v .from)) (begun m (o .opens))
+          let o = judged-reads (judgement (bodyOf (linesAt text p))) (judged ∙ f) in
+          let v = line-view (bodyOf (linesAt text p)) (held (bodyOf (linesAt text p)) (o .is)) in
+          at-line (sym (enter-told .starts)) (w .loads) (reached-some (reaches w) e) e (true-part (bodyOf (linesAt text p)) 0 (v .from)) (begun m (ap judgedLine (o .is)))
 
 -- ---- what is left of a line
 

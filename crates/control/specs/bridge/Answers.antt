@@ -19,8 +19,8 @@ use Rattle.grammar.specs.Trees as tree
 use Rattle.grammar.specs.Trees.{Formula, number}
 use Rattle.grammar.specs.Formulas.{Reading, good, after, formulaOf}
 use Rattle.statements.specs.Statements.{done, variableOf, forAt}
-use Rattle.reader.specs.declared.branches.Branch.{Branch}
-use Rattle.reader.specs.declared.branches.Branch.the-variants as branch
+use Rattle.reader.specs.declared.branches.Start.{Start}
+use Rattle.reader.specs.declared.branches.Start.the-variants as branch
 use Rattle.formulas.specs.bridge.Memory.{Scans}
 use Rattle.machine.specs.Machine as spec
 use Rattle.machine.specs.Machine.{below}
@@ -43,7 +43,7 @@ pushedTurn m held n =
     (record { machine = withDepth m (m .depth + 1); next = n; slot = m .depth; held = held })
 
 -- a part of the line is entered, or the line is over
-abbrev pub takenTurn : Machine → Place → Branch → Turned
+abbrev pub takenTurn : Machine → Place → Start → Turned
 takenTurn m line (branch.At at) = turnedTo m (next.On (record { line = line; at = at; over = false }))
 takenTurn m line branch.None = turnedTo m (next.On (record { line = line; at = place 0; over = true }))
 

@@ -4,14 +4,14 @@ use mathlib.Core.Bool.{Bool, true, false, _||_, false≢true}
 use mathlib.Core.List.{List, [], _∷_, _++_}
 use Prim.Native.Nat.{ℕ}
 use native.Mathlib.Omega.{arith}
-use lib.Dec.{ltb}
 use Rattle.words.specs.declared.places.LineNumber.{LineNumber}
 use Rattle.words.proofs.Choices.{by-test, both}
-use Rattle.loader.specs.Lines.{Line}
+use Rattle.loader.specs.Lines.{Line, afterNumber}
 use Rattle.grammar.specs.Trees.{Statement, Part, last, more}
-use Rattle.statements.specs.Statements.{LineReading, doesNotRead, reads, readLine}
-use Rattle.statements.specs.Parts.{rightlyTyped, namedLine, statementsOf, withinIf, deepestIn, allTyped, Rest, nothing, part, headOf, tailOf}
-use Rattle.checker.specs.Check.{missing, anyMissing, faultIn, bodyOf, orElse, firstFault}
+use Rattle.statements.specs.Parts.{rightlyTyped, namedLine, headOf, tailOf, Rest, nothing, part, partsOf, partsWithin, heads, statementsOf, allTyped}
+use Rattle.reader.specs.Lines.{Judgement, unreadable, tooDeep, holds, judgement}
+use Rattle.reader.proofs.Heads.{heads-append}
+use Rattle.checker.specs.Check.{missing, anyMissing, faultIn, orElse, firstFault}
 use Rattle.checker.specs.declared.checking.Soundness.{Soundness}
 use Rattle.checker.specs.declared.checking.Soundness.the-variants.{Sound, Fault}
 use Rattle.checker.specs.declared.checking.Verdict.{Verdict}
@@ -50,15 +50,18 @@ module _ (all : List Line) where
       let named = neither (missing all (namedLine x)) (anyMissing all xs) n in
       (record { typed = typed .0; named = named .0 }, all-checked xs (typed .1) (named .1))
 
-  pub checked-apart : (xs ys : List Statement) → AllChecked (xs ++ ys) → AllChecked xs × AllChecked ys
+  checked-apart : (xs ys : List Statement) → AllChecked (xs ++ ys) → AllChecked xs × AllChecked ys
   checked-apart [] ys h = (tt, h)
   checked-apart (x ∷ xs) ys h = let t = checked-apart xs ys (h .1) in ((h .0, t .0), t .1)
+
+  pub parts-apart : (xs ys : List Part) → AllChecked (heads (xs ++ ys)) → AllChecked (heads xs) × AllChecked (heads ys)
+  parts-apart xs ys h = checked-apart (heads xs) (heads ys) (rw (heads-append xs ys) at h)
 
   -- ---- places
 
   abbrev pub LinesChecked : List Line → Type 0
   LinesChecked [] = Unit {0}
-  LinesChecked (l ∷ ls) = (faultIn all (readLine (bodyOf l)) ≡ Sound) × LinesChecked ls
+  LinesChecked (l ∷ ls) = (faultIn all (judgement (afterNumber l)) ≡ Sound) × LinesChecked ls
 
   abbrev pub RestChecked : Rest → Type 0
   RestChecked nothing = Unit {0}
@@ -76,10 +79,10 @@ module _ (all : List Line) where
   RecordsChecked (r ∷ rs) = RecordChecked r × RecordsChecked rs
 
   -- the first statement of a part, its branches, and what is left then
-  pub part-apart : (p : Part) → PartChecked p → Checked (headOf p) × AllChecked (withinIf (headOf p)) × RestChecked (tailOf p)
-  unfolding statementsOf
+  pub part-apart : (p : Part) → PartChecked p → Checked (headOf p) × AllChecked (heads (partsWithin (headOf p))) × RestChecked (tailOf p)
+  unfolding partsOf heads
   part-apart (last p x) h = (h .0, h .1, tt)
-  part-apart (more p x rest) h = let t = checked-apart (withinIf x) (statementsOf rest) (h .1) in (h .0, t .0, t .1)
+  part-apart (more p x rest) h = let t = parts-apart (partsWithin x) (partsOf rest) (h .1) in (h .0, t .0, t .1)
 
   -- ---- lines
 
@@ -92,7 +95,7 @@ module _ (all : List Line) where
   unfolding firstFault
   passed-lines [] e = tt
   passed-lines (l ∷ ls) e =
-      let h = sound-later (faultIn all (readLine (bodyOf l))) _ (λ _. firstFault all ls) e in
+      let h = sound-later (faultIn all (judgement (afterNumber l))) _ (λ _. firstFault all ls) e in
       (h .0, passed-lines ls (h .1))
 
   -- a line that is sound opens, and its statements are as the check wants them
@@ -101,19 +104,18 @@ module _ (all : List Line) where
   EnteredChecked (faulty e) = Allowed e
   EnteredChecked (opened p) = PartChecked p
 
-  sound-reads : (r : LineReading) → faultIn all r ≡ Sound → EnteredChecked (judgedLine r)
-  sound-reads doesNotRead e = let z : _≡_ {A = ℕ} 0 1 = cc in absurd (omega arith)
-  sound-reads (reads p) e =
+  sound-reads : (g : Judgement) → faultIn all g ≡ Sound → EnteredChecked (judgedLine g)
+  sound-reads unreadable e = let z : _≡_ {A = ℕ} 0 1 = cc in absurd (omega arith)
+  sound-reads tooDeep e = let z : _≡_ {A = ℕ} 0 1 = cc in absurd (omega arith)
+  sound-reads (holds p) e =
       let xs = statementsOf p in
-      by-test (ltb 8 (deepestIn xs))
-      (λ d. let f = rw d at e in let z : _≡_ {A = ℕ} 0 1 = cc in absurd (omega arith))
-      λ d. by-test (allTyped xs)
+      by-test (allTyped xs)
       (λ t. by-test (anyMissing all xs)
-      (λ n. let f = rw (d, t, n) at e in let z : _≡_ {A = ℕ} 0 1 = cc in absurd (omega arith))
-      (λ n. rw d (all-checked xs t n)))
-      (λ t. let f = rw (d, t) at e in let z : _≡_ {A = ℕ} 0 1 = cc in absurd (omega arith))
+      (λ n. let f = rw (t, n) at e in let z : _≡_ {A = ℕ} 0 1 = cc in absurd (omega arith))
+      (λ n. all-checked xs t n))
+      (λ t. let f = rw t at e in let z : _≡_ {A = ℕ} 0 1 = cc in absurd (omega arith))
 
   pub enter-checked : (ls : List Line) → LinesChecked ls → EnteredChecked (enter ls)
   unfolding enter
   enter-checked [] h = tt
-  enter-checked (l ∷ ls) h = sound-reads (readLine (bodyOf l)) (h .0)
+  enter-checked (l ∷ ls) h = sound-reads (judgement (afterNumber l)) (h .0)

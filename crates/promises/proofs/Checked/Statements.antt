@@ -19,7 +19,7 @@ use Rattle.loader.specs.Lines.{Line, linesOf, numberOf, has, fromNumber}
 use Rattle.grammar.specs.Trees as tree
 use Rattle.grammar.specs.Trees.{Formula, Variable, Item, Statement}
 use Rattle.expressions.specs.Types.{sortOf, isWhole, isText, isSome, isOf}
-use Rattle.statements.specs.Parts.{itemFormulas, isNumber, allSome, rightlyTyped, statementsOf, withinIf}
+use Rattle.statements.specs.Parts.{itemFormulas, isNumber, allSome, rightlyTyped, partsOf, partsWithin, heads}
 use Rattle.expressions.specs.declared.sorts.Sort.{Sort}
 use Rattle.expressions.specs.declared.sorts.Sort.the-variants.{Whole, Text, Wrong}
 use Rattle.checker.specs.Check.{present}
@@ -76,7 +76,7 @@ use Rattle.promises.proofs.Checked.Lines.{
   Checked,
   AllChecked,
   PartChecked,
-  checked-apart,
+  parts-apart,
   LinesChecked,
   PositionChecked,
   RecordChecked,
@@ -283,16 +283,16 @@ module _ (program : List ℕ) (lines : LinesChecked (linesOf program) (linesOf p
       whole-worked all by o _ (w .1) ro λ s q rq.
       number-stored all q (v .telling) a (begun (v .telling) b s after) rq (begun-checked all (v .telling) b s after p))
 
-  pub statement-checked : (x : Statement) (m : Machine) (after : Position) → Checked all x → AllChecked all (withinIf x)
+  pub statement-checked : (x : Statement) (m : Machine) (after : Position) → Checked all x → AllChecked all (heads (partsWithin x))
       → MachineChecked all m → PositionChecked all after → NextChecked all (doStatement program x m after)
-  unfolding statementsOf
+  unfolding partsOf heads
   statement-checked tree.empty m after c i r p = (r, p)
   statement-checked (tree.assign v f) m after c i r p = assign-checked all (v .kind) (v .telling) f m _ (c .typed) r (goes-on all after p)
   statement-checked (tree.print is) m after c i r p = print-checked all false is m _ (c .typed) r (goes-on all after p)
   statement-checked (tree.ifThen f q) m after c i r p =
       whole-worked all f m _ (c .typed) r (λ w n s. by-choice (NextChecked all) (eqb w 0) (s, (p .0, tt)) (s, (p .0, i)))
   statement-checked (tree.ifElse f q o) m after c i r p =
-      let b = checked-apart all (statementsOf q) (statementsOf o) i in
+      let b = parts-apart all (partsOf q) (partsOf o) i in
       whole-worked all f m _ (c .typed) r (λ w n s. (s, (p .0, by-choice (PartChecked all) (eqb w 0) (b .1) (b .0))))
   statement-checked (tree.goto l) m after c i r p =
       line-found all (l .0) all m (λ ls. enters m ls) (not-false _ (c .named)) lines (λ from h. (r, h))

@@ -18,7 +18,9 @@ use Rattle.grammar.specs.Formulas as formulas
 use Rattle.grammar.specs.Formulas.{Reading, good, after, enough, formulaOf}
 use Rattle.statements.specs.Statements.{Begun, bad, done, choice, Items, noItems, items, withItem, isSeparator, afterShown, itemsAt, begunAt, PartReading, badPart, goodPart, mappedPart, following, branched, partAt, whole, readLine}
 use Rattle.statements.specs.bridge.Answers.{itemsOf}
-use Rattle.statements.specs.Parts.{itemFormulas, formulasOf, deepest, statementsOf, withinIf, deepestIn}
+use Rattle.reader.specs.Lines.{judgedRead, judgement}
+use Rattle.reader.proofs.Heads.{heads-append}
+use Rattle.statements.specs.Parts.{itemFormulas, formulasOf, deepest, partsOf, partsWithin, heads, statementsOf, deepestIn}
 use Rattle.expressions.proofs.Levelled.{Levelled, levelled}
 use Rattle.statements.proofs.Standing.{stepOf, Stands, Seen, begun-seen}
 use Rattle.statements.proofs.Beginning.{Alone, begun-alone}
@@ -41,9 +43,16 @@ module _ (P : Formula → Type 0) where
   every-both [] ys h k = k
   every-both (x ∷ xs) ys h k = (h .0, every-both xs ys (h .1) k)
 
-  pub every-split : (xs ys : List Statement) → Every (xs ++ ys) → Every xs × Every ys
+  every-split : (xs ys : List Statement) → Every (xs ++ ys) → Every xs × Every ys
   every-split [] ys h = (tt, h)
   every-split (x ∷ xs) ys h = let k = every-split xs ys (h .1) in ((h .0, k .0), k .1)
+
+  -- of parts one after the other
+  parts-both : (xs ys : List Part) → Every (heads xs) → Every (heads ys) → Every (heads (xs ++ ys))
+  parts-both xs ys h k = rw (heads-append xs ys) (every-both (heads xs) (heads ys) h k)
+
+  pub parts-split : (xs ys : List Part) → Every (heads (xs ++ ys)) → Every (heads xs) × Every (heads ys)
+  parts-split xs ys h = every-split (heads xs) (heads ys) (rw (heads-append xs ys) at h)
 
 -- ---- what is read is levelled
 
@@ -122,15 +131,15 @@ PartLevel (goodPart p u) = Every Level (statementsOf p)
 
 module _ (p : ℕ) (go : Bool → ℕ → PartReading) (level : (f : Bool) (q : ℕ) → PartLevel (go f q)) where
   -- a statement that has no parts, and what follows it
-  more-level : (x : Statement) (r : PartReading) → withinIf x ≡ [] → Each Level (formulasOf x) → PartLevel r
+  more-level : (x : Statement) (r : PartReading) → partsWithin x ≡ [] → Each Level (formulasOf x) → PartLevel r
       → PartLevel (mappedPart (more p x) r)
-  unfolding statementsOf
+  unfolding partsOf heads
   more-level x badPart e l h = tt
   more-level x (goodPart part u) e l h = rw e (l, h)
 
-  done-level : (x : Statement) (t : Scanned) → withinIf x ≡ [] → Each Level (formulasOf x)
+  done-level : (x : Statement) (t : Scanned) → partsWithin x ≡ [] → Each Level (formulasOf x)
       → PartLevel (following p x t (λ q. go false q))
-  unfolding statementsOf
+  unfolding partsOf heads
   done-level x t e l =
       by-test (isSymbol Colon (t .token))
       (λ f. rw f (more-level x (go false (t .next .0)) e l (level false (t .next .0))))
@@ -140,12 +149,12 @@ module _ (p : ℕ) (go : Bool → ℕ → PartReading) (level : (f : Bool) (q : 
   -- an IF and its parts
   else-level : (c : Formula) (part : Part) (r : PartReading) → Level c → Every Level (statementsOf part) → PartLevel r
       → PartLevel (mappedPart (λ other. last p (ifElse c part other)) r)
-  unfolding statementsOf
+  unfolding partsOf heads
   else-level c part badPart l h k = tt
-  else-level c part (goodPart other u) l h k = ((l, tt), every-both Level (statementsOf part) (statementsOf other) h k)
+  else-level c part (goodPart other u) l h k = ((l, tt), parts-both Level (partsOf part) (partsOf other) h k)
 
   choice-level : (c : Formula) (r : PartReading) → Level c → PartLevel r → PartLevel (branched p c r (λ q. go true q))
-  unfolding statementsOf
+  unfolding partsOf heads
   choice-level c badPart l h = tt
   choice-level c (goodPart part t) l h =
       by-test (isKeyword Else (t .token))
@@ -185,7 +194,7 @@ EnteredFine over = Unit {0}
 EnteredFine (faulty e) = Unit {0}
 EnteredFine (opened p) = PartFine p
 
-judged-fine : (r : PartReading) → PartLevel r → EnteredFine (judgedLine (whole r))
+judged-fine : (r : PartReading) → PartLevel r → EnteredFine (judgedLine (judgedRead (whole r)))
 judged-fine badPart l = tt
 judged-fine (goodPart p u) l =
     by-test (endsLine (u .token))
@@ -195,6 +204,6 @@ judged-fine (goodPart p u) l =
     (λ d. rw d (every-fine (statementsOf p) l (ltb-false 8 (deepestIn (statementsOf p)) d)))))
     (λ e. rw e tt)
 
-pub line-fine : (s : List ℕ) → EnteredFine (judgedLine (readLine s))
+pub line-fine : (s : List ℕ) → EnteredFine (judgedLine (judgement s))
 unfolding readLine
 line-fine s = judged-fine (partAt (enough s) s false 0) (part-level (enough s) s false 0)

@@ -3,24 +3,22 @@ use mathlib.Core.List.{List, [], _∷_}
 use Prim.Native.Nat.{ℕ, zero, suc, _≤_}
 use native.Mathlib.Omega.{arith}
 use lib.Dec.{ltb}
-use lib.ListN.{length, drop}
 use Rattle.whole.specs.Bytes.{bytes}
-use Rattle.whole.specs.Digits.{leadingDigits}
 use Rattle.words.specs.declared.places.LineNumber.{LineNumber}
 use Rattle.words.proofs.Choices.{by-test}
-use Rattle.loader.specs.Lines.{Line, linesOf, nextLine}
+use Rattle.loader.specs.Lines.{Line, linesOf, afterNumber, nextLine}
 use Rattle.loader.specs.Loading.{loadOf}
 use Rattle.loader.specs.declared.loading.Loaded.{Loaded}
 use Rattle.loader.specs.declared.loading.Loaded.the-variants as loaded
 use Rattle.grammar.specs.Trees.{Part, last, more}
-use Rattle.statements.specs.Parts.{formulasOf, statementsOf, withinIf, Rest, nothing, part, headOf, tailOf}
+use Rattle.statements.specs.Parts.{formulasOf, headOf, tailOf, Rest, nothing, part, partsOf, partsWithin, heads, statementsOf}
 use Rattle.machine.specs.Machine.{Position, Machine, Lent, fresh, withStep}
 use Rattle.turns.specs.Steps.{Next, goesOn, enters, ends, stops, fails, doStatement}
 use Rattle.runner.specs.Run.{Ran, lineNumberOf, Entered, over, faulty, opened, enter, Standing, finished, at, byEntered, entering, onward, following, turn, running, ifLoaded, runOf}
 use Rattle.runner.specs.Examples.{lending, nested, nested-highest}
 use Rattle.promises.specs.Unfinished.{mostUnfinished, fewUnfinished, mostIsReached}
 use Rattle.promises.proofs.Waiting.Nesting.{Fine}
-use Rattle.promises.proofs.Waiting.Reading.{Each, Every, every-split, PartFine, EnteredFine, line-fine}
+use Rattle.promises.proofs.Waiting.Reading.{Each, Every, parts-split, PartFine, EnteredFine, line-fine}
 use Rattle.promises.proofs.Waiting.Turns.{RestFine, Sound, NextFine, statement-sound}
 
 abbrev StandingFine : Standing → Type 0
@@ -35,7 +33,7 @@ entered-fine (opened p) m lines h s = (s, h)
 enter-fine : (lines : List Line) → EnteredFine (enter lines)
 unfolding enter
 enter-fine [] = tt
-enter-fine (l ∷ ls) = line-fine (drop (length (leadingDigits (l .bytes))) (l .bytes))
+enter-fine (l ∷ ls) = line-fine (afterNumber l)
 
 entering-fine : (m : Machine) (lines : List Line) → Sound m → StandingFine (entering m lines)
 entering-fine m lines s = entered-fine (enter lines) m lines (enter-fine lines) s
@@ -53,12 +51,12 @@ following-fine line (fails e m) h = h .few
 
 -- its first statement, the parts of that, and what is left
 abbrev HeadFine : Part → Type 0
-HeadFine p = Each Fine (formulasOf (headOf p)) × Every Fine (withinIf (headOf p)) × RestFine (tailOf p)
+HeadFine p = Each Fine (formulasOf (headOf p)) × Every Fine (heads (partsWithin (headOf p))) × RestFine (tailOf p)
 
 head-fine : (p : Part) → PartFine p → HeadFine p
-unfolding statementsOf
+unfolding partsOf heads
 head-fine (last q x) h = (h .0, h .1, tt)
-head-fine (more q x rest) h = let k = every-split Fine (withinIf x) (statementsOf rest) (h .1) in (h .0, k .0, k .1)
+head-fine (more q x rest) h = let k = parts-split Fine (partsWithin x) (partsOf rest) (h .1) in (h .0, k .0, k .1)
 
 turn-fine : (program : List ℕ) (m : Machine) (lines : List Line) (p : Part) → Sound m → PartFine p → StandingFine (turn program m lines p)
 turn-fine program m lines p s h =

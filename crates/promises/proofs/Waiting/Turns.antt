@@ -17,7 +17,7 @@ use Rattle.words.proofs.Choices.{by-test}
 use Rattle.loader.specs.Lines.{Line, linesOf, fromNumber}
 use Rattle.grammar.specs.Trees as tree
 use Rattle.grammar.specs.Trees.{Formula, Variable, Item, Statement}
-use Rattle.statements.specs.Parts.{itemFormulas, formulasOf, statementsOf, withinIf, Rest, nothing, part}
+use Rattle.statements.specs.Parts.{itemFormulas, formulasOf, Rest, nothing, part, partsOf, partsWithin, heads, statementsOf}
 use Rattle.variables.specs.Strings.{Value, whole, text, Room, Outcome, value, fault, make}
 use Rattle.variables.specs.Variables.{wordOf, numbersFull, stringsFull}
 use Rattle.operators.specs.Values.{valueOf}
@@ -28,7 +28,7 @@ use Rattle.promises.specs.Unfinished.{mostUnfinished}
 use Rattle.promises.proofs.Waiting.Rooms.{Good, make-good}
 use Rattle.promises.proofs.Waiting.Needs.{value-good}
 use Rattle.promises.proofs.Waiting.Nesting.{Fine, needs-few}
-use Rattle.promises.proofs.Waiting.Reading.{Each, Every, every-split, PartFine}
+use Rattle.promises.proofs.Waiting.Reading.{Each, Every, parts-split, PartFine}
 
 -- ---- what the machine holds
 
@@ -193,8 +193,8 @@ input-sound (b ∷ rest) m v after s h =
 -- ---- all statements
 
 pub statement-sound : (program : List ℕ) (x : Statement) (m : Machine) (after : Position) → Each Fine (formulasOf x)
-    → Every Fine (withinIf x) → Sound m → RestFine (after .rest) → NextFine (doStatement program x m after)
-unfolding withinIf
+    → Every Fine (heads (partsWithin x)) → Sound m → RestFine (after .rest) → NextFine (doStatement program x m after)
+unfolding partsOf heads
 statement-sound program tree.empty m after g p s a = (s, a)
 statement-sound program (tree.assign v f) m after g p s a =
     formula-sound m _ (g .0) s (λ x n t. assigned-sound (v .kind) (v .telling) x after t a)
@@ -202,7 +202,7 @@ statement-sound program (tree.print is) m after g p s a = print-sound false is m
 statement-sound program (tree.ifThen c q) m after g p s a =
     whole-sound m _ (g .0) s (λ w n t. either-fine (eqb w 0) _ _ (t, tt) (t, p))
 statement-sound program (tree.ifElse c q r) m after g p s a =
-    let h = every-split Fine (statementsOf q) (statementsOf r) p in
+    let h = parts-split Fine (partsOf q) (partsOf r) p in
     whole-sound m _ (g .0) s (λ w n t. by-test (eqb w 0) (λ e. rw e (t, h .1)) (λ e. rw e (t, h .0)))
 statement-sound program (tree.goto l) m after g p s a = line-sound (fromNumber (l .0) (linesOf program)) _ s (λ ls. s)
 statement-sound program (tree.gosub l) m after g p s a =
