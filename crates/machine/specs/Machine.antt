@@ -18,10 +18,14 @@ pub data Rest : Type 0 where
   nothing : Rest
   part : Part → Rest
 
--- the first statement of a part, and what is left then
+-- the first statement of a part, its place in the line, and what is left then
 abbrev pub headOf : Part → Statement
 headOf (last p s) = s
 headOf (more p s rest) = s
+
+abbrev pub placeOf : Part → ℕ
+placeOf (last p s) = p
+placeOf (more p s rest) = p
 
 abbrev pub tailOf : Part → Rest
 tailOf (last p s) = nothing

@@ -13,7 +13,7 @@ use Rattle.grammar.specs.Trees.{Part}
 use Rattle.checker.specs.Check as check
 use Rattle.checker.specs.Check.{firstFault, checkOf}
 use Rattle.checker.specs.declared.checking.Verdict.the-variants.{Passed}
-use Rattle.machine.specs.Machine.{Rest, nothing, part, Position, Machine, fresh, withStep, headOf, tailOf}
+use Rattle.machine.specs.Machine.{Rest, nothing, part, Position, Machine, fresh, withStep, headOf, placeOf, tailOf}
 use Rattle.turns.specs.Steps.{Next, goesOn, enters, ends, stops, fails, doStatement}
 use Rattle.runner.specs.Run.{
   Ran,
@@ -92,8 +92,8 @@ module _ (program : List ℕ) (lines : LinesChecked (linesOf program) (linesOf p
   turn-checked m ls p h =
       let t = part-apart (linesOf program) p (h .2) in
       let after : Position = record { lines = ls; rest = tailOf p } in
-      following-checked (linesOf program) (lineNumberOf ls) (doStatement program (headOf p) (withStep m) after)
-      (statement-checked program lines (headOf p) (withStep m) after (t .0) (t .1) (h .0) (h .1, t .2))
+      following-checked (linesOf program) (lineNumberOf ls) (doStatement program (placeOf p) (headOf p) (withStep m) after)
+      (statement-checked program lines (placeOf p) (headOf p) (withStep m) after (t .0) (t .1) (h .0) (h .1, t .2))
 
   running-ends-well : (budget : ℕ) (s : Standing) → StandingChecked (linesOf program) s → EndsWell (running budget program s)
   unfolding running

@@ -28,7 +28,7 @@ use Rattle.checker.specs.declared.checking.Verdict.the-variants.{Passed}
 use Rattle.loader.specs.Lines.{Line, linesOf}
 use Rattle.grammar.specs.Trees as tree
 use Rattle.grammar.specs.Trees.{Statement, Part}
-use Rattle.machine.specs.Machine.{Machine, fresh, withStep, headOf, tailOf}
+use Rattle.machine.specs.Machine.{Machine, fresh, withStep, headOf, placeOf, tailOf}
 use Rattle.turns.specs.Steps.{Next, goesOn, enters, ends, stops, fails, doStatement}
 use Rattle.runner.specs.Run.{Standing, finished, at, entering, turn, runOf}
 use Rattle.runner.specs.declared.running.Outcome.{Outcome}
@@ -106,4 +106,4 @@ abbrev pub nextHasRoom : Type 0
 nextHasRoom =
     (text input : List ℕ) (space room statements : ℕ) (m : Machine) (lines : List Line) (p : Part)
     → standsAfter statements text (entering (fresh input space room) (linesOf text)) ≡ at m lines p → isNext (headOf p) ≡ true
-    → lacksRoom (doStatement text (headOf p) (withStep m) (record { lines = lines; rest = tailOf p })) ≡ false
+    → lacksRoom (doStatement text (placeOf p) (headOf p) (withStep m) (record { lines = lines; rest = tailOf p })) ≡ false

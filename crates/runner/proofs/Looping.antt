@@ -12,7 +12,7 @@ use Rattle.loader.specs.declared.lines.LineSpan.{LineSpan}
 use Rattle.grammar.specs.Trees.{Part}
 use Rattle.space.specs.Moves.{cleared}
 use Rattle.variables.proofs.Holding.{empty-numbers, empty-strings, empty-numbers-held, empty-strings-held, empty-sum}
-use Rattle.machine.specs.Machine.{headOf, tailOf}
+use Rattle.machine.specs.Machine.{headOf, placeOf, tailOf}
 use Rattle.machine.specs.Machine as spec
 use Rattle.machine.specs.bridge.Holding.{linesAt, blankRecord, freshMachine, Sound, Same}
 use Rattle.machine.specs.declared.state.Machine.{Machine}
@@ -157,7 +157,7 @@ module _ {text input space₀ room₀ : List ℕ} {budget : ℕ} {space room : L
 
       module _ {r : Turned} {space′ room′ : List ℕ} (t : TurnAs text span at m rs input space room r space′ room′) where
         done : Came text (r .next)
-            (doStatement text (headOf (here .stood .reads .of)) (spec.withStep (k .machine))
+            (doStatement text (placeOf (here .stood .reads .of)) (headOf (here .stood .reads .of)) (spec.withStep (k .machine))
             (record { lines = linesAt text (span .place .0); rest = tailOf (here .stood .reads .of) }))
             (Same text (set rs (r .slot) (r .held)) (r .machine) input space′ room′)
         done = came text (r .next) _ _ (t .comes (here .stood) (k .machine) (k .same))

@@ -25,7 +25,7 @@ use Rattle.variables.specs.declared.tables.Tables.{Tables}
 use Rattle.runner.specs.declared.running.Ran as code
 use Rattle.runner.specs.declared.running.Outcome.{Outcome}
 use Rattle.runner.specs.declared.running.Outcome.the-variants.{Ended, Stopped, Out, Failed, Refused}
-use Rattle.machine.specs.Machine.{Rest, nothing, part, Machine, fresh, withStep, headOf, tailOf}
+use Rattle.machine.specs.Machine.{Rest, nothing, part, Machine, fresh, withStep, headOf, placeOf, tailOf}
 use Rattle.turns.specs.Steps.{Next, goesOn, enters, ends, stops, fails, doStatement}
 
 pub record Ran : Type 0 where
@@ -89,7 +89,7 @@ following line (fails e m) = finished (endsWith (Failed e line) m)
 abbrev pub turn : List ℕ → Machine → List Line → Part → Standing
 turn program m lines p =
     following (lineNumberOf lines)
-    (doStatement program (headOf p) (withStep m) (record { lines = lines; rest = tailOf p }))
+    (doStatement program (placeOf p) (headOf p) (withStep m) (record { lines = lines; rest = tailOf p }))
 
 abbrev pub byStanding : Standing → (Machine → List Line → Part → Ran) → Ran
 byStanding (finished r) go = r

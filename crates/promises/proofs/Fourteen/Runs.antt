@@ -15,7 +15,7 @@ use Rattle.grammar.specs.Trees.{Statement, Part}
 use Rattle.statements.specs.Statements.{LineReading, doesNotRead, reads, readLine}
 use Rattle.statements.specs.Parts.{statementsOf, deepestIn}
 use Rattle.variables.specs.Variables.{stringBytes}
-use Rattle.machine.specs.Machine.{Rest, nothing, part, Position, Machine, fresh, withStep, headOf, tailOf}
+use Rattle.machine.specs.Machine.{Rest, nothing, part, Position, Machine, fresh, withStep, headOf, placeOf, tailOf}
 use Rattle.turns.specs.Steps.{Next, goesOn, enters, ends, stops, fails, doStatement}
 use Rattle.runner.specs.Run.{
   Ran,
@@ -76,11 +76,11 @@ space-kept space = record {
   takes = λ m left h p. p;
 }
 
-begun-space : (program : List ℕ) (space n : ℕ) (s : Standing) (l : LineNumber) (x : Statement) (k : Machine) → Begins program n s l x k
+begun-space : (program : List ℕ) (space n : ℕ) (s : Standing) (ls : List Line) (q : ℕ) (x : Statement) (k : Machine) → Begins program n s ls q x k
     → Stands (λ m. m .space ≡ space) s → k .space ≡ space
-begun-space program space (suc n) (at m lines p) l x k asks.first h = h
-begun-space program space (suc n) (at m lines p) l x k (asks.later d) h =
-    begun-space program space n (turn program m lines p) l x k d (turn-stands (λ m. m .space ≡ space) (space-kept space) program m lines p h)
+begun-space program space (suc n) (at m lines p) ls q x k asks.first h = h
+begun-space program space (suc n) (at m lines p) ls q x k (asks.later d) h =
+    begun-space program space n (turn program m lines p) ls q x k d (turn-stands (λ m. m .space ≡ space) (space-kept space) program m lines p h)
 
 over-stays : (n : ℕ) (program : List ℕ) (r : Ran) → running n program (finished r) ≡ r
 unfolding running
@@ -91,16 +91,22 @@ module _ (exact : LiveIsExact) (program : List ℕ) (space : ℕ) where
   -- ---- from 14 to the statement
 
   record Asked (n : ℕ) (s : Standing) (l : LineNumber) : Type 0 where
+    from : List Line
+    numbered : lineNumberOf from ≡ l
+    place : ℕ
     statement : Statement
     machine : Machine
-    begins : Begins program n s l statement machine
+    begins : Begins program n s from place statement machine
     ask : Ask
-    asks : StatementAsks statement machine ask
+    asks : StatementAsks from place statement machine ask
     exceeds : Exceeds space (stringBytes (machine .variables .strings)) ask
 
   asked-later : {n : ℕ} {m : Machine} {lines : List Line} {p : Part} {l : LineNumber} → Asked n (turn program m lines p) l → Asked (suc n) (at m lines p) l
   asked-later a =
       record {
+        from = a .from;
+        numbered = a .numbered;
+        place = a .place;
         statement = a .statement;
         machine = a .machine;
         begins = asks.later (a .begins);
@@ -109,18 +115,20 @@ module _ (exact : LiveIsExact) (program : List ℕ) (space : ℕ) where
         exceeds = a .exceeds;
       }
 
-  asked-now : (n : ℕ) (m : Machine) (lines : List Line) (p : Part) {l : LineNumber} → m .space ≡ space → l ≡ lineNumberOf lines
-      → StatementOver exact (headOf p) (withStep m) → Asked (suc n) (at m lines p) l
+  asked-now : (n : ℕ) (m : Machine) (lines : List Line) (p : Part) {l : LineNumber} → m .space ≡ space → lineNumberOf lines ≡ l
+      → StatementOver exact lines (placeOf p) (headOf p) (withStep m) → Asked (suc n) (at m lines p) l
   asked-now n m lines p h e o =
-      rw e
-      (record {
+      record {
+        from = lines;
+        numbered = e;
+        place = placeOf p;
         statement = headOf p;
         machine = withStep m;
         begins = asks.first;
         ask = o .ask;
         asks = o .asks;
         exceeds = rw h at (o .exceeds);
-      })
+      }
 
   module _ (n : ℕ) (m : Machine) (lines : List Line) (p : Part) (l : LineNumber) (h : m .space ≡ space)
       (rest : Unfailed (turn program m lines p) → running n program (turn program m lines p) .ending ≡ Failed OutOfStringSpace l
@@ -128,7 +136,7 @@ module _ (exact : LiveIsExact) (program : List ℕ) (space : ℕ) where
     abbrev after : Position
     after = record { lines = lines; rest = tailOf p }
 
-    by-next : (x : Next) → doStatement program (headOf p) (withStep m) after ≡ x
+    by-next : (x : Next) → doStatement program (placeOf p) (headOf p) (withStep m) after ≡ x
         → running n program (following (lineNumberOf lines) x) .ending ≡ Failed OutOfStringSpace l → Asked (suc n) (at m lines p) l
     by-next (goesOn o q) d e = asked-later (rest (rw d (onward-unfailed o (q .lines) (q .rest))) (rw d e))
     by-next (enters o ls) d e = asked-later (rest (rw d (entering-unfailed o ls)) (rw d e))
@@ -138,7 +146,7 @@ module _ (exact : LiveIsExact) (program : List ℕ) (space : ℕ) where
         let f = sym (ap (λ (r : Ran). r .ending) (over-stays n program (endsWith (Failed x (lineNumberOf lines)) o))) ∙ e in
         let g : x ≡ OutOfStringSpace = cc in
         asked-now n m lines p h (cc)
-        (told (doStatement program (headOf p) (withStep m) after) o (statement-tells exact program (headOf p) (withStep m) after)
+        (told (doStatement program (placeOf p) (headOf p) (withStep m) after) o (statement-tells exact program (placeOf p) (headOf p) (withStep m) after)
         (d ∙ ap (λ y. fails y o) g))
 
   running-asked : (n : ℕ) (s : Standing) (l : LineNumber) → Stands (λ m. m .space ≡ space) s → Unfailed s
@@ -150,18 +158,19 @@ module _ (exact : LiveIsExact) (program : List ℕ) (space : ℕ) where
   running-asked (suc n) (at m lines p) l h u e =
       by-next n m lines p l h
       (λ u′ e′. running-asked n (turn program m lines p) l (turn-stands (λ m. m .space ≡ space) (space-kept space) program m lines p h) u′ e′)
-      (doStatement program (headOf p) (withStep m) (record { lines = lines; rest = tailOf p })) refl e
+      (doStatement program (placeOf p) (headOf p) (withStep m) (record { lines = lines; rest = tailOf p })) refl e
 
   -- ---- from the statement to 14
 
-  running-fails : (n : ℕ) (s : Standing) (l : LineNumber) (x : Statement) (m : Machine) → Begins program n s l x m
-      → ((after : Position) → StatementFails exact program x m after) → running n program s .ending ≡ Failed OutOfStringSpace l
+  running-fails : (n : ℕ) (s : Standing) (ls : List Line) (q : ℕ) (x : Statement) (m : Machine) → Begins program n s ls q x m
+      → ((rest : Rest) → StatementFails exact program q x m (record { lines = ls; rest = rest }))
+      → running n program s .ending ≡ Failed OutOfStringSpace (lineNumberOf ls)
   unfolding running
-  running-fails (suc n) (at m lines p) l x k asks.first f =
-      let y = f (record { lines = lines; rest = tailOf p }) in
+  running-fails (suc n) (at m lines p) ls q x k asks.first f =
+      let y = f (tailOf p) in
       ap (λ z. running n program (following (lineNumberOf lines) z) .ending) (y .1)
       ∙ ap (λ (r : Ran). r .ending) (over-stays n program (endsWith (Failed OutOfStringSpace (lineNumberOf lines)) (y .0)))
-  running-fails (suc n) (at m lines p) l x k (asks.later d) f = running-fails n (turn program m lines p) l x k d f
+  running-fails (suc n) (at m lines p) ls q x k (asks.later d) f = running-fails n (turn program m lines p) ls q x k d f
 
 -- ---- a whole run
 
@@ -181,6 +190,9 @@ module _ (exact : LiveIsExact) (text input : List ℕ) (space room budget : ℕ)
       record {
         small = h;
         loads = k;
+        from = a .from;
+        numbered = a .numbered;
+        place = a .place;
         statement = a .statement;
         machine = a .machine;
         begins = a .begins;
@@ -192,10 +204,10 @@ module _ (exact : LiveIsExact) (text input : List ℕ) (space room budget : ℕ)
   asked-fails : (l : LineNumber) → AsksTooMuch text input space room budget l → runOf text input space room budget .ending ≡ Failed OutOfStringSpace l
   unfolding runOf
   asked-fails l a =
-      let same = begun-space text space budget start l (a .statement) (a .machine) (a .begins) start-space in
-      rw (le-ltb 16384 space (a .small), a .loads)
-      (running-fails exact text space budget start l (a .statement) (a .machine) (a .begins)
-      (λ after. statement-fails exact text (a .statement) (a .machine) after (a .ask) (a .asks) (rw same (a .exceeds))))
+      let same = begun-space text space budget start (a .from) (a .place) (a .statement) (a .machine) (a .begins) start-space in
+      rw (le-ltb 16384 space (a .small), a .loads, ← (a .numbered))
+      (running-fails exact text space budget start (a .from) (a .place) (a .statement) (a .machine) (a .begins)
+      (λ rest. statement-fails exact text (a .place) (a .statement) (a .machine) (record { lines = a .from; rest = rest }) (a .ask) (a .asks) (rw same (a .exceeds))))
 
   pub fourteen-exactly : (l : LineNumber)
       → (runOf text input space room budget .ending ≡ Failed OutOfStringSpace l) ↔ AsksTooMuch text input space room budget l

@@ -9,7 +9,7 @@ use Rattle.words.specs.declared.places.LineNumber.{LineNumber}
 use Rattle.words.specs.declared.places.Place.{Place}
 use Rattle.loader.specs.Lines.{Line, linesOf}
 use Rattle.loader.specs.declared.refusals.Refusal.{Refusal}
-use Rattle.machine.specs.Machine.{Rest, nothing, part, Machine, fresh, withStep, headOf, tailOf}
+use Rattle.machine.specs.Machine.{Rest, nothing, part, Machine, fresh, withStep, headOf, placeOf, tailOf}
 use Rattle.turns.specs.Steps.{Next, goesOn, enters, ends, stops, fails, doStatement}
 use Rattle.runner.specs.Run.{
   endsWith,
@@ -70,7 +70,7 @@ running-begun zero program (at m lines p) h = refl
 running-begun (suc n) program (finished r) h = h
 running-begun (suc n) program (at m lines p) h =
     running-begun n program (turn program m lines p)
-    (following-begun (lineNumberOf lines) (doStatement program (headOf p) (withStep m) (record { lines = lines; rest = tailOf p })))
+    (following-begun (lineNumberOf lines) (doStatement program (placeOf p) (headOf p) (withStep m) (record { lines = lines; rest = tailOf p })))
 
 -- ---- a whole run
 
