@@ -80,28 +80,28 @@ abbrev elses : spec.Position → Part → Part → ℕ → spec.Machine → step
 elses after p q w n = branch n (after .lines) (cond (eqb w 0) q p)
 
 -- what is to be shown of it without ELSE, and with it
-abbrev IfTurns : (text line : List ℕ) (m : Machine) (input space room : List ℕ) (c : Formula) (p : Part) (u : Scanned) (after : spec.Position)
+abbrev IfTurns : (text line : List ℕ) (at : ℕ) (m : Machine) (input space room : List ℕ) (c : Formula) (p : Part) (u : Scanned) (after : spec.Position)
     (r : Turned) (space′ : List ℕ) → Type 0
-IfTurns text line m input space room c p u after r space′ =
+IfTurns text line at m input space room c p u after r space′ =
     (isKeyword Else (u .token) ≡ false
-    → Turns text m input space room anyRecords (λ n. doStatement text (ifThen c p) n after) r space′ room)
+    → Turns text m input space room anyRecords (λ n. doStatement text at (ifThen c p) n after) r space′ room)
     × (isKeyword Else (u .token) ≡ true → (q : Part) (v : Scanned) → partOf line true (u .next .0) ≡ goodPart q v
-    → Turns text m input space room anyRecords (λ n. doStatement text (ifElse c p q) n after) r space′ room)
+    → Turns text m input space room anyRecords (λ n. doStatement text at (ifElse c p q) n after) r space′ room)
 
 module _ {text line input space room space′ : List ℕ} {here : Place} {m : Machine} {c : Formula} {t : Scanned} {p : Part} {u : Scanned}
-    (after : spec.Position) (st : Standing text line here) (sound : Sound m input space room) (lines : after .lines ≡ linesAt text (here .0))
+    (at : ℕ) (after : spec.Position) (st : Standing text line here) (sound : Sound m input space room) (lines : after .lines ≡ linesAt text (here .0))
     (reads : partOf line true (t .next .0) ≡ goodPart p u) where
   pub if-fault : {e : Error} → Valued m c t space (Fault e) space′
-      → IfTurns text line m input space room c p u after (turnedTo m (next.Fails e)) space′
+      → IfTurns text line at m input space room c p u after (turnedTo m (next.Fails e)) space′
   if-fault v = (λ _. turns-fault (thens after p) sound v, λ _ q w _. turns-fault (elses after p q) sound v)
 
   pub if-text : {len : ℕ} {x : Scanned} → Valued m c t space (Text len x) space′
-      → IfTurns text line m input space room c p u after (turnedTo m (next.Fails TypeMismatch)) space′
+      → IfTurns text line at m input space room c p u after (turnedTo m (next.Fails TypeMismatch)) space′
   if-text v = (λ _. turns-text (thens after p) sound v, λ _ q w _. turns-text (elses after p q) sound v)
 
   module _ {w : ℕ} {x : Scanned} (v : Valued m c t space (Whole w x) space′) where
     -- not 0: the first part
-    pub if-true : (w ≡ 0 → ⊥) → IfTurns text line m input space room c p u after (takenTurn m here (way.At (x .next))) space′
+    pub if-true : (w ≡ 0 → ⊥) → IfTurns text line at m input space room c p u after (takenTurn m here (way.At (x .next))) space′
     if-true z =
         let k = sound-kept (v .framed .long) sound in
         rw (v .goes) (
@@ -110,7 +110,7 @@ module _ {text line input space room space′ : List ℕ} {here : Place} {m : Ma
         )
 
     -- 0: the other, or none
-    pub if-false : w ≡ 0 → IfTurns text line m input space room c p u after (takenTurn m here (elseAt u)) space′
+    pub if-false : w ≡ 0 → IfTurns text line at m input space room c p u after (takenTurn m here (elseAt u)) space′
     if-false z =
         let k = sound-kept (v .framed .long) sound in (
           λ f. rw f (turns-whole (thens after p) sound v (turns-over st k (after .lines) lines (λ n. rw (eq-eqb w 0 z)))),

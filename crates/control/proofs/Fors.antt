@@ -225,15 +225,15 @@ module _ {text : List ℕ} {m : Machine} {input space room : List ℕ} {entry : 
 
 -- ---- the whole statement
 
-module _ {text : List ℕ} {m : Machine} {input space room : List ℕ} {told : List Record → Type 0} (v : Variable) (a b c : Formula)
+module _ {text : List ℕ} {m : Machine} {input space room : List ℕ} {told : List Record → Type 0} (at : ℕ) (v : Variable) (a b c : Formula)
     (after : spec.Position) where
   -- the name's type is tested first
   pub for-text : v .kind ≡ kind.Text → Sound m input space room
-      → Turns text m input space room told (λ n. doStatement text (tree.for v a b c) n after) (turnedTo m (next.Fails TypeMismatch)) space room
+      → Turns text m input space room told (λ n. doStatement text at (tree.for v a b c) n after) (turnedTo m (next.Fails TypeMismatch)) space room
   for-text e h =
       turns-fails (leaves-unprinted h refl refl refl) (λ rs l t n s. record { machine = n; is = rw e; same = s })
 
   pub for-whole : {space′ : List ℕ} {r : Turned} → v .kind ≡ kind.Whole
       → Turns text m input space room told (λ n. workedWhole a n (limitsFrom (v .telling) after b c)) r space′ room
-      → Turns text m input space room told (λ n. doStatement text (tree.for v a b c) n after) r space′ room
+      → Turns text m input space room told (λ n. doStatement text at (tree.for v a b c) n after) r space′ room
   for-whole e t = turns-as (λ n. rw e) t

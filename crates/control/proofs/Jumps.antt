@@ -117,17 +117,17 @@ module _ {text : List ℕ} {m : Machine} {input space room : List ℕ} (number :
       turns-fails (leaves-unprinted sound refl refl refl)
       (λ rs l t n s. record { machine = n; is = rw (found-none text number e); same = s })
 
-  pub goto-found : (after : spec.Position) {span : LineSpan} → findLine text number ≡ Is span
-      → Turns text m input space room anyRecords (λ n. doStatement text (tree.goto number) n after) (turnedTo m (next.Enter (span .place))) space room
-  goto-found after {span} e =
+  pub goto-found : (at : ℕ) (after : spec.Position) {span : LineSpan} → findLine text number ≡ Is span
+      → Turns text m input space room anyRecords (λ n. doStatement text at (tree.goto number) n after) (turnedTo m (next.Enter (span .place))) space room
+  goto-found at after {span} e =
       let f = found-begins text number e in
       turns-enters (leaves-unprinted sound refl refl refl) (f .begins)
       (λ rs l t n s. record { machine = n; is = rw (← f .lines, f .begins .here); same = s })
 
-  pub gosub-found : (back : Position) {span : LineSpan} → Positioned text back → findLine text number ≡ Is span
-      → Turns text m input space room anyRecords (λ n. doStatement text (tree.gosub number) n (positionOf text back))
+  pub gosub-found : (at : ℕ) (back : Position) {span : LineSpan} → Positioned text back → findLine text number ≡ Is span
+      → Turns text m input space room anyRecords (λ n. doStatement text at (tree.gosub number) n (positionOf text back))
       (pushedTurn m (record { loops = false; name = blankRecord .name; limit = 0; step = 0; back = back }) (next.Enter (span .place))) space room
-  gosub-found back {span} p e =
+  gosub-found at back {span} p e =
       let f = found-begins text number e in
       turns-pushed _ (next.Enter (span .place)) (λ o. enters o (linesAt text (span .place .0))) sound refl refl refl p
       (λ o S s. (f .begins, (refl, s)))
@@ -135,8 +135,8 @@ module _ {text : List ℕ} {m : Machine} {input space room : List ℕ} (number :
 
 -- ---- the nearest GOSUB's record
 
-module _ {text : List ℕ} {m : Machine} {input space room : List ℕ} {entry : Record} (after : spec.Position) (sound : Sound m input space room) where
-  pub back-missing : Turns text m input space room (Told sought.Call (m .depth) found.None entry) (λ n. doStatement text tree.return n after)
+module _ {text : List ℕ} {m : Machine} {input space room : List ℕ} {entry : Record} (at : ℕ) (after : spec.Position) (sound : Sound m input space room) where
+  pub back-missing : Turns text m input space room (Told sought.Call (m .depth) found.None entry) (λ n. doStatement text at tree.return n after)
       (turnedTo m (next.Fails ReturnWithoutGosub)) space room
   unfolding returned
   back-missing =
@@ -150,7 +150,7 @@ module _ {text : List ℕ} {m : Machine} {input space room : List ℕ} {entry : 
       })
 
   pub back-found : (slot : ℕ) → slot < m .depth
-      → Turns text m input space room (Told sought.Call (m .depth) (found.At slot) entry) (λ n. doStatement text tree.return n after)
+      → Turns text m input space room (Told sought.Call (m .depth) (found.At slot) entry) (λ n. doStatement text at tree.return n after)
       (turnedTo (withDepth m slot) (next.On (entry .back))) space room
   unfolding returned
   back-found slot b =

@@ -32,16 +32,16 @@ use Rattle.turns.proofs.Doing.{any-told, fails-turn}
 use Rattle.control.specs.bridge.Answers.{Counts}
 
 -- NEXT with a string's name
-pub next-text : {text : List ℕ} {m : Machine} {input space room : List ℕ} → Sound m input space room → (told : List Record → Type 0) (v : tree.Variable) (after : spec.Position) → v .kind ≡ kind.Text
-    → Turns text m input space room told (λ n. doStatement text (tree.nextOf v) n after) (turnedTo m (next.Fails TypeMismatch)) space room
-next-text sound told v after e = simp e (fails-turn sound told TypeMismatch)
+pub next-text : {text : List ℕ} {m : Machine} {input space room : List ℕ} → Sound m input space room → (told : List Record → Type 0) (at : ℕ) (v : tree.Variable) (after : spec.Position) → v .kind ≡ kind.Text
+    → Turns text m input space room told (λ n. doStatement text at (tree.nextOf v) n after) (turnedTo m (next.Fails TypeMismatch)) space room
+next-text sound told at v after e = simp e (fails-turn sound told TypeMismatch)
 
 -- and with a number's
-pub next-whole : {text : List ℕ} {m : Machine} {input space room : List ℕ} {told : List Record → Type 0} {r : Turned} (v : tree.Variable) (after : spec.Position)
+pub next-whole : {text : List ℕ} {m : Machine} {input space room : List ℕ} {told : List Record → Type 0} {r : Turned} (at : ℕ) (v : tree.Variable) (after : spec.Position)
     → v .kind ≡ kind.Whole
     → Turns text m input space room told (λ n. nextOn n (spec.sought (isSought (sought.LoopOf (v .telling))) (n .records)) after) r space room
-    → Turns text m input space room told (λ n. doStatement text (tree.nextOf v) n after) r space room
-next-whole v after e t = simp e t
+    → Turns text m input space room told (λ n. doStatement text at (tree.nextOf v) n after) r space room
+next-whole at v after e t = simp e t
 
 -- a FOR that reads has what it needs
 pub for-counts : (s : List ℕ) → length s ≤ 255 → (w : Scanned) (name : Name) → Begins (forAt s (variableOf s name) (after s w)) → Counts s name (after s w)
@@ -49,26 +49,26 @@ for-counts s short w name =
     by-for (λ b. Begins b → Counts s name (after s w)) (λ x. absurd x) s (after s w) (variableOf s name)
     (λ a b c u e _. record { short = short; scans = record { from = w .next; is = refl }; start = a; limit = b; step = c; end = u; is = e })
 
-module _ (text line : List ℕ) (here : Place) (m : Machine) (found : Found) (entry : Record) (input space room : List ℕ) (r : Turned)
+module _ (text line : List ℕ) (here : Place) (at : ℕ) (m : Machine) (found : Found) (entry : Record) (input space room : List ℕ) (r : Turned)
     (space′ room′ : List ℕ) where
   abbrev D : Begun → Type 0
-  D b = Does text line here m found entry input space room r space′ room′ b
+  D b = Does text line here at m found entry input space room r space′ room′ b
 
   pub loop-does : (t : Scanned) (name : Name) → t .token ≡ Named name
       → ((a b c : tree.Formula) (u : Scanned) → Positioned text (afterOf here u)
       → forAt line (variableOf line name) (after line t) ≡ done (tree.for (variableOf line name) a b c) u
       → Turns text m input space room (Told (sought.LoopOf (variableOf line name .telling)) (m .depth) found entry)
-      (λ n. doStatement text (tree.for (variableOf line name) a b c) n (positionOf text (afterOf here u))) r space′ room′)
+      (λ n. doStatement text at (tree.for (variableOf line name) a b c) n (positionOf text (afterOf here u))) r space′ room′)
       → D (loopAt line t)
   loop-does t name w h = rw w (by-for D tt line (after line t) (variableOf line name) (λ a b c u e p. h a b c u p e))
 
   pub jump-does : (t : Scanned) (l : LineNumber) → lineOf (t .token) ≡ Names l
-      → ((after : spec.Position) → Turns text m input space room anyRecords (λ n. doStatement text (tree.goto l) n after) r space′ room′)
+      → ((after : spec.Position) → Turns text m input space room anyRecords (λ n. doStatement text at (tree.goto l) n after) r space′ room′)
       → D (jumpAt line t)
   jump-does t l e h = rw (on-line (t .token) (λ l. done (tree.goto l) (after line t)) bad e) (λ p. any-told (h (positionOf text (afterOf here (after line t)))))
 
   pub call-does : (t : Scanned) (l : LineNumber) → lineOf (t .token) ≡ Names l
       → (Positioned text (afterOf here (after line t)) → Turns text m input space room anyRecords
-      (λ n. doStatement text (tree.gosub l) n (positionOf text (afterOf here (after line t)))) r space′ room′)
+      (λ n. doStatement text at (tree.gosub l) n (positionOf text (afterOf here (after line t)))) r space′ room′)
       → D (callAt line t)
   call-does t l e h = rw (on-line (t .token) (λ l. done (tree.gosub l) (after line t)) bad e) (λ p. any-told (h p))

@@ -62,13 +62,13 @@ pub fn choose(
 ) -> Turned
     requires { ⌜ Formed (now line) first × Settled machine (now space) ⌝ }
     ensures { λ r. ⌜
-        ((text input room : List ℕ) (c : Formula) (way : Scanned) (p : Part) (u : Scanned) (after : spec.Position)
+        ((text input room : List ℕ) (at : ℕ) (c : Formula) (way : Scanned) (p : Part) (u : Scanned) (after : spec.Position)
         → Sound machine input (now (space .entry)) room → Standing text (now (line .entry)) here → after .lines ≡ linesAt text (here .0)
         → formulaOf (now (line .entry)) first ≡ good c way → partOf (now (line .entry)) true (way .next .0) ≡ goodPart p u
         → (isKeyword Else (u .token) ≡ false
-        → Turns text machine input (now (space .entry)) room anyRecords (λ n. doStatement text (ifThen c p) n after) r (now (space .exit)) room)
+        → Turns text machine input (now (space .entry)) room anyRecords (λ n. doStatement text at (ifThen c p) n after) r (now (space .exit)) room)
         × (isKeyword Else (u .token) ≡ true → (q : Part) (v : Scanned) → partOf (now (line .entry)) true (u .next .0) ≡ goodPart q v
-        → Turns text machine input (now (space .entry)) room anyRecords (λ n. doStatement text (ifElse c p q) n after) r (now (space .exit)) room))
+        → Turns text machine input (now (space .entry)) room anyRecords (λ n. doStatement text at (ifElse c p q) n after) r (now (space .exit)) room))
         ⌝ }
 {
     match value(line, first, machine, space) {

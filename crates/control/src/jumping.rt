@@ -27,8 +27,8 @@ use words::Scanned;
 // A missing line is 8.
 pub fn goto(text: &[u8], number: LineNumber, machine: Machine) -> Turned
     ensures { λ r. ⌜
-        ((input space room : List ℕ) (after : spec.Position) → Sound machine input space room
-        → Turns (now (text .entry)) machine input space room anyRecords (λ n. doStatement (now (text .entry)) (tree.goto number) n after) r space room)
+        ((input space room : List ℕ) (at : ℕ) (after : spec.Position) → Sound machine input space room
+        → Turns (now (text .entry)) machine input space room anyRecords (λ n. doStatement (now (text .entry)) at (tree.goto number) n after) r space room)
         ⌝ }
 {
     match find_line(text, number) {
@@ -67,9 +67,9 @@ pub fn gosub(
     machine: Machine,
 ) -> Turned
     ensures { λ r. ⌜
-        ((input space room : List ℕ) → Sound machine input space room → Positioned (now (text .entry)) (afterOf here ahead)
+        ((input space room : List ℕ) (at : ℕ) → Sound machine input space room → Positioned (now (text .entry)) (afterOf here ahead)
         → Turns (now (text .entry)) machine input space room anyRecords
-        (λ n. doStatement (now (text .entry)) (tree.gosub number) n (positionOf (now (text .entry)) (afterOf here ahead))) r space room)
+        (λ n. doStatement (now (text .entry)) at (tree.gosub number) n (positionOf (now (text .entry)) (afterOf here ahead))) r space room)
         ⌝ }
 {
     match find_line(text, number) {
@@ -88,8 +88,8 @@ pub fn gosub(
 pub fn come_back(machine: Machine, found: Found, entry: Record) -> Turned
     requires { ⌜ FoundBelow (machine .depth) found ⌝ }
     ensures { λ r. ⌜
-        ((text input space room : List ℕ) (after : spec.Position) → Sound machine input space room
-        → Turns text machine input space room (Told sought.Call (machine .depth) found entry) (λ n. doStatement text tree.return n after) r space room)
+        ((text input space room : List ℕ) (at : ℕ) (after : spec.Position) → Sound machine input space room
+        → Turns text machine input space room (Told sought.Call (machine .depth) found entry) (λ n. doStatement text at tree.return n after) r space room)
         ⌝ }
 {
     match found {

@@ -34,8 +34,8 @@ pub fn count(
 ) -> Turned
     requires { ⌜ Begins (loopAt (now line) target) × ((length (now line) ≤ 255) × (Settled machine (now space) × FoundBelow (machine .depth) found)) ⌝ }
     ensures { λ r. ⌜
-        ((text input room : List ℕ) (entry : Record) → Sound machine input (now (space .entry)) room
-        → Does text (now (line .entry)) here machine found entry input (now (space .entry)) room r (now (space .exit)) room (loopAt (now (line .entry)) target))
+        ((text input room : List ℕ) (at : ℕ) (entry : Record) → Sound machine input (now (space .entry)) room
+        → Does text (now (line .entry)) here at machine found entry input (now (space .entry)) room r (now (space .exit)) room (loopAt (now (line .entry)) target))
         ⌝ }
 {
     let token = target.token;
@@ -57,8 +57,8 @@ pub fn next_loop(
 ) -> Turned
     requires { ⌜ FoundBelow (machine .depth) found ⌝ }
     ensures { λ r. ⌜
-        ((text input space room : List ℕ) → Sound machine input space room
-        → Does text (now (line .entry)) here machine found entry input space room r space room (nextAt (now (line .entry)) target))
+        ((text input space room : List ℕ) (at : ℕ) → Sound machine input space room
+        → Does text (now (line .entry)) here at machine found entry input space room r space room (nextAt (now (line .entry)) target))
         ⌝ }
 {
     let token = target.token;
@@ -76,8 +76,8 @@ pub fn next_loop(
 
 pub fn jump(text: &[u8], target: Scanned, machine: Machine) -> Turned
     ensures { λ r. ⌜
-        ((line input space room : List ℕ) (here : Place) (found : Found) (entry : Record) → Sound machine input space room
-        → Does (now (text .entry)) line here machine found entry input space room r space room (jumpAt line target))
+        ((line input space room : List ℕ) (here : Place) (at : ℕ) (found : Found) (entry : Record) → Sound machine input space room
+        → Does (now (text .entry)) line here at machine found entry input space room r space room (jumpAt line target))
         ⌝ }
 {
     let token = target.token;
@@ -89,8 +89,8 @@ pub fn jump(text: &[u8], target: Scanned, machine: Machine) -> Turned
 
 pub fn call(text: &[u8], line: &[u8], here: Place, target: Scanned, machine: Machine) -> Turned
     ensures { λ r. ⌜
-        ((input space room : List ℕ) (found : Found) (entry : Record) → Sound machine input space room
-        → Does (now (text .entry)) (now (line .entry)) here machine found entry input space room r space room (callAt (now (line .entry)) target))
+        ((input space room : List ℕ) (at : ℕ) (found : Found) (entry : Record) → Sound machine input space room
+        → Does (now (text .entry)) (now (line .entry)) here at machine found entry input space room r space room (callAt (now (line .entry)) target))
         ⌝ }
 {
     let token = target.token;

@@ -182,11 +182,11 @@ pub fn for_loop(
 ) -> Turned
     requires { ⌜ Counts (now line) name equals × (Settled machine (now space) × FoundBelow (machine .depth) found) ⌝ }
     ensures { λ r. ⌜
-        ((text input room : List ℕ) (a b c : Formula) (u : Scanned) → Sound machine input (now (space .entry)) room → Positioned text (afterOf here u)
+        ((text input room : List ℕ) (at : ℕ) (a b c : Formula) (u : Scanned) → Sound machine input (now (space .entry)) room → Positioned text (afterOf here u)
         → forAt (now (line .entry)) (variableOf (now (line .entry)) name) equals ≡ done (tree.for (variableOf (now (line .entry)) name) a b c) u
         → (entry : Record) → Turns text machine input (now (space .entry)) room
         (Told (LoopOf (tellingOf (nameBytes (now (line .entry)) name))) (machine .depth) found entry)
-        (λ n. doStatement text (tree.for (variableOf (now (line .entry)) name) a b c) n (positionOf text (afterOf here u))) r (now (space .exit)) room)
+        (λ n. doStatement text at (tree.for (variableOf (now (line .entry)) name) a b c) n (positionOf text (afterOf here u))) r (now (space .exit)) room)
         ⌝ }
 {
     let kind = name.kind;

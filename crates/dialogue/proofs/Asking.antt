@@ -267,11 +267,11 @@ module _ (program : List ℕ) {m : Machine} {input space room : List ℕ} (sound
 
 -- ---- the text is printed first
 
-module _ (program : List ℕ) {m : Machine} {input space room : List ℕ} (sound : Sound m input space room) (b : List ℕ) (v : Variable)
+module _ (program : List ℕ) {m : Machine} {input space room : List ℕ} (sound : Sound m input space room) (at : ℕ) (b : List ℕ) (v : Variable)
     (after : spec.Position) where
   -- there is no room for it
   pub asks-full : printedAs (m .printer) (length room) b .ok ≡ false
-      → Turns program m input space room anyRecords (λ n. doStatement program (lineInput b v) n after) (turnedTo m (next.Fails OutputFull))
+      → Turns program m input space room anyRecords (λ n. doStatement program at (lineInput b v) n after) (turnedTo m (next.Fails OutputFull))
       space (copied room (m .printer .written) b)
   asks-full e =
       rw (copied-past room (m .printer .written) b (not-printed (m .printer) room b e))
@@ -292,7 +292,7 @@ module _ (program : List ℕ) {m : Machine} {input space room : List ℕ} (sound
       → m′ ≡ withPrinter m (printedAs (m .printer) (length room) b .printer) → room′ ≡ copied room (m .printer .written) b
       → {r : Turned} {space′ : List ℕ}
       → (Sound m′ input space room′ → Turns program m′ input space room′ anyRecords (takesLine v after) r space′ room′)
-      → Turns program m input space room anyRecords (λ n. doStatement program (lineInput b v) n after) r space′ room′
+      → Turns program m input space room anyRecords (λ n. doStatement program at (lineInput b v) n after) r space′ room′
   asks-on e f g t =
       let l = printed-leaves-it {x = next.Ends} in
       rw g

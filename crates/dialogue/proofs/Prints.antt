@@ -131,10 +131,10 @@ module _ {line : List ℕ} {all : List Item} {end : Scanned} {m : Machine} {spac
     -- an error ends the statement
     pub prints-fails : {e : Error} {space″ room″ : List ℕ}
         → Shows m′ (a .first) (a .next) space′ room′ (answer.Fault e) space″ room″
-        → (text input : List ℕ) (here : Place) → Sound m input space room
-        → Turns text m input space room anyRecords (λ n. doStatement text (tree.print all) n (positionOf text (afterOf here end)))
+        → (text input : List ℕ) (here : Place) (at : ℕ) → Sound m input space room
+        → Turns text m input space room anyRecords (λ n. doStatement text at (tree.print all) n (positionOf text (afterOf here end)))
         (turnedTo m′ (next.Fails e)) space″ room″
-    prints-fails s text input here sound =
+    prints-fails s text input here at sound =
         turns-fails
         (printed-leaves (printed-more (h .printed) (m′ .printer) (s .spaceLong) (s .roomLong) (s .fitting) (s .more) (s .beyond)) sound)
         (λ rs l t n same.
@@ -143,11 +143,11 @@ module _ {line : List ℕ} {all : List Item} {end : Scanned} {m : Machine} {spac
         (λ o. printItems (isSeparator (item .token)) (a .others) o (λ o. goesOn o (positionOf text (afterOf here end))))))
 
   -- none is left: without a final `,` or `;` the line ends
-  pub prints-ends : endsStatement (item .token) ≡ true → (text input : List ℕ) (here : Place) → Sound m input space room
+  pub prints-ends : endsStatement (item .token) ≡ true → (text input : List ℕ) (here : Place) (at : ℕ) → Sound m input space room
       → Positioned text (afterOf here end)
-      → Turns text m input space room anyRecords (λ n. doStatement text (tree.print all) n (positionOf text (afterOf here end)))
+      → Turns text m input space room anyRecords (λ n. doStatement text at (tree.print all) n (positionOf text (afterOf here end)))
       (endedTurn m′ quiet (length room′) here item) space′ (endedRoom (m′ .printer) quiet room′)
-  prints-ends e text input here sound p =
+  prints-ends e text input here at sound p =
       let z = no-items line item (h .reads) e in
       let go : spec.Machine → step.Next = λ o. goesOn o (positionOf text (afterOf here end)) in
       let led : Led text m input space room anyRecords (λ n. printItems false all n go) m′ space′ room′

@@ -107,10 +107,10 @@ fn prompt(
 ) -> Turned
     requires { ⌜ Sound machine (now input) (now space) (now room) ⌝ }
     ensures { λ r. ⌜
-        ((program : List ℕ) (v : Variable) (u : Scanned) → Positioned program (afterOf here u)
+        ((program : List ℕ) (at : ℕ) (v : Variable) (u : Scanned) → Positioned program (afterOf here u)
         → targetAt (now (line .entry)) (now (text .entry)) target ≡ done (tree.lineInput (now (text .entry)) v) u
         → Turns program machine (now (input .entry)) (now (space .entry)) (now (room .entry)) anyRecords
-        (λ n. doStatement program (tree.lineInput (now (text .entry)) v) n (positionOf program (afterOf here u))) r (now (space .exit)) (now (room .exit)))
+        (λ n. doStatement program at (tree.lineInput (now (text .entry)) v) n (positionOf program (afterOf here u))) r (now (space .exit)) (now (room .exit)))
         ⌝ }
 {
     let printed = write(machine.printer, room, text);
@@ -191,9 +191,9 @@ pub fn line_input(
 ) -> Turned
     requires { ⌜ Asks (now line) first × Sound machine (now input) (now space) (now room) ⌝ }
     ensures { λ r. ⌜
-        ((text prompt : List ℕ) (v : Variable) (u : Scanned) → Positioned text (afterOf here u) → inputAt (now (line .entry)) first ≡ done (tree.lineInput prompt v) u
+        ((text prompt : List ℕ) (at : ℕ) (v : Variable) (u : Scanned) → Positioned text (afterOf here u) → inputAt (now (line .entry)) first ≡ done (tree.lineInput prompt v) u
         → Turns text machine (now (input .entry)) (now (space .entry)) (now (room .entry)) anyRecords
-        (λ n. doStatement text (tree.lineInput prompt v) n (positionOf text (afterOf here u))) r (now (space .exit)) (now (room .exit)))
+        (λ n. doStatement text at (tree.lineInput prompt v) n (positionOf text (afterOf here u))) r (now (space .exit)) (now (room .exit)))
         ⌝ }
 {
     let asked = asked_at(line, first);

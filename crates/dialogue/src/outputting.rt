@@ -185,10 +185,10 @@ pub fn print(
 ) -> Turned
     requires { ⌜ Itemed (now line) first × (Settled machine (now space) × Fitting (machine .printer) (now room)) ⌝ }
     ensures { λ r. ⌜
-        ((text input : List ℕ) (is : List Item) (u : Scanned) → Sound machine input (now (space .entry)) (now (room .entry)) → Positioned text (afterOf here u)
+        ((text input : List ℕ) (at : ℕ) (is : List Item) (u : Scanned) → Sound machine input (now (space .entry)) (now (room .entry)) → Positioned text (afterOf here u)
         → itemsOf (now (line .entry)) first ≡ items is u
         → Turns text machine input (now (space .entry)) (now (room .entry)) anyRecords
-        (λ n. doStatement text (tree.print is) n (positionOf text (afterOf here u))) r (now (space .exit)) (now (room .exit)))
+        (λ n. doStatement text at (tree.print is) n (positionOf text (afterOf here u))) r (now (space .exit)) (now (room .exit)))
         ⌝ }
 {
     let mut m = machine;

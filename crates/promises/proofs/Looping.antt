@@ -26,7 +26,7 @@ use Rattle.variables.specs.Strings.{Value, whole, text, Outcome, value, fault, 
 use Rattle.variables.specs.Variables.{NumberVariable, wordOf, setNumber, hasNumber, numbersFull, stringsFull}
 use Rattle.operators.specs.Values.{valueOf}
 use Rattle.machine.specs.Machine.{Position, Record, loop, call, Machine, mostRecords, fresh, roomOf, withRecords, withStep, noting, write, commaBlanks, Search, missing, found, sought, below, passed}
-use Rattle.statements.specs.Parts.{Rest, nothing, part, headOf, tailOf}
+use Rattle.statements.specs.Parts.{Rest, nothing, part, headOf, tailOf, placeOf}
 use Rattle.turns.specs.Steps.{
   Next,
   goesOn,
@@ -225,32 +225,32 @@ input-made (b ∷ s) m v go r k =
     by-choice NextMade (ltb 254 (length (t .bytes))) tt
     (worked-made _ (make (t .bytes) _) _ r (λ c n q. filled-made (v .kind) (v .telling) (t .bytes) n go q k))
 
-statement-made : (program : List ℕ) (x : Statement) (m : Machine) (after : Position) → MachineMade m → NextMade (doStatement program x m after)
-statement-made program tree.empty m after r = r
-statement-made program (tree.assign v f) m after r =
+statement-made : (program : List ℕ) (place : ℕ) (x : Statement) (m : Machine) (after : Position) → MachineMade m → NextMade (doStatement program place x m after)
+statement-made program place tree.empty m after r = r
+statement-made program place (tree.assign v f) m after r =
     worked-made m (valueOf f (m .variables) (roomOf m)) _ r (λ x n q. assigned-made (v .kind) (v .telling) x n _ q (λ o s. s))
-statement-made program (tree.print is) m after r = print-made false is m _ r (λ n q. q)
-statement-made program (tree.ifThen c p) m after r = whole-worked c m _ r (λ w n q. by-choice NextMade (eqb w 0) q q)
-statement-made program (tree.ifElse c p o) m after r = whole-worked c m _ r (λ w n q. q)
-statement-made program (tree.goto l) m after r = line-made m (fromNumber (l .0) (linesOf program)) (λ ls. enters m ls) (λ from. r)
-statement-made program (tree.gosub l) m after r =
+statement-made program place (tree.print is) m after r = print-made false is m _ r (λ n q. q)
+statement-made program place (tree.ifThen c p) m after r = whole-worked c m _ r (λ w n q. by-choice NextMade (eqb w 0) q q)
+statement-made program place (tree.ifElse c p o) m after r = whole-worked c m _ r (λ w n q. q)
+statement-made program place (tree.goto l) m after r = line-made m (fromNumber (l .0) (linesOf program)) (λ ls. enters m ls) (λ from. r)
+statement-made program place (tree.gosub l) m after r =
     line-made m (fromNumber (l .0) (linesOf program)) (λ ls. pushed m (call after) (λ n. enters n ls))
     (λ from. pushed-made m (call after) (λ n. enters n from) r tt (λ n q. q))
-statement-made program tree.return m after r = returned-made (m .records) m r
-statement-made program (tree.for v from to by) m after r =
+statement-made program place tree.return m after r = returned-made (m .records) m r
+statement-made program place (tree.for v from to by) m after r =
     by-choice NextMade (isWholeKind (v .kind))
     (whole-worked from m _ r λ a n rn.
     whole-worked to n _ rn λ b o ro.
     whole-worked by o _ ro λ s q rq.
     number-stored q (v .telling) a (begun (v .telling) b s after) rq (begun-made (v .telling) b s after))
     tt
-statement-made program tree.next m after r = next-made (λ u. true) m after r
-statement-made program (tree.nextOf v) m after r =
+statement-made program place tree.next m after r = next-made (λ u. true) m after r
+statement-made program place (tree.nextOf v) m after r =
     by-choice NextMade (isWholeKind (v .kind)) (next-made (λ u. alike u (v .telling)) m after r) tt
-statement-made program (tree.lineInput t v) m after r = written-made m t _ r (λ n q. input-made (n .input) n v _ q (λ o s. s))
-statement-made program tree.end m after r = tt
-statement-made program tree.stop m after r = tt
-statement-made program tree.remark m after r = r
+statement-made program place (tree.lineInput t v) m after r = written-made m t _ r (λ n q. input-made (n .input) n v _ q (λ o s. s))
+statement-made program place tree.end m after r = tt
+statement-made program place tree.stop m after r = tt
+statement-made program place tree.remark m after r = r
 
 -- ---- where a run stands
 
@@ -280,9 +280,9 @@ stands-made zero program s h = h
 stands-made (suc n) program (finished r) h = tt
 stands-made (suc n) program (at m lines p) h =
     let after : Position = record { lines = lines; rest = tailOf p } in
-    let next = doStatement program (headOf p) (withStep m) after in
+    let next = doStatement program (placeOf p) (headOf p) (withStep m) after in
     stands-made n program (turn program m lines p)
-    (following-made (lineNumberOf lines) next (statement-made program (headOf p) (withStep m) after h))
+    (following-made (lineNumberOf lines) next (statement-made program (placeOf p) (headOf p) (withStep m) after h))
 
 -- ---- NEXT
 
@@ -312,28 +312,28 @@ searched-has-room : (test : Telling → Bool) (m : Machine) (after : Position) �
 searched-has-room test m after r =
     found-has-room m (sought test (m .records)) after (sought-made (m .variables .numbers) test (m .records) r)
 
-statement-has-room : (program : List ℕ) (x : Statement) (m : Machine) (after : Position) → isNext x ≡ true → MachineMade m
-    → HasRoom (doStatement program x m after)
-statement-has-room program tree.next m after e r = searched-has-room (λ u. true) m after r
-statement-has-room program (tree.nextOf v) m after e r =
+statement-has-room : (program : List ℕ) (place : ℕ) (x : Statement) (m : Machine) (after : Position) → isNext x ≡ true → MachineMade m
+    → HasRoom (doStatement program place x m after)
+statement-has-room program place tree.next m after e r = searched-has-room (λ u. true) m after r
+statement-has-room program place (tree.nextOf v) m after e r =
     by-choice HasRoom (isWholeKind (v .kind)) (searched-has-room (λ u. alike u (v .telling)) m after r) refl
-statement-has-room program tree.empty m after e r = absurd (false≢true e)
-statement-has-room program (tree.assign v f) m after e r = absurd (false≢true e)
-statement-has-room program (tree.print is) m after e r = absurd (false≢true e)
-statement-has-room program (tree.ifThen c p) m after e r = absurd (false≢true e)
-statement-has-room program (tree.ifElse c p o) m after e r = absurd (false≢true e)
-statement-has-room program (tree.goto l) m after e r = absurd (false≢true e)
-statement-has-room program (tree.gosub l) m after e r = absurd (false≢true e)
-statement-has-room program tree.return m after e r = absurd (false≢true e)
-statement-has-room program (tree.for v from to by) m after e r = absurd (false≢true e)
-statement-has-room program (tree.lineInput t v) m after e r = absurd (false≢true e)
-statement-has-room program tree.end m after e r = absurd (false≢true e)
-statement-has-room program tree.stop m after e r = absurd (false≢true e)
-statement-has-room program tree.remark m after e r = absurd (false≢true e)
+statement-has-room program place tree.empty m after e r = absurd (false≢true e)
+statement-has-room program place (tree.assign v f) m after e r = absurd (false≢true e)
+statement-has-room program place (tree.print is) m after e r = absurd (false≢true e)
+statement-has-room program place (tree.ifThen c p) m after e r = absurd (false≢true e)
+statement-has-room program place (tree.ifElse c p o) m after e r = absurd (false≢true e)
+statement-has-room program place (tree.goto l) m after e r = absurd (false≢true e)
+statement-has-room program place (tree.gosub l) m after e r = absurd (false≢true e)
+statement-has-room program place tree.return m after e r = absurd (false≢true e)
+statement-has-room program place (tree.for v from to by) m after e r = absurd (false≢true e)
+statement-has-room program place (tree.lineInput t v) m after e r = absurd (false≢true e)
+statement-has-room program place tree.end m after e r = absurd (false≢true e)
+statement-has-room program place tree.stop m after e r = absurd (false≢true e)
+statement-has-room program place tree.remark m after e r = absurd (false≢true e)
 
 pub next-has-room : nextHasRoom
 next-has-room program input lent statements m lines p stands e =
     let begins = fresh input lent in
     let made : StandingMade (at m lines p) =
     rw stands at (stands-made statements program (entering begins (linesOf program)) (entered-made (enter (linesOf program)) begins (linesOf program) tt)) in
-    statement-has-room program (headOf p) (withStep m) (record { lines = lines; rest = tailOf p }) e made
+    statement-has-room program (placeOf p) (headOf p) (withStep m) (record { lines = lines; rest = tailOf p }) e made

@@ -14,6 +14,7 @@ use Rattle.checker.specs.Check as check
 use Rattle.checker.specs.Check.{firstFault, checkOf}
 use Rattle.checker.specs.declared.checking.Verdict.the-variants.{Passed}
 use Rattle.machine.specs.Machine.{Position, Machine, Lent, fresh, withStep}
+use Rattle.statements.specs.Parts.{placeOf}
 use Rattle.statements.specs.Parts.{Rest, nothing, part, headOf, tailOf}
 use Rattle.turns.specs.Steps.{Next, goesOn, enters, ends, stops, fails, doStatement}
 use Rattle.runner.specs.Run.{Ran, lineNumberOf, Entered, over, faulty, opened, enter, Standing, finished, at, byEntered, entering, onward, following, turn, running, ifLoaded, runOf}
@@ -73,8 +74,8 @@ module _ (program : List ℕ) (lines : LinesChecked (linesOf program) (linesOf p
   turn-checked m ls p h =
       let t = part-apart (linesOf program) p (h .2) in
       let after : Position = record { lines = ls; rest = tailOf p } in
-      following-checked (linesOf program) (lineNumberOf ls) (doStatement program (headOf p) (withStep m) after)
-      (statement-checked program lines (headOf p) (withStep m) after (t .0) (t .1) (h .0) (h .1, t .2))
+      following-checked (linesOf program) (lineNumberOf ls) (doStatement program (placeOf p) (headOf p) (withStep m) after)
+      (statement-checked program lines (placeOf p) (headOf p) (withStep m) after (t .0) (t .1) (h .0) (h .1, t .2))
 
   running-ends-well : (budget : ℕ) (s : Standing) → StandingChecked (linesOf program) s → EndsWell (running budget program s)
   unfolding running

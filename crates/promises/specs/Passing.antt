@@ -29,6 +29,7 @@ use Rattle.loader.specs.Lines.{Line, linesOf}
 use Rattle.grammar.specs.Trees as tree
 use Rattle.grammar.specs.Trees.{Statement, Part}
 use Rattle.machine.specs.Machine.{Machine, Lent, fresh, withStep}
+use Rattle.statements.specs.Parts.{placeOf}
 use Rattle.statements.specs.Parts.{headOf, tailOf}
 use Rattle.turns.specs.Steps.{Next, goesOn, enters, ends, stops, fails, doStatement}
 use Rattle.runner.specs.Run.{Standing, finished, at, entering, turn, runOf}
@@ -107,4 +108,4 @@ abbrev pub nextHasRoom : Type 0
 nextHasRoom =
     (text input : List ℕ) (lent : Lent) (statements : ℕ) (m : Machine) (lines : List Line) (p : Part)
     → standsAfter statements text (entering (fresh input lent) (linesOf text)) ≡ at m lines p → isNext (headOf p) ≡ true
-    → lacksRoom (doStatement text (headOf p) (withStep m) (record { lines = lines; rest = tailOf p })) ≡ false
+    → lacksRoom (doStatement text (placeOf p) (headOf p) (withStep m) (record { lines = lines; rest = tailOf p })) ≡ false

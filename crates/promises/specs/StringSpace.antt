@@ -23,6 +23,7 @@ use Rattle.variables.specs.Variables.{Variables, bytesOf, stringBytes}
 use Rattle.strings.specs.Functions.{called}
 use Rattle.operators.specs.Values.{leftRight, taken, valueOf, valuesOf}
 use Rattle.machine.specs.Machine.{Machine, Lent, fresh, roomOf, withStep, noting, printed, write, commaBlanks}
+use Rattle.statements.specs.Parts.{placeOf}
 use Rattle.statements.specs.Parts.{headOf}
 use Rattle.turns.specs.Steps.{shownValue, takeLine, isWholeKind}
 use Rattle.runner.specs.Run.{lineNumberOf, Standing, at, entering, turn}
@@ -102,43 +103,47 @@ pub data PrintAsks : List Item → Machine → Ask → Type 0 where
       → PrintAsks (tree.comma ∷ is) m k
   afterSemicolon : {is : List Item} {m : Machine} {k : Ask} → PrintAsks is m k → PrintAsks (tree.semicolon ∷ is) m k
 
--- LET and PRINT, the condition of an IF, FOR's start, limit and step one after another, and the line that LINE INPUT has taken
-pub data StatementAsks : Statement → Machine → Ask → Type 0 where
-  assigned : {v : Variable} {f : Formula} {m : Machine} {k : Ask} → FormulaAsks f m k → StatementAsks (tree.assign v f) m k
-  printing : {is : List Item} {m : Machine} {k : Ask} → PrintAsks is m k → StatementAsks (tree.print is) m k
-  tested : {c : Formula} {p : Part} {m : Machine} {k : Ask} → FormulaAsks c m k → StatementAsks (tree.ifThen c p) m k
-  chosen : {c : Formula} {p q : Part} {m : Machine} {k : Ask} → FormulaAsks c m k → StatementAsks (tree.ifElse c p q) m k
+-- LET and PRINT, the condition of an IF, FOR's start, limit and step one after another, and the line that LINE INPUT has taken; the
+-- statement stands at a place of the first of some lines
+pub data StatementAsks (lines : List Line) (place : ℕ) : Statement → Machine → Ask → Type 0 where
+  assigned : {v : Variable} {f : Formula} {m : Machine} {k : Ask} → FormulaAsks f m k → StatementAsks lines place (tree.assign v f) m k
+  printing : {is : List Item} {m : Machine} {k : Ask} → PrintAsks is m k → StatementAsks lines place (tree.print is) m k
+  tested : {c : Formula} {p : Part} {m : Machine} {k : Ask} → FormulaAsks c m k → StatementAsks lines place (tree.ifThen c p) m k
+  chosen : {c : Formula} {p q : Part} {m : Machine} {k : Ask} → FormulaAsks c m k → StatementAsks lines place (tree.ifElse c p q) m k
   started : {v : Variable} {from to by : Formula} {m : Machine} {k : Ask} → isWholeKind (v .kind) ≡ true → FormulaAsks from m k
-      → StatementAsks (tree.for v from to by) m k
+      → StatementAsks lines place (tree.for v from to by) m k
   limited : {v : Variable} {from to by : Formula} {m : Machine} {a : ℕ} {room : Room} {k : Ask} → isWholeKind (v .kind) ≡ true
       → valueOf from (m .variables) (roomOf m) ≡ value (whole a) room → FormulaAsks to (noting m room) k
-      → StatementAsks (tree.for v from to by) m k
+      → StatementAsks lines place (tree.for v from to by) m k
   stepped : {v : Variable} {from to by : Formula} {m : Machine} {a b : ℕ} {room next : Room} {k : Ask} → isWholeKind (v .kind) ≡ true
       → valueOf from (m .variables) (roomOf m) ≡ value (whole a) room
       → valueOf to (m .variables) (roomOf (noting m room)) ≡ value (whole b) next → FormulaAsks by (noting m next) k
-      → StatementAsks (tree.for v from to by) m k
+      → StatementAsks lines place (tree.for v from to by) m k
   -- a line of over 254 bytes is 23, and asks for none
   input : {t : List ℕ} {v : Variable} {m n : Machine} {b : ℕ} {s : List ℕ} → write m t ≡ printed n → n .input ≡ b ∷ s
       → length (takeLine (b ∷ s) .bytes) ≤ 254
-      → StatementAsks (tree.lineInput t v) m (record { unfinished = []; bytes = takeLine (b ∷ s) .bytes })
+      → StatementAsks lines place (tree.lineInput t v) m (record { unfinished = []; bytes = takeLine (b ∷ s) .bytes })
 
 -- ---- what a run asks for
 
--- a statement that a run begins, with the number of its line and the machine that has counted it
-pub data Begins (program : List ℕ) : ℕ → Standing → LineNumber → Statement → Machine → Type 0 where
+-- a statement that a run begins, with the lines from its own on, its place there and the machine that has counted it
+pub data Begins (program : List ℕ) : ℕ → Standing → List Line → ℕ → Statement → Machine → Type 0 where
   first : {n : ℕ} {m : Machine} {lines : List Line} {p : Part}
-      → Begins program (suc n) (at m lines p) (lineNumberOf lines) (headOf p) (withStep m)
-  later : {n : ℕ} {m : Machine} {lines : List Line} {p : Part} {l : LineNumber} {s : Statement} {k : Machine}
-      → Begins program n (turn program m lines p) l s k → Begins program (suc n) (at m lines p) l s k
+      → Begins program (suc n) (at m lines p) lines (placeOf p) (headOf p) (withStep m)
+  later : {n : ℕ} {m : Machine} {lines : List Line} {p : Part} {ls : List Line} {q : ℕ} {s : Statement} {k : Machine}
+      → Begins program n (turn program m lines p) ls q s k → Begins program (suc n) (at m lines p) ls q s k
 
 -- a run that is not refused begins a statement of the line, which asks for more than the space holds besides the bytes of all string
 -- variables and all unfinished strings
 pub record AsksTooMuch (program lines : List ℕ) (lent : Lent) (budget : ℕ) (l : LineNumber) : Type 0 where
   pub small : lent .space ≤ 16384
   pub loads : loadOf program ≡ Fine
+  pub from : List Line
+  pub numbered : lineNumberOf from ≡ l
+  pub place : ℕ
   pub statement : Statement
   pub machine : Machine
-  pub begins : Begins program budget (entering (fresh lines lent) (linesOf program)) l statement machine
+  pub begins : Begins program budget (entering (fresh lines lent) (linesOf program)) from place statement machine
   pub ask : Ask
-  pub asks : StatementAsks statement machine ask
+  pub asks : StatementAsks from place statement machine ask
   pub exceeds : Exceeds (lent .space) (stringBytes (machine .variables .strings)) ask

@@ -13,6 +13,7 @@ use Rattle.grammar.specs.Trees.{Part}
 use Rattle.space.specs.Moves.{cleared}
 use Rattle.variables.proofs.Holding.{empty-numbers, empty-strings, empty-numbers-held, empty-strings-held, empty-sum}
 use Rattle.machine.specs.Machine.{lentBy}
+use Rattle.statements.specs.Parts.{placeOf}
 use Rattle.statements.specs.Parts.{headOf, tailOf}
 use Rattle.machine.specs.Machine as spec
 use Rattle.machine.specs.bridge.Holding.{linesAt, blankRecord, freshMachine, Sound, Same}
@@ -158,7 +159,7 @@ module _ {text input space₀ room₀ : List ℕ} {budget : ℕ} {space room : L
 
       module _ {r : Turned} {space′ room′ : List ℕ} (t : TurnAs text span at m rs input space room r space′ room′) where
         done : Came text (r .next)
-            (doStatement text (headOf (here .stood .reads .of)) (spec.withStep (k .machine))
+            (doStatement text (placeOf (here .stood .reads .of)) (headOf (here .stood .reads .of)) (spec.withStep (k .machine))
             (record { lines = linesAt text (span .place .0); rest = tailOf (here .stood .reads .of) }))
             (Same text (set rs (r .slot) (r .held)) (r .machine) input space′ room′)
         done = came text (r .next) _ _ (t .comes (here .stood) (k .machine) (k .same))

@@ -10,7 +10,7 @@ use Rattle.words.specs.declared.symbols.Scanned.{Scanned}
 use Rattle.loader.specs.declared.lines.LineSpan.{LineSpan}
 use Rattle.grammar.specs.Trees.{Part}
 use Rattle.statements.specs.Statements.{goodPart, partOf}
-use Rattle.statements.specs.Parts.{headOf, tailOf}
+use Rattle.statements.specs.Parts.{headOf, tailOf, placeOf}
 use Rattle.machine.specs.Machine as spec
 use Rattle.machine.specs.bridge.Holding.{linesAt, Parted, foundIn, entryAt, Sound, Same}
 use Rattle.machine.specs.bridge.Seeking.{soughtBy}
@@ -98,7 +98,7 @@ module _ {text : List ℕ} {span : LineSpan} {at : Place} {m : Machine} {rs : Li
       → entry ≡ entryAt slot rs
       → ((p : Part) (end : Scanned) → partOf (lineIn text span) true (at .0) ≡ goodPart p end
       → Turns text (stepped m) input space room (Told (soughtBy (headOf p)) (m .depth) slot entry)
-      (λ n. doStatement text (headOf p) n (record { lines = linesAt text (span .place .0); rest = tailOf p })) r space′ room′)
+      (λ n. doStatement text (placeOf p) (headOf p) n (record { lines = linesAt text (span .place .0); rest = tailOf p })) r space′ room′)
       → TurnAs text span at m rs input space room r space′ room′
   turn-made seeks finds entry does =
       record {

@@ -18,7 +18,7 @@ use Rattle.words.specs.Places.{place, lineNumber}
 use Rattle.words.specs.declared.places.LineNumber.{LineNumber}
 use Rattle.grammar.specs.Trees.{Part, more}
 use Rattle.reader.specs.Lines.{Judgement, unreadable, tooDeep, holds, judgement}
-use Rattle.statements.specs.Parts.{Rest, nothing, part, headOf, tailOf}
+use Rattle.statements.specs.Parts.{Rest, nothing, part, headOf, tailOf, placeOf}
 use Rattle.variables.specs.Variables.{Variables, stringBytes, joinedStrings}
 use Rattle.variables.specs.Tables.{numbersTable, stringsTable}
 use Rattle.variables.specs.declared.tables.Tables.{Tables}
@@ -86,7 +86,7 @@ following line (fails e m) = finished (endsWith (Failed e line) m)
 abbrev pub turn : List ℕ → Machine → List Line → Part → Standing
 turn program m lines p =
     following (lineNumberOf lines)
-    (doStatement program (headOf p) (withStep m) (record { lines = lines; rest = tailOf p }))
+    (doStatement program (placeOf p) (headOf p) (withStep m) (record { lines = lines; rest = tailOf p }))
 
 abbrev pub byStanding : Standing → (Machine → List Line → Part → Ran) → Ran
 byStanding (finished r) go = r

@@ -58,7 +58,7 @@ use Rattle.statements.specs.bridge.Answers.{itemsOf}
 use Rattle.statements.proofs.Parts.{partBy, unrolled}
 use Rattle.statements.proofs.Views.{Final, plain, thens, elses, more-view, final-view}
 use Rattle.machine.specs.Machine as spec
-use Rattle.statements.specs.Parts.{Rest, nothing, part, headOf, tailOf}
+use Rattle.statements.specs.Parts.{Rest, nothing, part, headOf, tailOf, placeOf}
 use Rattle.machine.specs.bridge.Holding.{linesAt, positionOf, Parted, Positioned, Sound}
 use Rattle.machine.specs.bridge.Seeking.{soughtBy}
 use Rattle.machine.specs.declared.state.Machine.{Machine}
@@ -140,33 +140,33 @@ lead-begins {line} {at} l p = go (begunAt line true at) _ (l .reads) (part-begin
     go (done x u) b′ e h = subst Begins e h
     go (choice c u) b′ e h = subst Begins e h
 
-module _ (text line : List ℕ) (here : Place) (m : Machine) (found : Found) (entry : Record) (input space room : List ℕ) (r : Turned)
+module _ (text line : List ℕ) (here : Place) (at : ℕ) (m : Machine) (found : Found) (entry : Record) (input space room : List ℕ) (r : Turned)
     (space′ room′ : List ℕ) where
   abbrev D : Begun → Type 0
-  D b = Does text line here m found entry input space room r space′ room′ b
+  D b = Does text line here at m found entry input space room r space′ room′ b
 
   abbrev TurnsAs : Part → Type 0
   TurnsAs p =
       Turns text m input space room (Told (soughtBy (headOf p)) (m .depth) found entry)
-      (λ n. doStatement text (headOf p) n (record { lines = linesAt text (here .0); rest = tailOf p })) r space′ room′
+      (λ n. doStatement text (placeOf p) (headOf p) n (record { lines = linesAt text (here .0); rest = tailOf p })) r space′ room′
 
-  last-does : Standing text line here → (at q : ℕ) (x : tree.Statement) (end : Scanned) → Final line true at q x end → D (begunAt line true at)
+  last-does : Standing text line here → (q : ℕ) (x : tree.Statement) (end : Scanned) → Final line true at q x end → D (begunAt line true at)
       → TurnsAs (last q x)
-  last-does st at q x end (plain f) d =
+  last-does st q x end (plain f) d =
       let a = after-last st end (f .no-colon) in
-      rw (a .is) at ((rw (f .begun) at d) (a .placed))
-  last-does st at q x end (thens {part = p} f) d =
+      rw (f .at) (rw (a .is) at ((rw (f .begun) at d) (a .placed)))
+  last-does st q x end (thens {part = p} f) d =
       (rw (f .begun) at d) p end (record { lines = linesAt text (here .0); rest = nothing }) refl (f .goes) .0 (f .no-else)
-  last-does st at q x end (elses {part = p} {other = o} f) d =
+  last-does st q x end (elses {part = p} {other = o} f) d =
       (rw (f .begun) at d) p (f .middle) (record { lines = linesAt text (here .0); rest = nothing }) refl (f .goes) .1 (f .is-else) o end (f .other-goes)
 
-  part-does : Standing text line here → (at : ℕ) (p : Part) (end : Scanned) → partOf line true at ≡ goodPart p end
+  part-does : Standing text line here → (p : Part) (end : Scanned) → partOf line true at ≡ goodPart p end
       → D (begunAt line true at) → TurnsAs p
-  part-does st at (last q x) end e d = last-does st at q x end (final-view line true at e) d
-  part-does st at (more q x rest) end e d =
+  part-does st (last q x) end e d = last-does st q x end (final-view line true at e) d
+  part-does st (more q x rest) end e d =
       let f = more-view line true at e in
       let a = after-colon st (f .end) (f .colon) (f .goes) in
-      rw (a .is) at ((rw (f .begun) at d) (a .placed))
+      rw (f .at) (rw (a .is) at ((rw (f .begun) at d) (a .placed)))
 
   reads-does : (b b′ : Begun) → ReadsAs b b′ → D b′ → D b
   reads-does bad b′ e d = tt
@@ -174,22 +174,22 @@ module _ (text line : List ℕ) (here : Place) (m : Machine) (found : Found) (en
   reads-does (choice c u) b′ e d = subst D (sym e) d
 
   -- what its first statement does is what the definition does of it
-  pub lead-does : Standing text line here → (at : Place) {l : Lead} → LeadAs line (at .0) l → D (ledBy line (l .word) (l .from))
-      → (p : Part) (end : Scanned) → partOf line true (at .0) ≡ goodPart p end → TurnsAs p
-  lead-does st at l d p end i = part-does st (at .0) p end i (reads-does (begunAt line true (at .0)) _ (l .reads) d)
+  pub lead-does : Standing text line here → {l : Lead} → LeadAs line at l → D (ledBy line (l .word) (l .from))
+      → (p : Part) (end : Scanned) → partOf line true at ≡ goodPart p end → TurnsAs p
+  lead-does st l d p end i = part-does st p end i (reads-does (begunAt line true at) _ (l .reads) d)
 
   pub print-does : (t : Scanned)
       → ((is : List tree.Item) (u : Scanned) → Positioned text (afterOf here u) → itemsOf line t ≡ items is u
-      → Turns text m input space room anyRecords (λ n. doStatement text (tree.print is) n (positionOf text (afterOf here u))) r space′ room′)
+      → Turns text m input space room anyRecords (λ n. doStatement text at (tree.print is) n (positionOf text (afterOf here u))) r space′ room′)
       → D (printAt line t)
   print-does t h = by-items D tt line t (λ is u e p. any-told (h is u p e))
 
   pub if-does : (t : Scanned)
       → ((c : tree.Formula) (way : Scanned) (p : Part) (u : Scanned) (after : spec.Position) → after .lines ≡ linesAt text (here .0)
       → formulaOf line t ≡ good c way → partOf line true (way .next .0) ≡ goodPart p u
-      → (isKeyword Else (u .token) ≡ false → Turns text m input space room anyRecords (λ n. doStatement text (tree.ifThen c p) n after) r space′ room′)
+      → (isKeyword Else (u .token) ≡ false → Turns text m input space room anyRecords (λ n. doStatement text at (tree.ifThen c p) n after) r space′ room′)
       × (isKeyword Else (u .token) ≡ true → (q : Part) (v : Scanned) → partOf line true (u .next .0) ≡ goodPart q v
-      → Turns text m input space room anyRecords (λ n. doStatement text (tree.ifElse c p q) n after) r space′ room′))
+      → Turns text m input space room anyRecords (λ n. doStatement text at (tree.ifElse c p q) n after) r space′ room′))
       → D (ifAt line (formulaOf line t))
   if-does t h =
       by-condition D tt line t (λ c way e p u after l g.
@@ -198,7 +198,7 @@ module _ (text line : List ℕ) (here : Place) (m : Machine) (found : Found) (en
 
   pub input-does : (t : Scanned)
       → ((prompt : List ℕ) (v : tree.Variable) (u : Scanned) → Positioned text (afterOf here u) → inputAt line (after line t) ≡ done (tree.lineInput prompt v) u
-      → Turns text m input space room anyRecords (λ n. doStatement text (tree.lineInput prompt v) n (positionOf text (afterOf here u))) r space′ room′)
+      → Turns text m input space room anyRecords (λ n. doStatement text at (tree.lineInput prompt v) n (positionOf text (afterOf here u))) r space′ room′)
       → D (lineAt line t)
   input-does t h = if-so D tt (isKeyword Input (t .token)) _ (by-input D tt line (after line t) (λ prompt v u e p. any-told (h prompt v u p e)))
 
@@ -207,10 +207,10 @@ module _ (text line : List ℕ) (here : Place) (m : Machine) (found : Found) (en
 abbrev otherWords : List ℕ
 otherWords = 3 ∷ 4 ∷ 9 ∷ 10 ∷ 13 ∷ 16 ∷ 17 ∷ 18 ∷ 19 ∷ 20 ∷ 21 ∷ []
 
-module _ (text line : List ℕ) (here : Place) (m : Machine) (found : Found) (entry : Record) (input space room : List ℕ)
+module _ (text line : List ℕ) (here : Place) (at : ℕ) (m : Machine) (found : Found) (entry : Record) (input space room : List ℕ)
     (r : Turned) (sound : Sound m input space room) (t : Scanned) (e : r ≡ turnedTo m (next.On (afterOf here t))) where
   -- the run goes on there
-  pub other-does : (w : Word) → OneOf otherWords (wordTag w) → Does text line here m found entry input space room r space room (ledBy line w t)
+  pub other-does : (w : Word) → OneOf otherWords (wordTag w) → Does text line here at m found entry input space room r space room (ledBy line w t)
   other-does Let h = absurd (miss otherWords 0 tt h)
   other-does Print h = absurd (miss otherWords 1 tt h)
   other-does If h = absurd (miss otherWords 2 tt h)

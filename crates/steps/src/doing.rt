@@ -3,7 +3,7 @@ ghost use mathlib.Core.Path.{_≡_};
 ghost use mathlib.Core.Bool.{true};
 ghost use Rattle.grammar.specs.Trees.{Part};
 ghost use Rattle.statements.specs.Statements.{goodPart, partOf};
-ghost use Rattle.statements.specs.Parts.{headOf, tailOf};
+ghost use Rattle.statements.specs.Parts.{headOf, tailOf, placeOf};
 ghost use Rattle.machine.specs.bridge.Holding.{linesAt, Parted, Sound};
 ghost use Rattle.machine.specs.bridge.Seeking.{soughtBy};
 ghost use Rattle.turns.specs.Steps.{doStatement};
@@ -48,7 +48,7 @@ pub fn do_statement(
         ((p : Part) (end : Scanned) → partOf (now (line .entry)) true (at .0) ≡ goodPart p end
         → Turns (now (text .entry)) machine (now (input .entry)) (now (space .entry)) (now (room .entry))
         (Told (soughtBy (headOf p)) (machine .depth) found entry)
-        (λ n. doStatement (now (text .entry)) (headOf p) n (record { lines = linesAt (now (text .entry)) (here .0); rest = tailOf p }))
+        (λ n. doStatement (now (text .entry)) (placeOf p) (headOf p) n (record { lines = linesAt (now (text .entry)) (here .0); rest = tailOf p }))
         r (now (space .exit)) (now (room .exit)))
         ⌝ }
 {

@@ -21,11 +21,11 @@ use Rattle.turns.proofs.Leading.{leads-on, turns-fails}
 use Rattle.turns.proofs.Working.{leads-worked}
 use Rattle.turns.proofs.Storing.{number-settled, leads-number, string-settled, string-long, leads-string, sound-tables, turns-stored}
 
-module _ (text : List ℕ) {m : Machine} {input space room space′ : List ℕ} {f : Formula} {u : Scanned} (here : Place)
+module _ (text : List ℕ) {m : Machine} {input space room space′ : List ℕ} {f : Formula} {u : Scanned} (here : Place) (at : ℕ)
     (sound : Sound m input space room) where
   -- an error stands,
   pub assigned-fault : (v : Variable) {e : Error} → Valued m f u space (Fault e) space′
-      → Turns text m input space room anyRecords (λ n. doStatement text (assign v f) n (positionOf text (afterOf here u)))
+      → Turns text m input space room anyRecords (λ n. doStatement text at (assign v f) n (positionOf text (afterOf here u)))
       (turnedTo m (next.Fails e)) space′ room
   assigned-fault v w =
       turns-fails (leaves-unprinted (sound-kept (w .framed .long) sound) (w .framed .long) refl refl)
@@ -35,7 +35,7 @@ module _ (text : List ℕ) {m : Machine} {input space room space′ : List ℕ} 
   -- and so does another type
   pub assigned-whole-text : (name : Telling) {w : ℕ} {t : Scanned} → Valued m f u space (Whole w t) space′
       → Turns text m input space room anyRecords
-      (λ n. doStatement text (assign (record { kind = kind.Text; telling = name }) f) n (positionOf text (afterOf here u)))
+      (λ n. doStatement text at (assign (record { kind = kind.Text; telling = name }) f) n (positionOf text (afterOf here u)))
       (turnedTo m (next.Fails TypeMismatch)) space′ room
   assigned-whole-text name v =
       turns-fails (leaves-unprinted (sound-kept (v .framed .long) sound) (v .framed .long) refl refl)
@@ -43,7 +43,7 @@ module _ (text : List ℕ) {m : Machine} {input space room space′ : List ℕ} 
 
   pub assigned-text-whole : (name : Telling) {len : ℕ} {t : Scanned} → Valued m f u space (Text len t) space′
       → Turns text m input space room anyRecords
-      (λ n. doStatement text (assign (record { kind = kind.Whole; telling = name }) f) n (positionOf text (afterOf here u)))
+      (λ n. doStatement text at (assign (record { kind = kind.Whole; telling = name }) f) n (positionOf text (afterOf here u)))
       (turnedTo m (next.Fails TypeMismatch)) space′ room
   assigned-text-whole name v =
       turns-fails (leaves-unprinted (sound-kept (v .framed .long) sound) (v .framed .long) refl refl)
@@ -53,7 +53,7 @@ module _ (text : List ℕ) {m : Machine} {input space room space′ : List ℕ} 
   module _ (p : Positioned text (afterOf here u)) (name : Telling) where
     pub assigned-number : {w : ℕ} {t : Scanned} → Valued m f u space (Whole w t) space′
         → Turns text m input space room anyRecords
-        (λ n. doStatement text (assign (record { kind = kind.Whole; telling = name }) f) n (positionOf text (afterOf here u)))
+        (λ n. doStatement text at (assign (record { kind = kind.Whole; telling = name }) f) n (positionOf text (afterOf here u)))
         (storedTurn (numberSet m name w) here t) space′ room
     assigned-number {w} v =
         let k = settled-kept (v .framed .long) (sound .settled) in
@@ -65,7 +65,7 @@ module _ (text : List ℕ) {m : Machine} {input space room space′ : List ℕ} 
 
     pub assigned-string : {len : ℕ} {t : Scanned} → Valued m f u space (Text len t) space′
         → Turns text m input space room anyRecords
-        (λ n. doStatement text (assign (record { kind = kind.Text; telling = name }) f) n (positionOf text (afterOf here u)))
+        (λ n. doStatement text at (assign (record { kind = kind.Text; telling = name }) f) n (positionOf text (afterOf here u)))
         (storedTurn (stringSet m name len) here t) (spaceStored (m .tables .strings) (m .used) name space′ len) room
     assigned-string {len} v =
         let k = settled-kept (v .framed .long) (sound .settled) in

@@ -50,14 +50,14 @@ module _ {text : List ℕ} {m : Machine} {input space room : List ℕ} where
 
 -- ---- from a name on
 
-module _ (text line : List ℕ) (here : Place) (m : Machine) (found : Found) (entry : Record) (input space room : List ℕ) (r : Turned)
+module _ (text line : List ℕ) (here : Place) (at : ℕ) (m : Machine) (found : Found) (entry : Record) (input space room : List ℕ) (r : Turned)
     (space′ room′ : List ℕ) where
   abbrev D : Begun → Type 0
-  D b = Does text line here m found entry input space room r space′ room′ b
+  D b = Does text line here at m found entry input space room r space′ room′ b
 
   pub set-does : (t : Scanned) (name : Name) → t .token ≡ Named name
       → ((f : tree.Formula) (u : Scanned) → Positioned text (afterOf here u) → formulaOf line (after line (after line t)) ≡ good f u
       → Turns text m input space room anyRecords
-      (λ n. doStatement text (tree.assign (variableOf line name) f) n (positionOf text (afterOf here u))) r space′ room′)
+      (λ n. doStatement text at (tree.assign (variableOf line name) f) n (positionOf text (afterOf here u))) r space′ room′)
       → D (setAt line t)
   set-does t name w h = rw w (by-assign D tt line (after line t) (variableOf line name) (λ f u e p. any-told (h f u p e)))

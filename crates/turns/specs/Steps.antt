@@ -173,31 +173,32 @@ branch m lines p = goesOn m (record { lines = lines; rest = part p })
 abbrev pub lineOver : Machine → List Line → Next
 lineOver m lines = goesOn m (record { lines = lines; rest = nothing })
 
-abbrev pub doStatement : List ℕ → Statement → Machine → Position → Next
-doStatement program tree.empty m after = goesOn m after
-doStatement program (tree.assign v f) m after =
+-- of a program, at a place of its line
+abbrev pub doStatement : List ℕ → ℕ → Statement → Machine → Position → Next
+doStatement program at tree.empty m after = goesOn m after
+doStatement program at (tree.assign v f) m after =
     worked m (valueOf f (m .variables) (roomOf m)) (λ x n. assigned (v .kind) (v .telling) x n (λ o. goesOn o after))
-doStatement program (tree.print is) m after = printItems false is m (λ n. goesOn n after)
-doStatement program (tree.ifThen c p) m after =
+doStatement program at (tree.print is) m after = printItems false is m (λ n. goesOn n after)
+doStatement program at (tree.ifThen c p) m after =
     workedWhole c m (λ w n. cond (eqb w 0) (lineOver n (after .lines)) (branch n (after .lines) p))
-doStatement program (tree.ifElse c p q) m after =
+doStatement program at (tree.ifElse c p q) m after =
     workedWhole c m (λ w n. branch n (after .lines) (cond (eqb w 0) q p))
-doStatement program (tree.goto l) m after = toLine m (fromNumber (l .0) (linesOf program)) (λ ls. enters m ls)
-doStatement program (tree.gosub l) m after =
+doStatement program at (tree.goto l) m after = toLine m (fromNumber (l .0) (linesOf program)) (λ ls. enters m ls)
+doStatement program at (tree.gosub l) m after =
     toLine m (fromNumber (l .0) (linesOf program)) (λ ls. pushed m (call after) (λ n. enters n ls))
-doStatement program tree.return m after = returned (m .records) m
-doStatement program (tree.for v from to by) m after =
+doStatement program at tree.return m after = returned (m .records) m
+doStatement program at (tree.for v from to by) m after =
     cond (isWholeKind (v .kind))
     (workedWhole from m (λ a n. workedWhole to n (λ b o. workedWhole by o (λ s p.
     storeNumber p (v .telling) a (λ q.
     let clear = withRecords q (below (q .records) (sought (λ u. alike u (v .telling)) (q .records))) in
     pushed clear (loop (v .telling) b s after) (λ r. goesOn r after))))))
     (fails TypeMismatch m)
-doStatement program tree.next m after = nextOn m (sought (λ u. true) (m .records)) after
-doStatement program (tree.nextOf v) m after =
+doStatement program at tree.next m after = nextOn m (sought (λ u. true) (m .records)) after
+doStatement program at (tree.nextOf v) m after =
     cond (isWholeKind (v .kind)) (nextOn m (sought (λ u. alike u (v .telling)) (m .records)) after) (fails TypeMismatch m)
-doStatement program (tree.lineInput t v) m after =
+doStatement program at (tree.lineInput t v) m after =
     written m t (λ n. inputLine (n .input) n v (λ o. goesOn o after))
-doStatement program tree.end m after = ends m
-doStatement program tree.stop m after = stops m
-doStatement program tree.remark m after = goesOn m after
+doStatement program at tree.end m after = ends m
+doStatement program at tree.stop m after = stops m
+doStatement program at tree.remark m after = goesOn m after

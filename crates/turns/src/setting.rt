@@ -97,10 +97,10 @@ fn assign(
 ) -> Turned
     requires { ⌜ Formed (now line) first × Settled machine (now space) ⌝ }
     ensures { λ r. ⌜
-        ((text input room : List ℕ) (f : Formula) (u : Scanned) → Sound machine input (now (space .entry)) room → Positioned text (afterOf here u)
+        ((text input room : List ℕ) (at : ℕ) (f : Formula) (u : Scanned) → Sound machine input (now (space .entry)) room → Positioned text (afterOf here u)
         → formulaOf (now (line .entry)) first ≡ good f u
         → Turns text machine input (now (space .entry)) room anyRecords
-        (λ n. doStatement text (assign (variableOf (now (line .entry)) name) f) n (positionOf text (afterOf here u))) r (now (space .exit)) room)
+        (λ n. doStatement text at (assign (variableOf (now (line .entry)) name) f) n (positionOf text (afterOf here u))) r (now (space .exit)) room)
         ⌝ }
 {
     let telling = telling_of(line, name);
@@ -122,8 +122,8 @@ fn assign(
 pub fn set(line: &[u8], here: Place, target: Scanned, machine: Machine, space: &mut [u8]) -> Turned
     requires { ⌜ Begins (setAt (now line) target) × ((length (now line) ≤ 255) × Settled machine (now space)) ⌝ }
     ensures { λ r. ⌜
-        ((text input room : List ℕ) (found : Found) (entry : Record) → Sound machine input (now (space .entry)) room
-        → Does text (now (line .entry)) here machine found entry input (now (space .entry)) room r (now (space .exit)) room (setAt (now (line .entry)) target))
+        ((text input room : List ℕ) (at : ℕ) (found : Found) (entry : Record) → Sound machine input (now (space .entry)) room
+        → Does text (now (line .entry)) here at machine found entry input (now (space .entry)) room r (now (space .exit)) room (setAt (now (line .entry)) target))
         ⌝ }
 {
     let token = target.token;

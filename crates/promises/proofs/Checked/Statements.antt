@@ -271,9 +271,9 @@ module _ (program : List ℕ) (lines : LinesChecked (linesOf program) (linesOf p
   abbrev all : List Line
   all = linesOf program
 
-  for-checked : (v : Variable) (from to by : Formula) (m : Machine) (after : Position) → rightlyTyped (tree.for v from to by) ≡ true
-      → MachineChecked all m → PositionChecked all after → NextChecked all (doStatement program (tree.for v from to by) m after)
-  for-checked v from to by m after e r p =
+  for-checked : (at : ℕ) (v : Variable) (from to by : Formula) (m : Machine) (after : Position) → rightlyTyped (tree.for v from to by) ≡ true
+      → MachineChecked all m → PositionChecked all after → NextChecked all (doStatement program at (tree.for v from to by) m after)
+  for-checked at v from to by m after e r p =
       let t = both (isNumber v) _ e in
       let u = both (isWhole (sortOf from)) _ (t .1) in
       let w = both (isWhole (sortOf to)) (isWhole (sortOf by)) (u .1) in
@@ -283,29 +283,29 @@ module _ (program : List ℕ) (lines : LinesChecked (linesOf program) (linesOf p
       whole-worked all by o _ (w .1) ro λ s q rq.
       number-stored all q (v .telling) a (begun (v .telling) b s after) rq (begun-checked all (v .telling) b s after p))
 
-  pub statement-checked : (x : Statement) (m : Machine) (after : Position) → Checked all x → AllChecked all (heads (partsWithin x))
-      → MachineChecked all m → PositionChecked all after → NextChecked all (doStatement program x m after)
+  pub statement-checked : (at : ℕ) (x : Statement) (m : Machine) (after : Position) → Checked all x → AllChecked all (heads (partsWithin x))
+      → MachineChecked all m → PositionChecked all after → NextChecked all (doStatement program at x m after)
   unfolding partsOf heads
-  statement-checked tree.empty m after c i r p = (r, p)
-  statement-checked (tree.assign v f) m after c i r p = assign-checked all (v .kind) (v .telling) f m _ (c .typed) r (goes-on all after p)
-  statement-checked (tree.print is) m after c i r p = print-checked all false is m _ (c .typed) r (goes-on all after p)
-  statement-checked (tree.ifThen f q) m after c i r p =
+  statement-checked at tree.empty m after c i r p = (r, p)
+  statement-checked at (tree.assign v f) m after c i r p = assign-checked all (v .kind) (v .telling) f m _ (c .typed) r (goes-on all after p)
+  statement-checked at (tree.print is) m after c i r p = print-checked all false is m _ (c .typed) r (goes-on all after p)
+  statement-checked at (tree.ifThen f q) m after c i r p =
       whole-worked all f m _ (c .typed) r (λ w n s. by-choice (NextChecked all) (eqb w 0) (s, (p .0, tt)) (s, (p .0, i)))
-  statement-checked (tree.ifElse f q o) m after c i r p =
+  statement-checked at (tree.ifElse f q o) m after c i r p =
       let b = parts-apart all (partsOf q) (partsOf o) i in
       whole-worked all f m _ (c .typed) r (λ w n s. (s, (p .0, by-choice (PartChecked all) (eqb w 0) (b .1) (b .0))))
-  statement-checked (tree.goto l) m after c i r p =
+  statement-checked at (tree.goto l) m after c i r p =
       line-found all (l .0) all m (λ ls. enters m ls) (not-false _ (c .named)) lines (λ from h. (r, h))
-  statement-checked (tree.gosub l) m after c i r p =
+  statement-checked at (tree.gosub l) m after c i r p =
       line-found all (l .0) all m (λ ls. pushed m (call after) (λ n. enters n ls)) (not-false _ (c .named)) lines
       (λ from h. pushed-checked all m (call after) (λ n. enters n from) r p (λ n s. (s, h)))
-  statement-checked tree.return m after c i r p = returned-checked all (m .records) m r
-  statement-checked (tree.for v from to by) m after c i r p = for-checked v from to by m after (c .typed) r p
-  statement-checked tree.next m after c i r p = next-checked all (λ u. true) m after r p
-  statement-checked (tree.nextOf v) m after c i r p =
+  statement-checked at tree.return m after c i r p = returned-checked all (m .records) m r
+  statement-checked at (tree.for v from to by) m after c i r p = for-checked at v from to by m after (c .typed) r p
+  statement-checked at tree.next m after c i r p = next-checked all (λ u. true) m after r p
+  statement-checked at (tree.nextOf v) m after c i r p =
       rw (number-kind (v .kind) (c .typed)) (next-checked all (λ u. alike u (v .telling)) m after r p)
-  statement-checked (tree.lineInput t v) m after c i r p =
+  statement-checked at (tree.lineInput t v) m after c i r p =
       written-checked all m t _ r (λ n s. input-checked all (n .input) n v _ (c .typed) s (goes-on all after p))
-  statement-checked tree.end m after c i r p = tt
-  statement-checked tree.stop m after c i r p = tt
-  statement-checked tree.remark m after c i r p = (r, p)
+  statement-checked at tree.end m after c i r p = tt
+  statement-checked at tree.stop m after c i r p = tt
+  statement-checked at tree.remark m after c i r p = (r, p)

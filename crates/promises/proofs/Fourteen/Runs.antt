@@ -13,7 +13,7 @@ use Rattle.words.proofs.Choices.{by-test}
 use Rattle.loader.specs.Lines.{Line, linesOf, nextLine}
 use Rattle.grammar.specs.Trees.{Statement, Part}
 use Rattle.statements.specs.Statements.{LineReading, doesNotRead, reads, readLine}
-use Rattle.statements.specs.Parts.{statementsOf, deepestIn, Rest, nothing, part, headOf, tailOf}
+use Rattle.statements.specs.Parts.{statementsOf, deepestIn, Rest, nothing, part, headOf, tailOf, placeOf}
 use Rattle.variables.specs.Variables.{stringBytes}
 use Rattle.machine.specs.Machine.{Position, Machine, Lent, fresh, withStep}
 use Rattle.turns.specs.Steps.{Next, goesOn, enters, ends, stops, fails, doStatement}
@@ -59,11 +59,11 @@ space-kept space = record {
   takes = λ m left h p. p;
 }
 
-begun-space : (program : List ℕ) (space n : ℕ) (s : Standing) (l : LineNumber) (x : Statement) (k : Machine) → Begins program n s l x k
+begun-space : (program : List ℕ) (space n : ℕ) (s : Standing) (ls : List Line) (q : ℕ) (x : Statement) (k : Machine) → Begins program n s ls q x k
     → Stands (λ m. m .space ≡ space) s → k .space ≡ space
-begun-space program space (suc n) (at m lines p) l x k asks.first h = h
-begun-space program space (suc n) (at m lines p) l x k (asks.later d) h =
-    begun-space program space n (turn program m lines p) l x k d (turn-stands (λ m. m .space ≡ space) (space-kept space) program m lines p h)
+begun-space program space (suc n) (at m lines p) ls q x k asks.first h = h
+begun-space program space (suc n) (at m lines p) ls q x k (asks.later d) h =
+    begun-space program space n (turn program m lines p) ls q x k d (turn-stands (λ m. m .space ≡ space) (space-kept space) program m lines p h)
 
 over-stays : (n : ℕ) (program : List ℕ) (r : Ran) → running n program (finished r) ≡ r
 unfolding running
@@ -74,16 +74,22 @@ module _ (exact : LiveIsExact) (program : List ℕ) (space : ℕ) where
   -- ---- from 14 to the statement
 
   record Asked (n : ℕ) (s : Standing) (l : LineNumber) : Type 0 where
+    from : List Line
+    numbered : lineNumberOf from ≡ l
+    place : ℕ
     statement : Statement
     machine : Machine
-    begins : Begins program n s l statement machine
+    begins : Begins program n s from place statement machine
     ask : Ask
-    asks : StatementAsks statement machine ask
+    asks : StatementAsks from place statement machine ask
     exceeds : Exceeds space (stringBytes (machine .variables .strings)) ask
 
   asked-later : {n : ℕ} {m : Machine} {lines : List Line} {p : Part} {l : LineNumber} → Asked n (turn program m lines p) l → Asked (suc n) (at m lines p) l
   asked-later a =
       record {
+        from = a .from;
+        numbered = a .numbered;
+        place = a .place;
         statement = a .statement;
         machine = a .machine;
         begins = asks.later (a .begins);
@@ -92,18 +98,20 @@ module _ (exact : LiveIsExact) (program : List ℕ) (space : ℕ) where
         exceeds = a .exceeds;
       }
 
-  asked-now : (n : ℕ) (m : Machine) (lines : List Line) (p : Part) {l : LineNumber} → m .space ≡ space → l ≡ lineNumberOf lines
-      → StatementOver exact (headOf p) (withStep m) → Asked (suc n) (at m lines p) l
+  asked-now : (n : ℕ) (m : Machine) (lines : List Line) (p : Part) {l : LineNumber} → m .space ≡ space → lineNumberOf lines ≡ l
+      → StatementOver exact lines (placeOf p) (headOf p) (withStep m) → Asked (suc n) (at m lines p) l
   asked-now n m lines p h e o =
-      rw e
-      (record {
+      record {
+        from = lines;
+        numbered = e;
+        place = placeOf p;
         statement = headOf p;
         machine = withStep m;
         begins = asks.first;
         ask = o .ask;
         asks = o .asks;
         exceeds = rw h at (o .exceeds);
-      })
+      }
 
   module _ (n : ℕ) (m : Machine) (lines : List Line) (p : Part) (l : LineNumber) (h : m .space ≡ space)
       (rest : Unfailed (turn program m lines p) → running n program (turn program m lines p) .ending ≡ Failed OutOfStringSpace l
@@ -111,7 +119,7 @@ module _ (exact : LiveIsExact) (program : List ℕ) (space : ℕ) where
     abbrev after : Position
     after = record { lines = lines; rest = tailOf p }
 
-    by-next : (x : Next) → doStatement program (headOf p) (withStep m) after ≡ x
+    by-next : (x : Next) → doStatement program (placeOf p) (headOf p) (withStep m) after ≡ x
         → running n program (following (lineNumberOf lines) x) .ending ≡ Failed OutOfStringSpace l → Asked (suc n) (at m lines p) l
     by-next (goesOn o q) d e = asked-later (rest (rw d (onward-unfailed o (q .lines) (q .rest))) (rw d e))
     by-next (enters o ls) d e = asked-later (rest (rw d (entering-unfailed o ls)) (rw d e))
@@ -121,7 +129,7 @@ module _ (exact : LiveIsExact) (program : List ℕ) (space : ℕ) where
         let f = sym (ap (λ (r : Ran). r .ending) (over-stays n program (endsWith (Failed x (lineNumberOf lines)) o))) ∙ e in
         let g : x ≡ OutOfStringSpace = cc in
         asked-now n m lines p h (cc)
-        (told (doStatement program (headOf p) (withStep m) after) o (statement-tells exact program (headOf p) (withStep m) after)
+        (told (doStatement program (placeOf p) (headOf p) (withStep m) after) o (statement-tells exact program (placeOf p) (headOf p) (withStep m) after)
         (d ∙ ap (λ y. fails y o) g))
 
   running-asked : (n : ℕ) (s : Standing) (l : LineNumber) → Stands (λ m. m .space ≡ space) s → Unfailed s
@@ -133,18 +141,19 @@ module _ (exact : LiveIsExact) (program : List ℕ) (space : ℕ) where
   running-asked (suc n) (at m lines p) l h u e =
       by-next n m lines p l h
       (λ u′ e′. running-asked n (turn program m lines p) l (turn-stands (λ m. m .space ≡ space) (space-kept space) program m lines p h) u′ e′)
-      (doStatement program (headOf p) (withStep m) (record { lines = lines; rest = tailOf p })) refl e
+      (doStatement program (placeOf p) (headOf p) (withStep m) (record { lines = lines; rest = tailOf p })) refl e
 
   -- ---- from the statement to 14
 
-  running-fails : (n : ℕ) (s : Standing) (l : LineNumber) (x : Statement) (m : Machine) → Begins program n s l x m
-      → ((after : Position) → StatementFails exact program x m after) → running n program s .ending ≡ Failed OutOfStringSpace l
+  running-fails : (n : ℕ) (s : Standing) (ls : List Line) (q : ℕ) (x : Statement) (m : Machine) → Begins program n s ls q x m
+      → ((rest : Rest) → StatementFails exact program q x m (record { lines = ls; rest = rest }))
+      → running n program s .ending ≡ Failed OutOfStringSpace (lineNumberOf ls)
   unfolding running
-  running-fails (suc n) (at m lines p) l x k asks.first f =
-      let y = f (record { lines = lines; rest = tailOf p }) in
+  running-fails (suc n) (at m lines p) ls q x k asks.first f =
+      let y = f (tailOf p) in
       ap (λ z. running n program (following (lineNumberOf lines) z) .ending) (y .1)
       ∙ ap (λ (r : Ran). r .ending) (over-stays n program (endsWith (Failed OutOfStringSpace (lineNumberOf lines)) (y .0)))
-  running-fails (suc n) (at m lines p) l x k (asks.later d) f = running-fails n (turn program m lines p) l x k d f
+  running-fails (suc n) (at m lines p) ls q x k (asks.later d) f = running-fails n (turn program m lines p) ls q x k d f
 
 -- ---- a whole run
 
@@ -164,6 +173,9 @@ module _ (exact : LiveIsExact) (text input : List ℕ) (lent : Lent) (budget : �
       record {
         small = h;
         loads = k;
+        from = a .from;
+        numbered = a .numbered;
+        place = a .place;
         statement = a .statement;
         machine = a .machine;
         begins = a .begins;
@@ -175,10 +187,10 @@ module _ (exact : LiveIsExact) (text input : List ℕ) (lent : Lent) (budget : �
   asked-fails : (l : LineNumber) → AsksTooMuch text input lent budget l → runOf text input lent budget .ending ≡ Failed OutOfStringSpace l
   unfolding runOf
   asked-fails l a =
-      let same = begun-space text (lent .space) budget start l (a .statement) (a .machine) (a .begins) start-space in
-      rw (le-ltb 16384 (lent .space) (a .small), a .loads)
-      (running-fails exact text (lent .space) budget start l (a .statement) (a .machine) (a .begins)
-      (λ after. statement-fails exact text (a .statement) (a .machine) after (a .ask) (a .asks) (rw same (a .exceeds))))
+      let same = begun-space text (lent .space) budget start (a .from) (a .place) (a .statement) (a .machine) (a .begins) start-space in
+      rw (le-ltb 16384 (lent .space) (a .small), a .loads, ← (a .numbered))
+      (running-fails exact text (lent .space) budget start (a .from) (a .place) (a .statement) (a .machine) (a .begins)
+      (λ rest. statement-fails exact text (a .place) (a .statement) (a .machine) (record { lines = a .from; rest = rest }) (a .ask) (a .asks) (rw same (a .exceeds))))
 
   pub fourteen-exactly : (l : LineNumber)
       → (runOf text input lent budget .ending ≡ Failed OutOfStringSpace l) ↔ AsksTooMuch text input lent budget l

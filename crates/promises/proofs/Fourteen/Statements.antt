@@ -224,9 +224,9 @@ module _ (X : Type 0) where
 -- ---- statements
 
 module _ (exact : LiveIsExact) where
-  pub record StatementOver (s : Statement) (m : Machine) : Type 0 where
+  pub record StatementOver (lines : List Line) (at : ℕ) (s : Statement) (m : Machine) : Type 0 where
     pub ask : Ask
-    pub asks : StatementAsks s m ask
+    pub asks : StatementAsks lines at s m ask
     pub exceeds : Over m ask
 
   -- of a formula that it works out
@@ -249,59 +249,59 @@ module _ (exact : LiveIsExact) where
       items-tell X false is n go
       (λ k d x. over k (asks.afterItem e w d) (over-before {m = noting m room} k (write-same (noting m room) (shownValue v) n w) x)) h))
 
-  pub statement-tells : (program : List ℕ) (s : Statement) (m : Machine) (after : Position)
-      → Tells (StatementOver s m) (doStatement program s m after)
+  pub statement-tells : (program : List ℕ) (at : ℕ) (s : Statement) (m : Machine) (after : Position)
+      → Tells (StatementOver (after .lines) at s m) (doStatement program at s m after)
   unfolding bytesIn
-  statement-tells program tree.empty m after = tt
-  statement-tells program (tree.assign v f) m after =
-      worked-tells (StatementOver (tree.assign v f) m) m (valueOf f (m .variables) (roomOf m)) _
+  statement-tells program at tree.empty m after = tt
+  statement-tells program at (tree.assign v f) m after =
+      worked-tells (StatementOver (after .lines) at (tree.assign v f) m) m (valueOf f (m .variables) (roomOf m)) _
       (formula-tells f m (λ k d x. record { ask = k; asks = asks.assigned d; exceeds = x }))
       (λ x room e. assigned-tells _ (v .kind) (v .telling) x (noting m room) _ (λ n. tt))
-  statement-tells program (tree.print is) m after =
-      items-tell (StatementOver (tree.print is) m) false is m _ (λ k d x. record { ask = k; asks = asks.printing d; exceeds = x }) (λ n. tt)
-  statement-tells program (tree.ifThen c p) m after =
-      whole-tells (StatementOver (tree.ifThen c p) m) c m (λ w n. cond (eqb w 0) (lineOver n (after .lines)) (branch n (after .lines) p))
+  statement-tells program at (tree.print is) m after =
+      items-tell (StatementOver (after .lines) at (tree.print is) m) false is m _ (λ k d x. record { ask = k; asks = asks.printing d; exceeds = x }) (λ n. tt)
+  statement-tells program at (tree.ifThen c p) m after =
+      whole-tells (StatementOver (after .lines) at (tree.ifThen c p) m) c m (λ w n. cond (eqb w 0) (lineOver n (after .lines)) (branch n (after .lines) p))
       (formula-tells c m (λ k d x. record { ask = k; asks = asks.tested d; exceeds = x }))
       (λ w room e. by-test (eqb w 0) (λ t. rw t tt) (λ t. rw t tt))
-  statement-tells program (tree.ifElse c p q) m after =
-      whole-tells (StatementOver (tree.ifElse c p q) m) c m _
+  statement-tells program at (tree.ifElse c p q) m after =
+      whole-tells (StatementOver (after .lines) at (tree.ifElse c p q) m) c m _
       (formula-tells c m (λ k d x. record { ask = k; asks = asks.chosen d; exceeds = x })) (λ w room e. tt)
-  statement-tells program (tree.goto l) m after = line-tells _ m (fromNumber (l .0) (linesOf program)) _ (λ ls. tt)
-  statement-tells program (tree.gosub l) m after =
+  statement-tells program at (tree.goto l) m after = line-tells _ m (fromNumber (l .0) (linesOf program)) _ (λ ls. tt)
+  statement-tells program at (tree.gosub l) m after =
       line-tells _ m (fromNumber (l .0) (linesOf program)) _ (λ ls. pushed-tells _ m (call after) (λ n. enters n ls) (λ n. tt))
-  statement-tells program tree.return m after = returned-tells _ (m .records) m
-  statement-tells program (tree.for v from to by) m after =
+  statement-tells program at tree.return m after = returned-tells _ (m .records) m
+  statement-tells program at (tree.for v from to by) m after =
       by-test (isWholeKind (v .kind))
       (λ t. rw t
-      (whole-tells (StatementOver (tree.for v from to by) m) from m _
+      (whole-tells (StatementOver (after .lines) at (tree.for v from to by) m) from m _
       (formula-tells from m (λ k d x. record { ask = k; asks = asks.started t d; exceeds = x })) (λ a room e.
-      whole-tells (StatementOver (tree.for v from to by) m) to (noting m room) _
+      whole-tells (StatementOver (after .lines) at (tree.for v from to by) m) to (noting m room) _
       (formula-tells to (noting m room) (λ k d x. record { ask = k; asks = asks.limited t e d; exceeds = x })) (λ b next d.
-      whole-tells (StatementOver (tree.for v from to by) m) by (noting m next) _
+      whole-tells (StatementOver (after .lines) at (tree.for v from to by) m) by (noting m next) _
       (formula-tells by (noting m next) (λ k c x. record { ask = k; asks = asks.stepped t e d c; exceeds = x })) (λ s last c.
       number-tells _ (noting m last) (v .telling) a
       (begun (v .telling) b s after)
-      (λ q. pushed-tells (StatementOver (tree.for v from to by) m) (cleared (v .telling) q) (loop (v .telling) b s after) (λ r. goesOn r after) (λ r. tt)))))))
+      (λ q. pushed-tells (StatementOver (after .lines) at (tree.for v from to by) m) (cleared (v .telling) q) (loop (v .telling) b s after) (λ r. goesOn r after) (λ r. tt)))))))
       (λ t. rw t (λ x. never (cc)))
-  statement-tells program tree.next m after = next-tells _ m (sought (λ u. true) (m .records)) after
-  statement-tells program (tree.nextOf v) m after =
+  statement-tells program at tree.next m after = next-tells _ m (sought (λ u. true) (m .records)) after
+  statement-tells program at (tree.nextOf v) m after =
       by-test (isWholeKind (v .kind)) (λ t. rw t (next-tells _ m (sought (λ u. alike u (v .telling)) (m .records)) after))
       (λ t. rw t (λ x. never (cc)))
-  statement-tells program (tree.lineInput t v) m after =
-      written-tells (StatementOver (tree.lineInput t v) m) m t _ (λ n w.
+  statement-tells program at (tree.lineInput t v) m after =
+      written-tells (StatementOver (after .lines) at (tree.lineInput t v) m) m t _ (λ n w.
       input-tells _ (n .input) n v _
       (λ b s e short x.
       let k : Ask = record { unfinished = []; bytes = takeLine (b ∷ s) .bytes } in
       record { ask = k; asks = asks.input w e short; exceeds = over-before k (write-same m t n w) (omega (arith, x)) })
       (λ o. tt))
-  statement-tells program tree.end m after = tt
-  statement-tells program tree.stop m after = tt
-  statement-tells program tree.remark m after = tt
+  statement-tells program at tree.end m after = tt
+  statement-tells program at tree.stop m after = tt
+  statement-tells program at tree.remark m after = tt
 
   -- ---- and one that asks for too much ends in 14
 
-  abbrev pub StatementFails : List ℕ → Statement → Machine → Position → Type 0
-  StatementFails program s m after = (n : Machine) × (doStatement program s m after ≡ fails OutOfStringSpace n)
+  abbrev pub StatementFails : List ℕ → ℕ → Statement → Machine → Position → Type 0
+  StatementFails program at s m after = (n : Machine) × (doStatement program at s m after ≡ fails OutOfStringSpace n)
 
   formula-refused : (f : Formula) (m : Machine) (k : Ask) → FormulaAsks f m k → Over m k
       → (room : Room) × (valueOf f (m .variables) (roomOf m) ≡ fault OutOfStringSpace room)
@@ -319,20 +319,20 @@ module _ (exact : LiveIsExact) where
       let y = items-fail false is n go k d (over-after {m = noting m room} k (write-same (noting m room) (shownValue v) n w) h) in
       (y .0, rw (e, w) (y .1))
 
-  pub statement-fails : (program : List ℕ) (s : Statement) (m : Machine) (after : Position) (k : Ask) → StatementAsks s m k → Over m k
-      → StatementFails program s m after
+  pub statement-fails : (program : List ℕ) (at : ℕ) (s : Statement) (m : Machine) (after : Position) (k : Ask) → StatementAsks (after .lines) at s m k → Over m k
+      → StatementFails program at s m after
   unfolding bytesIn
-  statement-fails program (tree.assign v f) m after k (asks.assigned d) h = let y = formula-refused f m k d h in (noting m (y .0), rw (y .1))
-  statement-fails program (tree.print is) m after k (asks.printing d) h = items-fail false is m _ k d h
-  statement-fails program (tree.ifThen c p) m after k (asks.tested d) h = let y = formula-refused c m k d h in (noting m (y .0), rw (y .1))
-  statement-fails program (tree.ifElse c p q) m after k (asks.chosen d) h = let y = formula-refused c m k d h in (noting m (y .0), rw (y .1))
-  statement-fails program (tree.for v from to by) m after k (asks.started t d) h =
+  statement-fails program at (tree.assign v f) m after k (asks.assigned d) h = let y = formula-refused f m k d h in (noting m (y .0), rw (y .1))
+  statement-fails program at (tree.print is) m after k (asks.printing d) h = items-fail false is m _ k d h
+  statement-fails program at (tree.ifThen c p) m after k (asks.tested d) h = let y = formula-refused c m k d h in (noting m (y .0), rw (y .1))
+  statement-fails program at (tree.ifElse c p q) m after k (asks.chosen d) h = let y = formula-refused c m k d h in (noting m (y .0), rw (y .1))
+  statement-fails program at (tree.for v from to by) m after k (asks.started t d) h =
       let y = formula-refused from m k d h in (noting m (y .0), rw (t, y .1))
-  statement-fails program (tree.for v from to by) m after k (asks.limited {room = room} t e d) h =
+  statement-fails program at (tree.for v from to by) m after k (asks.limited {room = room} t e d) h =
       let y = formula-refused to (noting m room) k d h in (noting m (y .0), rw (t, e, y .1))
-  statement-fails program (tree.for v from to by) m after k (asks.stepped {next = next} t e c d) h =
+  statement-fails program at (tree.for v from to by) m after k (asks.stepped {next = next} t e c d) h =
       let y = formula-refused by (noting m next) k d h in (noting m (y .0), rw (t, e, c, y .1))
-  statement-fails program (tree.lineInput t v) m after k (asks.input {n = n} {b = b} {s = s} w e short) h =
+  statement-fails program at (tree.lineInput t v) m after k (asks.input {n = n} {b = b} {s = s} w e short) h =
       let line = takeLine (b ∷ s) in
       let taken = withInput n (line .left) (n .taken + (length (n .input) - length (line .left))) in
       let x = over-after {m = m} {n = n} (record { unfinished = []; bytes = line .bytes }) (write-same m t n w) h in

@@ -23,6 +23,7 @@ use Rattle.variables.specs.Strings.{Room, value}
 use Rattle.variables.specs.Variables.{stringBytes}
 use Rattle.operators.specs.Values.{valueOf}
 use Rattle.machine.specs.Machine.{Machine, Lent, fresh, roomOf, withStep}
+use Rattle.statements.specs.Parts.{placeOf}
 use Rattle.statements.specs.Parts.{Rest, nothing, part, headOf, tailOf}
 use Rattle.turns.specs.Steps.{Next, goesOn, enters, ends, stops, fails, doStatement}
 use Rattle.runner.specs.Run.{endsWith, lineNumberOf, Entered, over, faulty, opened, enter, Standing, finished, at, byEntered, entering, onward, following, turn, running, runOf}
@@ -60,8 +61,8 @@ following-stands P l (fails e m) p = p
 pub turn-stands : (P : Machine → Type 0) → Keeps P → (program : List ℕ) (m : Machine) (lines : List Line) (p : Part) → P (withStep m)
     → Stands P (turn program m lines p)
 turn-stands P k program m lines p h =
-    following-stands P (lineNumberOf lines) (doStatement program (headOf p) (withStep m) (record { lines = lines; rest = tailOf p }))
-    (statement-keeps P k program (headOf p) (withStep m) (record { lines = lines; rest = tailOf p }) h)
+    following-stands P (lineNumberOf lines) (doStatement program (placeOf p) (headOf p) (withStep m) (record { lines = lines; rest = tailOf p }))
+    (statement-keeps P k program (placeOf p) (headOf p) (withStep m) (record { lines = lines; rest = tailOf p }) h)
 
 -- all turns
 running-keeps : (P : Machine → Type 0) → Keeps P → ((m : Machine) → P m → P (withStep m))

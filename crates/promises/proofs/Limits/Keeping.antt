@@ -240,29 +240,29 @@ module _ (P : Machine → Type 0) (k : Keeps P) where
 
   -- ---- all statements
 
-  pub statement-keeps : (program : List ℕ) (s : Statement) (m : Machine) (after : Position) → P m → Leaves P (doStatement program s m after)
-  statement-keeps program tree.empty m after p = p
-  statement-keeps program (tree.assign v f) m after p = assigned-keeps m f (v .kind) (v .telling) _ p (λ n q. q)
-  statement-keeps program (tree.print is) m after p = items-keep false is m _ p (λ n q. q)
-  statement-keeps program (tree.ifThen c q) m after p =
+  pub statement-keeps : (program : List ℕ) (at : ℕ) (s : Statement) (m : Machine) (after : Position) → P m → Leaves P (doStatement program at s m after)
+  statement-keeps program at tree.empty m after p = p
+  statement-keeps program at (tree.assign v f) m after p = assigned-keeps m f (v .kind) (v .telling) _ p (λ n q. q)
+  statement-keeps program at (tree.print is) m after p = items-keep false is m _ p (λ n q. q)
+  statement-keeps program at (tree.ifThen c q) m after p =
       whole-keeps c m (λ w n. cond (eqb w 0) (lineOver n (after .lines)) (branch n (after .lines) q)) p
       (λ w n r. by-test (eqb w 0) (λ e. rw e r) (λ e. rw e r))
-  statement-keeps program (tree.ifElse c x y) m after p = whole-keeps c m _ p (λ w n r. r)
-  statement-keeps program (tree.goto l) m after p = line-keeps m (fromNumber (l .0) (linesOf program)) _ p (λ ls. p)
-  statement-keeps program (tree.gosub l) m after p =
+  statement-keeps program at (tree.ifElse c x y) m after p = whole-keeps c m _ p (λ w n r. r)
+  statement-keeps program at (tree.goto l) m after p = line-keeps m (fromNumber (l .0) (linesOf program)) _ p (λ ls. p)
+  statement-keeps program at (tree.gosub l) m after p =
       line-keeps m (fromNumber (l .0) (linesOf program)) _ p (λ ls. pushed-keeps m (call after) (λ n. enters n ls) p (λ n q. q))
-  statement-keeps program tree.return m after p = returned-keeps (m .records) m p
-  statement-keeps program (tree.for v from to by) m after p =
+  statement-keeps program at tree.return m after p = returned-keeps (m .records) m p
+  statement-keeps program at (tree.for v from to by) m after p =
       by-test (isWholeKind (v .kind))
       (λ e. rw e
       (whole-keeps from m _ p (λ a n q. whole-keeps to n _ q (λ b o r. whole-keeps by o _ r (λ s x y.
       number-keeps x (v .telling) a (begun (v .telling) b s after) y (λ z u.
       pushed-keeps (cleared (v .telling) z) (loop (v .telling) b s after) (λ o. goesOn o after) (k .records z _ u) (λ _ t. t)))))))
       (λ e. rw e p)
-  statement-keeps program tree.next m after p = next-keeps m (sought (λ u. true) (m .records)) after p
-  statement-keeps program (tree.nextOf v) m after p =
+  statement-keeps program at tree.next m after p = next-keeps m (sought (λ u. true) (m .records)) after p
+  statement-keeps program at (tree.nextOf v) m after p =
       by-test (isWholeKind (v .kind)) (λ e. rw e (next-keeps m (sought (λ u. alike u (v .telling)) (m .records)) after p)) (λ e. rw e p)
-  statement-keeps program (tree.lineInput t v) m after p = written-keeps m t _ p (λ n q. input-keeps (n .input) n v _ refl q (λ o r. r))
-  statement-keeps program tree.end m after p = p
-  statement-keeps program tree.stop m after p = p
-  statement-keeps program tree.remark m after p = p
+  statement-keeps program at (tree.lineInput t v) m after p = written-keeps m t _ p (λ n q. input-keeps (n .input) n v _ refl q (λ o r. r))
+  statement-keeps program at tree.end m after p = p
+  statement-keeps program at tree.stop m after p = p
+  statement-keeps program at tree.remark m after p = p

@@ -10,6 +10,7 @@ use Rattle.words.specs.declared.places.Place.{Place}
 use Rattle.loader.specs.Lines.{Line, linesOf, nextLine}
 use Rattle.loader.specs.declared.refusals.Refusal.{Refusal}
 use Rattle.machine.specs.Machine.{Machine, Lent, fresh, withStep}
+use Rattle.statements.specs.Parts.{placeOf}
 use Rattle.statements.specs.Parts.{Rest, nothing, part, headOf, tailOf}
 use Rattle.turns.specs.Steps.{Next, goesOn, enters, ends, stops, fails, doStatement}
 use Rattle.runner.specs.Run.{endsWith, lineNumberOf, Entered, over, faulty, opened, enter, Standing, finished, at, byEntered, entering, onward, following, turn, running, isRefused, runOf}
@@ -51,7 +52,7 @@ running-begun zero program (at m lines p) h = refl
 running-begun (suc n) program (finished r) h = h
 running-begun (suc n) program (at m lines p) h =
     running-begun n program (turn program m lines p)
-    (following-begun (lineNumberOf lines) (doStatement program (headOf p) (withStep m) (record { lines = lines; rest = tailOf p })))
+    (following-begun (lineNumberOf lines) (doStatement program (placeOf p) (headOf p) (withStep m) (record { lines = lines; rest = tailOf p })))
 
 -- ---- a whole run
 

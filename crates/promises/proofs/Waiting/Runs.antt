@@ -11,7 +11,7 @@ use Rattle.loader.specs.Loading.{loadOf}
 use Rattle.loader.specs.declared.loading.Loaded.{Loaded}
 use Rattle.loader.specs.declared.loading.Loaded.the-variants as loaded
 use Rattle.grammar.specs.Trees.{Part, last, more}
-use Rattle.statements.specs.Parts.{formulasOf, headOf, tailOf, Rest, nothing, part, partsOf, partsWithin, heads, statementsOf}
+use Rattle.statements.specs.Parts.{formulasOf, headOf, tailOf, Rest, nothing, part, partsOf, partsWithin, heads, statementsOf, placeOf}
 use Rattle.machine.specs.Machine.{Position, Machine, Lent, fresh, withStep}
 use Rattle.turns.specs.Steps.{Next, goesOn, enters, ends, stops, fails, doStatement}
 use Rattle.runner.specs.Run.{Ran, lineNumberOf, Entered, over, faulty, opened, enter, Standing, finished, at, byEntered, entering, onward, following, turn, running, ifLoaded, runOf}
@@ -62,8 +62,8 @@ turn-fine : (program : List ℕ) (m : Machine) (lines : List Line) (p : Part) �
 turn-fine program m lines p s h =
     let k = head-fine p h in
     let after : Position = record { lines = lines; rest = tailOf p } in
-    following-fine (lineNumberOf lines) (doStatement program (headOf p) (withStep m) after)
-    (statement-sound program (headOf p) (withStep m) after (k .0) (k .1) (record { few = s .few; held = s .held }) (k .2))
+    following-fine (lineNumberOf lines) (doStatement program (placeOf p) (headOf p) (withStep m) after)
+    (statement-sound program (placeOf p) (headOf p) (withStep m) after (k .0) (k .1) (record { few = s .few; held = s .held }) (k .2))
 
 running-few : (budget : ℕ) (program : List ℕ) (x : Standing) → StandingFine x → running budget program x .machine .highest ≤ mostUnfinished
 unfolding running

@@ -192,37 +192,37 @@ input-sound (b ∷ rest) m v after s h =
 
 -- ---- all statements
 
-pub statement-sound : (program : List ℕ) (x : Statement) (m : Machine) (after : Position) → Each Fine (formulasOf x)
-    → Every Fine (heads (partsWithin x)) → Sound m → RestFine (after .rest) → NextFine (doStatement program x m after)
+pub statement-sound : (program : List ℕ) (at : ℕ) (x : Statement) (m : Machine) (after : Position) → Each Fine (formulasOf x)
+    → Every Fine (heads (partsWithin x)) → Sound m → RestFine (after .rest) → NextFine (doStatement program at x m after)
 unfolding partsOf heads
-statement-sound program tree.empty m after g p s a = (s, a)
-statement-sound program (tree.assign v f) m after g p s a =
+statement-sound program at tree.empty m after g p s a = (s, a)
+statement-sound program at (tree.assign v f) m after g p s a =
     formula-sound m _ (g .0) s (λ x n t. assigned-sound (v .kind) (v .telling) x after t a)
-statement-sound program (tree.print is) m after g p s a = print-sound false is m _ g s (λ n t. (t, a))
-statement-sound program (tree.ifThen c q) m after g p s a =
+statement-sound program at (tree.print is) m after g p s a = print-sound false is m _ g s (λ n t. (t, a))
+statement-sound program at (tree.ifThen c q) m after g p s a =
     whole-sound m _ (g .0) s (λ w n t. either-fine (eqb w 0) _ _ (t, tt) (t, p))
-statement-sound program (tree.ifElse c q r) m after g p s a =
+statement-sound program at (tree.ifElse c q r) m after g p s a =
     let h = parts-split Fine (partsOf q) (partsOf r) p in
     whole-sound m _ (g .0) s (λ w n t. by-test (eqb w 0) (λ e. rw e (t, h .1)) (λ e. rw e (t, h .0)))
-statement-sound program (tree.goto l) m after g p s a = line-sound (fromNumber (l .0) (linesOf program)) _ s (λ ls. s)
-statement-sound program (tree.gosub l) m after g p s a =
+statement-sound program at (tree.goto l) m after g p s a = line-sound (fromNumber (l .0) (linesOf program)) _ s (λ ls. s)
+statement-sound program at (tree.gosub l) m after g p s a =
     line-sound (fromNumber (l .0) (linesOf program)) _ s (λ ls. pushed-sound (call after) (λ n. enters n ls) s a (λ n t. t))
-statement-sound program tree.return m after g p s a = returned-sound (m .records) (s .held) s
-statement-sound program (tree.for v from to by) m after g p s a =
+statement-sound program at tree.return m after g p s a = returned-sound (m .records) (s .held) s
+statement-sound program at (tree.for v from to by) m after g p s a =
     either-fine (isWholeKind (v .kind)) _ _
     (whole-sound m _ (g .0) s (λ x n t.
     whole-sound n _ (g .1 .0) t (λ y o u.
     whole-sound o _ (g .1 .1 .0) u (λ z q w. loop-sound q (v .telling) x y z after w a))))
     s
-statement-sound program tree.next m after g p s a =
+statement-sound program at tree.next m after g p s a =
     next-sound (sought (λ u. true) (m .records)) after s (sought-fine (λ u. true) (m .records) (s .held)) a
-statement-sound program (tree.nextOf v) m after g p s a =
+statement-sound program at (tree.nextOf v) m after g p s a =
     either-fine (isWholeKind (v .kind)) _ _
     (next-sound (sought (λ u. alike u (v .telling)) (m .records)) after s
     (sought-fine (λ u. alike u (v .telling)) (m .records) (s .held)) a)
     s
-statement-sound program (tree.lineInput t v) m after g p s a =
+statement-sound program at (tree.lineInput t v) m after g p s a =
     written-sound m t _ s (λ n i. input-sound (n .input) n v after i a)
-statement-sound program tree.end m after g p s a = s
-statement-sound program tree.stop m after g p s a = s
-statement-sound program tree.remark m after g p s a = (s, a)
+statement-sound program at tree.end m after g p s a = s
+statement-sound program at tree.stop m after g p s a = s
+statement-sound program at tree.remark m after g p s a = (s, a)

@@ -13,7 +13,7 @@ use Rattle.loader.specs.declared.lines.LineFound.the-variants.{Is}
 use Rattle.loader.specs.declared.loading.Loaded.the-variants.{Fine}
 use Rattle.loader.specs.declared.refusals.Refusal.{Refusal}
 use Rattle.variables.specs.declared.tables.Tables.{Tables}
-use Rattle.statements.specs.Parts.{headOf, tailOf}
+use Rattle.statements.specs.Parts.{headOf, tailOf, placeOf}
 use Rattle.machine.specs.Machine as spec
 use Rattle.machine.specs.bridge.Holding.{linesAt, bodyOf, positionOf, Begins, Parted, Positioned, Sound, Same}
 use Rattle.machine.specs.declared.state.Machine.{Machine}
@@ -100,7 +100,7 @@ pub record TurnAs (text : List ℕ) (span : LineSpan) (at : Place) (m : Machine)
   pub leaves : Leaves (stepped m) input space room r space′ room′
   pub comes : (w : Stood text span at) (n : spec.Machine) → Same text rs m input space room n
       → Comes text (r .next)
-      (doStatement text (headOf (w .reads .of)) (spec.withStep n) (record { lines = linesAt text (span .place .0); rest = tailOf (w .reads .of) }))
+      (doStatement text (placeOf (w .reads .of)) (headOf (w .reads .of)) (spec.withStep n) (record { lines = linesAt text (span .place .0); rest = tailOf (w .reads .of) }))
       (Same text (set rs (r .slot) (r .held)) (r .machine) input space′ room′)
 
 -- ---- the end

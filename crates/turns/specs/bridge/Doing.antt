@@ -30,21 +30,21 @@ Begins (done x u) = endsStatement (u .token) ≡ true
 Begins (choice c u) = Unit {0}
 
 -- what was done is what the definition does, wherever the statement or the IF's parts read
-module _ (text line : List ℕ) (here : Place) (m : Machine) (found : Found) (entry : Record) (input space room : List ℕ) (r : Turned)
+module _ (text line : List ℕ) (here : Place) (at : ℕ) (m : Machine) (found : Found) (entry : Record) (input space room : List ℕ) (r : Turned)
     (space′ room′ : List ℕ) where
   abbrev pub Does : Begun → Type 0
   Does bad = Unit {0}
   Does (done x u) =
       Positioned text (afterOf here u)
       → Turns text m input space room (Told (soughtBy x) (m .depth) found entry)
-      (λ n. doStatement text x n (positionOf text (afterOf here u))) r space′ room′
+      (λ n. doStatement text at x n (positionOf text (afterOf here u))) r space′ room′
   Does (choice c way) =
       (p : Part) (u : Scanned) (after : spec.Position) → after .lines ≡ linesAt text (here .0)
       → partOf line true (way .next .0) ≡ goodPart p u
       → (isKeyword Else (u .token) ≡ false
-      → Turns text m input space room (Told sought.Nothing (m .depth) found entry) (λ n. doStatement text (tree.ifThen c p) n after) r space′ room′)
+      → Turns text m input space room (Told sought.Nothing (m .depth) found entry) (λ n. doStatement text at (tree.ifThen c p) n after) r space′ room′)
       × (isKeyword Else (u .token) ≡ true → (q : Part) (v : Scanned) → partOf line true (u .next .0) ≡ goodPart q v
-      → Turns text m input space room (Told sought.Nothing (m .depth) found entry) (λ n. doStatement text (tree.ifElse c p q) n after) r space′ room′)
+      → Turns text m input space room (Told sought.Nothing (m .depth) found entry) (λ n. doStatement text at (tree.ifElse c p q) n after) r space′ room′)
 
 -- ---- from the token on that a name or a line number is
 

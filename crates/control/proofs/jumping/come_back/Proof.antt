@@ -5,12 +5,12 @@ use Rattle.control.proofs.jumping.come_back.Statement.{statement}
 use Rattle.control.proofs.jumping.come_back.Tie as tie
 
 returns : tie.Need-returns
-returns c text input space room after s = rw (c .fails .ensures, c .before .enum-told .given .1) (back-missing after s)
+returns c text input space room at after s = rw (c .fails .ensures, c .before .enum-told .given .1) (back-missing at after s)
 
 returns-2 : tie.Need-returns-2
-returns-2 c text input space room after s =
+returns-2 c text input space room at after s =
     let f = c .before .before .before .found .given in
-    rw (c .turned-to .ensures, f .1) (back-found after s (f .0 .0) (rw (f .1) at (c .before .before .before .before .before .pre)))
+    rw (c .turned-to .ensures, f .1) (back-found at after s (f .0 .0) (rw (f .1) at (c .before .before .before .before .before .pre)))
 
 pub come-back-spec : {M : Type 1} → statement M
 come-back-spec =

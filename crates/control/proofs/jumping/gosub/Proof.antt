@@ -10,18 +10,18 @@ use Rattle.control.proofs.jumping.gosub.Statement.{statement}
 use Rattle.control.proofs.jumping.gosub.Tie as tie
 
 returns : tie.Need-returns
-returns c input space room s p =
+returns c input space room at s p =
     let f = c .before .before .before .find-line in
     let a = c .before .before .before .before .before .args in
     rw (c .fails .ensures)
     (line-missing _ s (λ n ls. pushed n (call (positionOf (a .text .now) (afterOf (a .here) (a .ahead)))) (λ o. enters o ls)) (sym (f .ensures) ∙ c .before .enum-told .given .1))
 
 returns-2 : tie.Need-returns-2
-returns-2 c input space room s p =
+returns-2 c input space room at s p =
     let k = c .before .before .before in
     let f = k .before .before .before .before .find-line in
     rw (c .push .ensures, k .blank .ensures, c .before .before .after .ensures)
-    (gosub-found _ s _ p (sym (f .ensures) ∙ k .before .before .span .given .1))
+    (gosub-found _ s at _ p (sym (f .ensures) ∙ k .before .before .span .given .1))
 
 pub gosub-spec : {M : Type 1} → statement M
 gosub-spec =

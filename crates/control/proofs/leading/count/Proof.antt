@@ -24,12 +24,12 @@ same-length c = search needs
 
 returns : tie.Need-returns
 returns c =
-    λ text input room entry sound.
-    loop-does _ _ _ _ _ _ _ _ _ _ _ _ (c .before .before .before .before .before .before .before .before .before .before .args .target) (c .before .before .before .before .before .token .given .0 .0) (c .before .before .before .before .before .token .given .1)
-    (λ from to by u p e. c .before .before .for-loop .ensures text input room from to by u sound p (rw (← (c .before .before .before .before .before .before .before .token-at .ensures)) at e) entry)
+    λ text input room at entry sound.
+    loop-does _ _ _ at _ _ _ _ _ _ _ _ _ (c .before .before .before .before .before .before .before .before .before .before .args .target) (c .before .before .before .before .before .token .given .0 .0) (c .before .before .before .before .before .token .given .1)
+    (λ from to by u p e. c .before .before .for-loop .ensures text input room at from to by u sound p (rw (← (c .before .before .before .before .before .before .before .token-at .ensures)) at e) entry)
 
 returns-2 : tie.Need-returns-2
-returns-2 c = λ text input room entry sound. rw (no-name (c .before .before .before .before .before .args .target .token) _ _ (c .before .match .keys2)) tt
+returns-2 c = λ text input room at entry sound. rw (no-name (c .before .before .before .before .before .args .target .token) _ _ (c .before .match .keys2)) tt
 
 pub count-spec : {M : Type 1} → statement M
 count-spec =

@@ -30,18 +30,18 @@ next-turn-requires-2 c κs = search needs
 
 returns : tie.Need-returns
 returns c =
-    λ text input space room sound. rw (c .before .before .before .before .token .given .1, c .fails .ensures)
-    (λ p. next-text sound _ (variableOf (c .before .before .before .before .before .before .before .args .line .now) (c .before .before .before .before .token .given .0 .0)) _ (c .before .enum-told .given .1))
+    λ text input space room at sound. rw (c .before .before .before .before .token .given .1, c .fails .ensures)
+    (λ p. next-text sound _ at (variableOf (c .before .before .before .before .before .before .before .args .line .now) (c .before .before .before .before .token .given .0 .0)) _ (c .before .enum-told .given .1))
 
 returns-2 : tie.Need-returns-2
 returns-2 c =
-    λ text input space room sound. rw (c .before .before .before .before .before .token .given .1, ← (c .before .token-at .ensures))
+    λ text input space room at sound. rw (c .before .before .before .before .before .token .given .1, ← (c .before .token-at .ensures))
     (λ p.
     let v = variableOf (c .before .before .before .before .before .before .before .before .args .line .now) (c .before .before .before .before .before .token .given .0 .0) in
-    next-whole v _ (c .before .before .enum-told2 .given .1) (c .next-turn .ensures text input space room (LoopOf (v .telling)) refl sound p))
+    next-whole at v _ (c .before .before .enum-told2 .given .1) (c .next-turn .ensures text input space room (LoopOf (v .telling)) refl sound p))
 
 returns-3 : tie.Need-returns-3
-returns-3 c = λ text input space room sound. rw (no-name (c .before .before .before .args .target .token) _ _ (c .before .match .keys2)) (c .next-turn2 .ensures text input space room Loop refl sound)
+returns-3 c = λ text input space room at sound. rw (no-name (c .before .before .before .args .target .token) _ _ (c .before .match .keys2)) (c .next-turn2 .ensures text input space room Loop refl sound)
 
 pub next-loop-spec : {M : Type 1} → statement M
 next-loop-spec =

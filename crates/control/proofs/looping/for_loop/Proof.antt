@@ -11,8 +11,8 @@ use Rattle.control.proofs.looping.for_loop.Statement.{statement}
 use Rattle.control.proofs.looping.for_loop.Tie as tie
 
 returns : tie.Need-returns
-returns c text input room from to by u sound p e entry =
-    rw (c .fails .ensures) (for-text _ from to by _ (c .before .enum-told2 .given .1) sound)
+returns c text input room at from to by u sound p e entry =
+    rw (c .fails .ensures) (for-text at _ from to by _ (c .before .enum-told2 .given .1) sound)
 
 value-requires : tie.Need-value-requires
 value-requires c κs = let k = c .before .before .before .before .before .before .before .before .pre in (rw (c .before .token-at .ensures) (start-formed (k .0)), k .1 .0)
@@ -25,32 +25,32 @@ with-limit-requires c κs =
     (rw (c .before .token-at2 .ensures, v .goes) (limit-read (k .0)), (settled-kept (v .framed .long) (k .1 .0), k .1 .1))
 
 returns-2 : tie.Need-returns-2
-returns-2 c text input room from to by u sound p e entry =
+returns-2 c text input room at from to by u sound p e entry =
     let a = c .before .before .before .before .before .before .before .before .before .before .before .before .before .before .before .args in
     let v = variableOf (a .line .now) (a .name) in
     let f = for-read (a .line .now) v (a .equals) e in
     rw (c .fails2 .ensures)
-    (for-whole v from to by _ (c .before .before .before .before .before .before .before .before .before .before .before .enum-told .given .1)
+    (for-whole at v from to by _ (c .before .before .before .before .before .before .before .before .before .before .before .enum-told .given .1)
     (turns-fault (λ w n. limitsFrom (v .telling) (positionOf text (afterOf (a .here) u)) to by w n) sound
     (rw (c .before .before .error .given .1) at (c .before .before .before .before .before .before .value .ensures from (f .upto) (rw (c .before .before .before .before .before .before .before .before .token-at .ensures) (f .from))))))
 
 returns-3 : tie.Need-returns-3
-returns-3 c text input room from to by u sound p e entry =
+returns-3 c text input room at from to by u sound p e entry =
     let a = c .before .before .before .before .before .before .before .before .before .before .before .before .before .before .args in
     let v = variableOf (a .line .now) (a .name) in
     let f = for-read (a .line .now) v (a .equals) e in
     rw (c .fails3 .ensures)
-    (for-whole v from to by _ (c .before .before .before .before .before .before .before .before .before .before .enum-told .given .1)
+    (for-whole at v from to by _ (c .before .before .before .before .before .before .before .before .before .before .enum-told .given .1)
     (turns-text (λ w n. limitsFrom (v .telling) (positionOf text (afterOf (a .here) u)) to by w n) sound
     (rw (c .before .enum-told3 .given .1) at (c .before .before .before .before .before .value .ensures from (f .upto) (rw (c .before .before .before .before .before .before .before .token-at .ensures) (f .from))))))
 
 returns-4 : tie.Need-returns-4
-returns-4 c text input room from to by u sound p e entry =
+returns-4 c text input room at from to by u sound p e entry =
     let a = c .before .before .before .before .before .before .before .before .before .before .before .before .before .before .before .before .before .before .before .before .args in
     let v = variableOf (a .line .now) (a .name) in
     let f = for-read (a .line .now) v (a .equals) e in
     let x = rw (c .before .before .before .before .before .before .before .from .given .1) at (c .before .before .before .before .before .before .before .before .before .before .before .value .ensures from (f .upto) (rw (c .before .before .before .before .before .before .before .before .before .before .before .before .before .token-at .ensures) (f .from))) in
-    for-whole v from to by _ (c .before .before .before .before .before .before .before .before .before .before .before .before .before .before .before .before .enum-told .given .1)
+    for-whole at v from to by _ (c .before .before .before .before .before .before .before .before .before .before .before .before .before .before .before .before .enum-told .given .1)
     (turns-whole (λ w n. limitsFrom (v .telling) (positionOf text (afterOf (a .here) u)) to by w n) sound x
     (rw (c .before .before .before .before .before .before .before .before .before .before .before .before .before .before .before .telling-of .ensures) at
     (c .before .before .with-limit .ensures text input room to by (f .steps) u (sound-kept (x .framed .long) sound) p

@@ -4,10 +4,10 @@ use Rattle.dialogue.proofs.inputting.line_input.Statement.{statement}
 use Rattle.dialogue.proofs.inputting.line_input.Tie as tie
 
 returns : tie.Need-returns
-returns c text prompt v u p e =
+returns c text prompt at v u p e =
     let w = c .before .before .before .before in
     let k = w .before .before .before .before .asked-at .ensures .1 .1 prompt v u e in
-    rw (k .0) (w .prompt .ensures text v u p (rw (k .0) at (k .1)))
+    rw (k .0) (w .prompt .ensures text at v u p (rw (k .0) at (k .1)))
 
 pub line-input-spec : {M : Type 1} → statement M
 line-input-spec =

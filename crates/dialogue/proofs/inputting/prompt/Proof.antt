@@ -20,8 +20,8 @@ same-length c = search needs
 
 returns : tie.Need-returns
 returns c =
-    λ program v u p e. rw (c .fails .ensures, c .before .before .before .before .before .write .ensures .1)
-    (asks-full program (c .before .before .before .before .before .before .before .before .before .before .before .before .pre) (c .before .before .before .before .before .before .before .before .before .before .before .before .args .text .now) v (positionOf program (afterOf (c .before .before .before .before .before .before .before .before .before .before .before .before .args .here) u)) (failed (ap (λ (x : Printed). x .ok) (c .before .before .before .before .before .write .ensures .0)) (c .before .if1 .taken)))
+    λ program at v u p e. rw (c .fails .ensures, c .before .before .before .before .before .write .ensures .1)
+    (asks-full program (c .before .before .before .before .before .before .before .before .before .before .before .before .pre) at (c .before .before .before .before .before .before .before .before .before .before .before .before .args .text .now) v (positionOf program (afterOf (c .before .before .before .before .before .before .before .before .before .before .before .before .args .here) u)) (failed (ap (λ (x : Printed). x .ok) (c .before .before .before .before .before .write .ensures .0)) (c .before .if1 .taken)))
 
 with-printer-requires : tie.Need-with-printer-requires
 with-printer-requires c κs = search needs
@@ -46,10 +46,10 @@ same-length-3 c = c .before .before .before .before .before .before .before .bef
 
 returns-2 : tie.Need-returns-2
 returns-2 c =
-    λ program v u p e.
+    λ program at v u p e.
     let k = target-is (c .before .before .before .before .before .before .before .before .before .before .before .before .before .before .before .before .before .before .before .before .before .args .line .now) (c .before .before .before .before .before .before .before .before .before .before .before .before .before .before .before .before .before .before .before .before .before .args .text .now) (c .before .before .before .before .before .before .before .before .before .before .before .before .before .before .before .before .before .before .before .before .before .args .target) (c .before .before .before .before .before .before .token .given .1) e in
     rw (k .0, k .1, ← (c .before .before .before .before .token-at .ensures))
-    (asks-on program (c .before .before .before .before .before .before .before .before .before .before .before .before .before .before .before .before .before .before .before .before .before .pre) (c .before .before .before .before .before .before .before .before .before .before .before .before .before .before .before .before .before .before .before .before .before .args .text .now) (variableOf (c .before .before .before .before .before .before .before .before .before .before .before .before .before .before .before .before .before .before .before .before .before .args .line .now) (c .before .before .before .before .before .before .token .given .0 .0)) (positionOf program (afterOf (c .before .before .before .before .before .before .before .before .before .before .before .before .before .before .before .before .before .before .before .before .before .args .here) (c .before .before .before .before .token-at .result)))
+    (asks-on program (c .before .before .before .before .before .before .before .before .before .before .before .before .before .before .before .before .before .before .before .before .before .pre) at (c .before .before .before .before .before .before .before .before .before .before .before .before .before .before .before .before .before .before .before .before .before .args .text .now) (variableOf (c .before .before .before .before .before .before .before .before .before .before .before .before .before .before .before .before .before .before .before .before .before .args .line .now) (c .before .before .before .before .before .before .token .given .0 .0)) (positionOf program (afterOf (c .before .before .before .before .before .before .before .before .before .before .before .before .before .before .before .before .before .before .before .before .before .args .here) (c .before .before .before .before .token-at .result)))
     (passed (ap (λ (x : Printed). x .ok) (c .before .before .before .before .before .before .before .before .before .before .before .before .before .before .write .ensures .0)) (c .before .before .before .before .before .before .before .before .before .before .if1 .left))
     (c .before .before .before .before .before .before .before .before .with-printer .ensures ∙ ap (λ (x : Printed). withPrinter (c .before .before .before .before .before .before .before .before .before .before .before .before .before .before .before .before .before .before .before .before .before .args .machine) (x .printer)) (c .before .before .before .before .before .before .before .before .before .before .before .before .before .before .write .ensures .0)) (c .before .before .before .before .before .before .before .before .before .before .before .before .before .before .write .ensures .1)
     (λ s. c .before .before .take-in .ensures program (c .before .before .before .before .before .before .before .before .before .before .before .before .before .before .write .last .1 .0) s (rw (k .1, ← (c .before .before .before .before .token-at .ensures)) at p)))
@@ -58,7 +58,7 @@ same-length-4 : tie.Need-same-length-4
 same-length-4 c = search needs
 
 returns-3 : tie.Need-returns-3
-returns-3 c = λ program v u p e. absurd (not-target (c .before .before .before .before .before .before .before .before .before .before .before .before .before .before .before .args .line .now) (c .before .before .before .before .before .before .before .before .before .before .before .before .before .before .before .args .text .now) (c .before .before .before .before .before .before .before .before .before .before .before .before .before .before .before .args .target) (c .before .match .keys2) e)
+returns-3 c = λ program at v u p e. absurd (not-target (c .before .before .before .before .before .before .before .before .before .before .before .before .before .before .before .args .line .now) (c .before .before .before .before .before .before .before .before .before .before .before .before .before .before .before .args .text .now) (c .before .before .before .before .before .before .before .before .before .before .before .before .before .before .before .args .target) (c .before .match .keys2) e)
 
 pub prompt-spec : {M : Type 1} → statement M
 prompt-spec =

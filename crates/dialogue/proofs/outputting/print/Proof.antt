@@ -45,10 +45,10 @@ same-length-2 c =
 returns : tie.Need-returns Inv-loop μ-loop
 returns c =
     let p = c .before .before in let t = p .before .before in let l = t .before .before in
-    λ text input is u sound at e.
+    λ text input at is u sound placed e.
     rw (p .print-end .ensures .0, p .print-end .ensures .1)
     (prints-ends (l .loop .inv is u e) (sym (t .before .ends-items .ensures) ∙ t .if1 .taken) text input
-    (l .before .before .before .before .args .here) sound at)
+    (l .before .before .before .before .args .here) at sound placed)
 
 -- ---- at an item
 
@@ -89,11 +89,11 @@ returns-2 : tie.Need-returns-2 Inv-loop μ-loop
 returns-2 c =
     let p = c .before .before .before .before .before .before .before .before in let k = p .before .before .before .before in
     let l = k .before .before in
-    λ text input is u sound at e.
+    λ text input at is u sound placed e.
     let a = next-item k e in
     rw (c .fails .ensures)
     (prints-fails (l .loop .inv is u e) a (rw (c .before .before .error .given .1) at (p .print-item .ensures (a .first) (a .next) (a .at)))
-    text input (l .before .before .before .before .args .here) sound)
+    text input (l .before .before .before .before .args .here) at sound)
 
 loop-less : tie.Need-loop-less Inv-loop μ-loop
 loop-less c =

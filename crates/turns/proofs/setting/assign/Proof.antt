@@ -15,36 +15,36 @@ with-string-requires c κs =
 returns : tie.Need-returns
 returns c =
     let k = c .before .before .before .before .before .before in let s = k .before .before .before .before .before in
-    λ text input room f u sound p e.
-    rw (c .fails .ensures) (assigned-fault text (s .args .here) sound (variableOf (s .args .line .now) (s .args .name)) (rw (c .before .before .error .given .1) at (k .value .ensures f u e)))
+    λ text input room at f u sound p e.
+    rw (c .fails .ensures) (assigned-fault text (s .args .here) at sound (variableOf (s .args .line .now) (s .args .name)) (rw (c .before .before .error .given .1) at (k .value .ensures f u e)))
 
 returns-2 : tie.Need-returns-2
 returns-2 c =
     let k = c .before .before .before .before in let g = k .before .before .before .before in let s = g .before .before .before .before .before in
-    λ text input room f u sound p e.
+    λ text input room at f u sound p e.
     rw (c .fails2 .ensures, c .before .enum-told .given .1)
-    (assigned-whole-text text (s .args .here) sound _ (rw (k .word .given .1) at (g .value .ensures f u e)))
+    (assigned-whole-text text (s .args .here) at sound _ (rw (k .word .given .1) at (g .value .ensures f u e)))
 
 returns-3 : tie.Need-returns-3
 returns-3 c =
     let k = c .before .before .before .before .before in let g = k .before .before .before .before in let q = g .before .before in let s = q .before .before .before in
-    λ text input room f u sound p e.
+    λ text input room at f u sound p e.
     rw (c .stored-or-full .ensures, c .before .with-number .ensures, q .telling-of .ensures, c .before .before .enum-told2 .given .1)
-    (assigned-number text (s .args .here) sound p _ (rw (k .word .given .1) at (g .value .ensures f u e)))
+    (assigned-number text (s .args .here) at sound p _ (rw (k .word .given .1) at (g .value .ensures f u e)))
 
 returns-4 : tie.Need-returns-4
 returns-4 c =
     let k = c .before .before .before .before in let g = k .before .before .before .before in let s = g .before .before .before .before .before in
-    λ text input room f u sound p e.
+    λ text input room at f u sound p e.
     rw (c .fails3 .ensures, c .before .enum-told3 .given .1)
-    (assigned-text-whole text (s .args .here) sound _ (rw (k .len .given .1) at (g .value .ensures f u e)))
+    (assigned-text-whole text (s .args .here) at sound _ (rw (k .len .given .1) at (g .value .ensures f u e)))
 
 returns-5 : tie.Need-returns-5
 returns-5 c =
     let k = c .before .before .before in let g = k .before .before in let q = g .before .before .before in let o = q .before .before .before .before in let y = o .before .before in let s = y .before .before .before in
-    λ text input room f u sound p e.
+    λ text input room at f u sound p e.
     rw (c .stored-or-full2 .ensures, k .with-string .ensures .0, k .with-string .ensures .1, y .telling-of .ensures, g .enum-told4 .given .1)
-    (assigned-string text (s .args .here) sound p _ (rw (q .len .given .1) at (o .value .ensures f u e)))
+    (assigned-string text (s .args .here) at sound p _ (rw (q .len .given .1) at (o .value .ensures f u e)))
 
 pub assign-spec : {M : Type 1} → statement M
 assign-spec =

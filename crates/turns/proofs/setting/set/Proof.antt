@@ -36,12 +36,12 @@ same-length c = search needs
 returns : tie.Need-returns
 returns c =
     let named = c .before .before .before .before .before .before .token .given in
-    λ text input room found entry sound.
-    set-does _ _ _ _ _ _ _ _ _ _ _ _ (c .before .before .before .before .before .before .before .before .before .before .before .args .target) (named .0 .0) (named .1)
-    (λ f u p e. c .before .before .assign .ensures text input room f u sound p (rw (c .before .before .before .before .token-at2 .ensures, c .before .before .before .before .before .before .before .before .token-at .ensures) e))
+    λ text input room at found entry sound.
+    set-does _ _ _ at _ _ _ _ _ _ _ _ _ (c .before .before .before .before .before .before .before .before .before .before .before .args .target) (named .0 .0) (named .1)
+    (λ f u p e. c .before .before .assign .ensures text input room at f u sound p (rw (c .before .before .before .before .token-at2 .ensures, c .before .before .before .before .before .before .before .before .token-at .ensures) e))
 
 returns-2 : tie.Need-returns-2
-returns-2 c = λ text input room found entry sound. rw (no-name (c .before .before .before .before .before .args .target .token) _ _ (c .before .match .keys2)) tt
+returns-2 c = λ text input room at found entry sound. rw (no-name (c .before .before .before .before .before .args .target .token) _ _ (c .before .match .keys2)) tt
 
 pub set-spec : {M : Type 1} → statement M
 set-spec =
