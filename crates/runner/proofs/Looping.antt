@@ -12,7 +12,7 @@ use Rattle.loader.specs.declared.lines.LineSpan.{LineSpan}
 use Rattle.grammar.specs.Trees.{Part}
 use Rattle.space.specs.Moves.{cleared}
 use Rattle.variables.proofs.Holding.{empty-numbers, empty-strings, empty-numbers-held, empty-strings-held, empty-sum}
-use Rattle.machine.specs.Machine.{headOf, placeOf, tailOf}
+use Rattle.machine.specs.Machine.{mostRecords, headOf, placeOf, tailOf}
 use Rattle.machine.specs.Machine as spec
 use Rattle.machine.specs.bridge.Holding.{linesAt, blankRecord, freshMachine, Sound, Same}
 use Rattle.machine.specs.declared.state.Machine.{Machine}
@@ -60,7 +60,7 @@ pub record Kept (text input space₀ room₀ : List ℕ) (budget : ℕ) (space r
   pub spaceLong : length space ≡ length space₀
   pub roomLong : length room ≡ length room₀
   pub beyond : drop (m .printer .written) room ≡ drop (m .printer .written) room₀
-  pub slots : length rs ≡ 32
+  pub slots : length rs ≡ mostRecords
   pub within : m .steps ≤ budget
   -- the definition's machine, and where its run stands
   pub machine : spec.Machine
@@ -95,7 +95,7 @@ module _ (text input space room : List ℕ) (small : length space ≤ 16384) whe
         placed = λ i h. absurd (omega arith);
       }
 
-  pub kept-fresh : (budget : ℕ) {m : Machine} {rs : List Record} (s : Standing) → m ≡ freshMachine → rs ≡ replicate 32 blankRecord
+  pub kept-fresh : (budget : ℕ) {m : Machine} {rs : List Record} (s : Standing) → m ≡ freshMachine → rs ≡ replicate mostRecords blankRecord
       → ((n : spec.Machine) → StandsAs text s n (entering n (linesAt text 0)))
       → Kept text input space room budget space room m rs s
   kept-fresh budget {m} {rs} s e f stands =
@@ -105,7 +105,7 @@ module _ (text input space room : List ℕ) (small : length space ≤ 16384) whe
         spaceLong = refl;
         roomLong = refl;
         beyond = refl;
-        slots = rw f (length-replicate 32 blankRecord);
+        slots = rw f (length-replicate mostRecords blankRecord);
         within = omega arith;
         machine = spec.fresh input (length space) (length room);
         same = fresh-same rs;
