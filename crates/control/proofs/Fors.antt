@@ -5,7 +5,6 @@ use mathlib.Core.List.{List}
 use Prim.Native.Nat.{ℕ, _≤_}
 use native.Mathlib.Omega.{arith}
 use Rattle.whole.specs.declared.errors.Error.the-variants.{OutOfMemory, TypeMismatch}
-use Rattle.words.specs.Names.{alike}
 use Rattle.words.specs.declared.names.Kind.the-variants as kind
 use Rattle.words.specs.declared.names.Name.{Name}
 use Rattle.words.specs.declared.names.Telling.{Telling}
@@ -22,8 +21,9 @@ use Rattle.grammar.specs.Formulas.{Reading, good, after, formulaOf}
 use Rattle.statements.specs.Statements.{Begun, bad, done, onFormula, variableOf, limitAt, stepAt, forAt}
 use Rattle.variables.specs.declared.values.Worked.the-variants.{Whole}
 use Rattle.machine.specs.Machine as spec
-use Rattle.machine.specs.Machine.{below, missing, noting, roomOf}
-use Rattle.machine.specs.bridge.Holding.{positionOf, Positioned, foundIn, Sound, Same}
+use Rattle.machine.specs.Machine.{isLoopOf, noting, roomOf}
+use Rattle.machine.specs.bridge.Holding.{positionOf, Positioned, loopRecord, Sound, Same}
+use Rattle.machine.specs.bridge.Wanted.{LoopOf, foundIn}
 use Rattle.machine.specs.declared.state.Machine.{Machine}
 use Rattle.machine.specs.declared.positions.Position.{Position}
 use Rattle.machine.specs.declared.positions.Turned.{Turned}
@@ -31,12 +31,12 @@ use Rattle.machine.specs.declared.positions.Next.the-variants as next
 use Rattle.machine.specs.declared.records.Record.{Record}
 use Rattle.machine.specs.declared.records.Found.{Found}
 use Rattle.machine.specs.declared.records.Found.the-variants as found
-use Rattle.machine.specs.declared.records.Sought.the-variants.{LoopOf}
-use Rattle.machine.proofs.Searching.{loop-found, loop-missing}
+use Rattle.machine.proofs.Stacking.{loop-back, loop-held}
+use Rattle.machine.proofs.Searching.{record-found, record-missing}
 use Rattle.turns.specs.Steps as step
-use Rattle.turns.specs.Steps.{goesOn, workedWhole, pushed, doStatement}
+use Rattle.turns.specs.Steps.{goesOn, pushed, cleared, begun, fromStep, fromStart, doStatement}
 use Rattle.turns.specs.bridge.Turns.{turnedTo, afterOf, Turns, Formed, Valued, Told, FoundBelow, numberSet}
-use Rattle.control.specs.bridge.Answers.{Counts, pushedTurn, droppedTo, loopRecord, loopTurn, loopsFrom, stepsFrom, limitsFrom, stepOf, Stepped, Limited}
+use Rattle.control.specs.bridge.Answers.{Counts, pushedTurn, droppedTo, loopTurn, stepOf, Stepped, Limited}
 use Rattle.turns.specs.declared.setting.Stored.{Stored}
 use Rattle.turns.proofs.Keeping.{sound-kept, same-noting, leaves-unprinted}
 use Rattle.turns.proofs.Leading.{turns-fails, turns-then}
@@ -145,17 +145,13 @@ module _ {line : List ℕ} {name : Name} {equals : Scanned} (k : Counts line nam
 module _ {text : List ℕ} {rs : List Record} {m : Machine} {input space room : List ℕ} (name : Telling) {q : spec.Machine}
     (same : Same text rs m input space room q) where
   same-dropped : (f : Found) → f ≡ foundIn (LoopOf name) rs (m .depth)
-      → Same text rs (droppedTo m f) input space room
-      (spec.withRecords q (below (q .records) (spec.sought (λ u. alike u name) (q .records))))
+      → Same text rs (droppedTo m f) input space room (cleared name q)
   same-dropped found.None e =
-      let g : spec.sought (λ u. alike u name) (q .records) ≡ missing =
-      ap (spec.sought (λ u. alike u name)) (same .records) ∙ loop-missing text rs (LoopOf name) (m .depth) refl (sym e) in
-      rw g same
+      rw (ap (spec.sought (isLoopOf name)) (same .records) ∙ record-missing text rs (LoopOf name) (m .depth) (sym e)) same
   same-dropped (found.At i) e =
-      let k = loop-found text rs (LoopOf name) (m .depth) i refl (sym e) in
-      let g = ap (spec.sought (λ u. alike u name)) (same .records) ∙ k .is in
+      let k = record-found text rs (LoopOf name) (m .depth) i (sym e) in
       let h : i ≤ m .depth = omega (arith, k .below) in
-      rw g (same-fewer i h same)
+      rw (ap (spec.sought (isLoopOf name)) (same .records) ∙ k .is) (same-fewer i h same)
 
 module _ {m : Machine} {input space room : List ℕ} where
   sound-dropped : (f : Found) → FoundBelow (m .depth) f → Sound m input space room → Sound (droppedTo m f) input space room
@@ -177,25 +173,24 @@ sound-set name w s = sound-tables s (number-settled name w (s .settled))
 
 module _ {text : List ℕ} {m : Machine} {input space room : List ℕ} {entry : Record} (name : Telling) (from limit by : ℕ) (back : Position) (f : Found)
     (sound : Sound m input space room) (low : FoundBelow (m .depth) f) (p : Positioned text back) where
-  pub turns-loop : Turns text m input space room (Told (LoopOf name) (m .depth) f entry) (loopsFrom name (positionOf text back) from limit by)
+  pub turns-loop : Turns text m input space room (Told (LoopOf name) (m .depth) f entry) (begun name (positionOf text back) from limit by)
       (loopTurn m name from limit by back f) space room
   turns-loop =
       let set = numberSet m name from in
       let h : Sound (set .machine) input space room = sound-set name from sound in
       let go : spec.Machine → step.Next =
-      (λ q. pushed (spec.withRecords q (below (q .records) (spec.sought (λ u. alike u name) (q .records)))) (spec.loop name limit by (positionOf text back))
-      (λ r. goesOn r (positionOf text back))) in
+      (λ q. pushed (cleared name q) (spec.loop name limit by (positionOf text back)) (λ r. goesOn r (positionOf text back))) in
       by-test (set .ok)
       (λ e. rw e
-      (turns-pushed (loopRecord name limit by back) (next.On back) (λ r. goesOn r (positionOf text back)) (sound-dropped f low h) refl
-      (dropped-steps (set .machine) f) (dropped-printer (set .machine) f) p (λ o S s. (p, (refl, s)))
+      (turns-pushed (loopRecord name limit by back) (next.On back) (spec.loop name limit by (positionOf text back)) (loop-held text name limit by back) (λ r. goesOn r (positionOf text back)) (sound-dropped f low h) refl
+      (dropped-steps (set .machine) f) (dropped-printer (set .machine) f) (rw (loop-back name limit by back) p) (λ o S s. (p, (refl, s)))
       (λ rs l t n s. let k = rw e at (leads-number name from (sound .settled) s go) in
       record { machine = _; is = k .is; same = same-dropped name (k .same) f (t .at) })))
       (λ e. rw e (turns-fails (leaves-unprinted h refl refl refl) (λ rs l t n s. rw e at (leads-number name from (sound .settled) s go))))
 
   -- the step that is left out is 1
   pub turns-by-one : by ≡ 1 → Turns text m input space room (Told (LoopOf name) (m .depth) f entry)
-      (stepsFrom name (positionOf text back) from (number 1) limit) (loopTurn m name from limit by back f) space room
+      (fromStep name (positionOf text back) (number 1) from limit) (loopTurn m name from limit by back f) space room
   turns-by-one e =
       turns-then (leaves-unprinted {r = turnedTo m next.Ends} sound refl refl refl)
       (λ rs l t n s.
@@ -216,11 +211,11 @@ module _ {text : List ℕ} {m : Machine} {input space room : List ℕ} {entry : 
     (sound : Sound m input space room) (low : FoundBelow (m .depth) f) where
   pub turns-stepped : {by : Formula} {w : ℕ} {u x : Scanned} {space′ : List ℕ} → Positioned text (afterOf here u)
       → Valued m by u space (Whole w x) space′
-      → Turns text m input space room (Told (LoopOf name) (m .depth) f entry) (stepsFrom name (positionOf text (afterOf here u)) from by limit)
+      → Turns text m input space room (Told (LoopOf name) (m .depth) f entry) (fromStep name (positionOf text (afterOf here u)) by from limit)
       (loopTurn m name from limit w (afterOf here x) f) space′ room
   turns-stepped {w = w} {u = u} p v =
       rw (v .goes)
-      (turns-whole (loopsFrom name (positionOf text (afterOf here u)) from limit) sound v
+      (turns-whole (begun name (positionOf text (afterOf here u)) from limit) sound v
       (turns-loop name from limit w (afterOf here u) f (sound-kept (v .framed .long) sound) low p))
 
 -- ---- the whole statement
@@ -234,6 +229,6 @@ module _ {text : List ℕ} {m : Machine} {input space room : List ℕ} {told : L
       turns-fails (leaves-unprinted h refl refl refl) (λ rs l t n s. record { machine = n; is = rw e; same = s })
 
   pub for-whole : {space′ : List ℕ} {r : Turned} → v .kind ≡ kind.Whole
-      → Turns text m input space room told (λ n. workedWhole a n (limitsFrom (v .telling) after b c)) r space′ room
+      → Turns text m input space room told (λ n. fromStart (v .telling) after a b c n) r space′ room
       → Turns text m input space room told (λ n. doStatement text at (tree.for v a b c) n after) r space′ room
   for-whole e t = turns-as (λ n. rw e) t

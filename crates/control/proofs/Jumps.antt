@@ -1,6 +1,5 @@
 -- GOTO, GOSUB and RETURN: the lines that a number leads to, a record more, and the records dropped.
-use mathlib.Core.Path.{_≡_, refl, sym, ap, subst, _∙_}
-use mathlib.Core.Bool.{false}
+use mathlib.Core.Path.{_≡_, refl, sym, ap, _∙_}
 use mathlib.Core.List.{List, _∷_}
 use Prim.Native.Nat.{ℕ, zero, suc, _+_, _≤_, _<_}
 use native.Mathlib.Omega.{arith}
@@ -16,7 +15,10 @@ use Rattle.loader.specs.declared.lines.LineSpan.{LineSpan}
 use Rattle.loader.specs.declared.lines.LineFound.the-variants.{Is, None}
 use Rattle.grammar.specs.Trees as tree
 use Rattle.machine.specs.Machine as spec
-use Rattle.machine.specs.bridge.Holding.{linesAt, positionOf, Positioned, blankRecord, recordOf, recordsIn, isSought, seeksCall, foundFrom, foundIn, Sound, Same}
+use Rattle.machine.specs.Machine.{isCall, mostRecords}
+use Rattle.machine.specs.bridge.Holding.{linesAt, positionOf, Positioned, blankRecord, counts, backOf, callRecord, recordOf, recordsIn, Sound, Same}
+use Rattle.machine.specs.bridge.Wanted as sought
+use Rattle.machine.specs.bridge.Wanted.{isSought, foundIn}
 use Rattle.machine.specs.declared.state.Machine.{Machine}
 use Rattle.machine.specs.declared.positions.Position.{Position}
 use Rattle.machine.specs.declared.positions.Next.{Next}
@@ -25,12 +27,11 @@ use Rattle.machine.specs.declared.records.Record.{Record}
 use Rattle.machine.specs.declared.records.Found.{Found}
 use Rattle.machine.specs.declared.records.Found.the-variants as found
 use Rattle.machine.specs.declared.records.Sought.{Sought}
-use Rattle.machine.specs.declared.records.Sought.the-variants as sought
-use Rattle.machine.proofs.Stacking.{records-length, records-past, records-push, each-push}
-use Rattle.machine.proofs.Searching.{call-at, call-found, call-missing}
+use Rattle.machine.proofs.Stacking.{is-call, call-back, call-held, records-length, records-past, records-push, each-push}
+use Rattle.machine.proofs.Searching.{found-call, record-found, record-missing}
 use Rattle.machine.proofs.Standing.{found-begins, found-none}
 use Rattle.turns.specs.Steps as step
-use Rattle.turns.specs.Steps.{enters, fails, toLine, pushed, returned, doStatement}
+use Rattle.turns.specs.Steps.{goesOn, enters, toLine, pushed, returned, doStatement}
 use Rattle.turns.specs.bridge.Turns.{turnedTo, Comes, Turns, anyRecords, Told, FoundBelow, withDepth}
 use Rattle.control.specs.bridge.Answers.{pushedTurn}
 use Rattle.turns.proofs.Keeping.{leaves-unprinted}
@@ -39,7 +40,7 @@ use Rattle.turns.proofs.Leading.{Led, turns-fails, turns-enters, turns-unwritte
 -- ---- other records count
 
 module _ {m : Machine} {input space room : List ℕ} where
-  pub sound-depth : (d : ℕ) → d ≤ 32 → Sound m input space room → Sound (withDepth m d) input space room
+  pub sound-depth : (d : ℕ) → d ≤ mostRecords → Sound m input space room → Sound (withDepth m d) input space room
   sound-depth d h s =
       record {
         settled = record { numbers = s .settled .numbers; strings = s .settled .strings; all = s .settled .all; within = s .settled .within; small = s .settled .small };
@@ -49,7 +50,7 @@ module _ {m : Machine} {input space room : List ℕ} where
       }
 
   pub same-depth : {text : List ℕ} {rs rs′ : List Record} {n : spec.Machine} (d : ℕ) (all : List spec.Record) → all ≡ recordsIn text rs′ d
-      → ((i : ℕ) → i < d → Positioned text (getD rs′ i blankRecord .back))
+      → ((i : ℕ) → i < d → Positioned text (backOf (getD rs′ i blankRecord)))
       → Same text rs m input space room n → Same text rs′ (withDepth m d) input space room (spec.withRecords n all)
   same-depth d all e p s =
       record {
@@ -73,37 +74,37 @@ module _ {m : Machine} {input space room : List ℕ} where
 -- ---- a record more
 
 module _ {text : List ℕ} {m : Machine} {input space room : List ℕ} (held : Record) (nx : Next) where
-  push-comes : {rs : List Record} {n : spec.Machine} (go : spec.Machine → step.Next) → length rs ≡ 32 → Positioned text (held .back)
+  push-comes : {rs : List Record} {n : spec.Machine} (go : spec.Machine → step.Next) → length rs ≡ mostRecords → Positioned text (backOf held)
       → ((o : spec.Machine) (same : spec.Machine → Type 0) → same o → Comes text nx (go o) same) → Same text rs m input space room n
       → let r = pushedTurn m held nx in
       Comes text (r .next) (pushed n (recordOf text held) go) (Same text (set rs (r .slot) (r .held)) (r .machine) input space room)
   push-comes {rs} {n} go l p goes s =
       let e : length (n .records) ≡ m .depth = ap length (s .records) ∙ records-length text rs (m .depth) in
-      by-bound 32 (m .depth)
-      (λ h. rw (e, le-leb 32 (m .depth) h, records-past rs 32 blankRecord (omega arith)) (refl, s))
-      (λ h. rw (e, lt-leb 32 (m .depth) h)
+      by-bound mostRecords (m .depth)
+      (λ h. rw (e, le-leb mostRecords (m .depth) h, records-past rs mostRecords blankRecord (omega arith)) (refl, s))
+      (λ h. rw (e, lt-leb mostRecords (m .depth) h)
       (goes (spec.withRecords n (recordOf text held ∷ n .records)) _
       (rw add-one
       (same-depth (suc (m .depth)) (recordOf text held ∷ n .records)
       (ap (λ x. recordOf text held ∷ x) (s .records) ∙ sym (records-push text rs (m .depth) held (omega arith)))
-      (each-push (λ x. Positioned text (x .back)) rs (m .depth) (s .placed) held p (omega arith))
+      (each-push (λ x. Positioned text (backOf x)) rs (m .depth) (s .placed) held p (omega arith))
       s))))
 
 -- where the definition comes to it with a machine that the code's holds
 module _ {text : List ℕ} {m m′ : Machine} {input space room space′ : List ℕ} {told : List Record → Type 0} {does : spec.Machine → step.Next}
     (held : Record) (nx : Next) where
-  pub turns-pushed : (go : spec.Machine → step.Next) → Sound m′ input space′ room → length space′ ≡ length space
-      → m′ .steps ≡ m .steps → m′ .printer ≡ m .printer → Positioned text (held .back)
+  pub turns-pushed : (r : spec.Record) → recordOf text held ≡ r → (go : spec.Machine → step.Next) → Sound m′ input space′ room → length space′ ≡ length space
+      → m′ .steps ≡ m .steps → m′ .printer ≡ m .printer → Positioned text (backOf held)
       → ((o : spec.Machine) (same : spec.Machine → Type 0) → same o → Comes text nx (go o) same)
-      → Led text m input space room told does m′ space′ room (λ o. pushed o (recordOf text held) go)
+      → Led text m input space room told does m′ space′ room (λ o. pushed o r go)
       → Turns text m input space room told does (pushedTurn m′ held nx) space′ room
-  turns-pushed go h long steps printer p goes led =
+  turns-pushed r e go h long steps printer p goes led =
       record {
         leaves =
-            by-bound 32 (m′ .depth)
-            (λ b. rw (le-leb 32 (m′ .depth) b) (leaves-unprinted h long steps printer))
-            (λ b. rw (lt-leb 32 (m′ .depth) b) (leaves-unprinted (sound-depth (m′ .depth + 1) (omega arith) h) long steps printer));
-        comes = λ rs l t n s. let k = led rs l t n s in rw (k .is) (push-comes held nx go l p goes (k .same));
+            by-bound mostRecords (m′ .depth)
+            (λ b. rw (le-leb mostRecords (m′ .depth) b) (leaves-unprinted h long steps printer))
+            (λ b. rw (lt-leb mostRecords (m′ .depth) b) (leaves-unprinted (sound-depth (m′ .depth + 1) (omega arith) h) long steps printer));
+        comes = λ rs l t n s. let k = led rs l t n s in rw (k .is, ← e) (push-comes held nx go l p goes (k .same));
       }
 
 -- ---- the lines that a number leads to
@@ -126,10 +127,10 @@ module _ {text : List ℕ} {m : Machine} {input space room : List ℕ} (number :
 
   pub gosub-found : (at : ℕ) (back : Position) {span : LineSpan} → Positioned text back → findLine text number ≡ Is span
       → Turns text m input space room anyRecords (λ n. doStatement text at (tree.gosub number) n (positionOf text back))
-      (pushedTurn m (record { loops = false; name = blankRecord .name; limit = 0; step = 0; back = back }) (next.Enter (span .place))) space room
+      (pushedTurn m (callRecord back) (next.Enter (span .place))) space room
   gosub-found at back {span} p e =
       let f = found-begins text number e in
-      turns-pushed _ (next.Enter (span .place)) (λ o. enters o (linesAt text (span .place .0))) sound refl refl refl p
+      turns-pushed (callRecord back) (next.Enter (span .place)) (spec.call (positionOf text back)) (call-held text back) (λ o. enters o (linesAt text (span .place .0))) sound refl refl refl (rw (call-back back) p)
       (λ o S s. (f .begins, (refl, s)))
       (λ rs l t n s. record { machine = n; is = rw (← f .lines, f .begins .here); same = s })
 
@@ -138,32 +139,28 @@ module _ {text : List ℕ} {m : Machine} {input space room : List ℕ} (number :
 module _ {text : List ℕ} {m : Machine} {input space room : List ℕ} {entry : Record} (at : ℕ) (after : spec.Position) (sound : Sound m input space room) where
   pub back-missing : Turns text m input space room (Told sought.Call (m .depth) found.None entry) (λ n. doStatement text at tree.return n after)
       (turnedTo m (next.Fails ReturnWithoutGosub)) space room
-  unfolding returned
   back-missing =
       turns-fails (leaves-unprinted sound refl refl refl)
       (λ rs l t n s.
       record {
         machine = n;
-        is = ap (λ all. returned all n) (s .records)
-            ∙ call-missing text rs (λ all. returned all n ≡ fails ReturnWithoutGosub n) (λ name limit step p rest h. h) (m .depth) (sym (t .at)) refl;
+        is = ap (λ x. returned n x) (ap (spec.sought isCall) (s .records) ∙ record-missing text rs sought.Call (m .depth) (sym (t .at)));
         same = s;
       })
 
   pub back-found : (slot : ℕ) → slot < m .depth
       → Turns text m input space room (Told sought.Call (m .depth) (found.At slot) entry) (λ n. doStatement text at tree.return n after)
-      (turnedTo (withDepth m slot) (next.On (entry .back))) space room
-  unfolding returned
+      (turnedTo (withDepth m slot) (next.On (backOf entry))) space room
   back-found slot b =
       turns-unwritten (leaves-unprinted (sound-depth slot (omega (arith, sound .deep)) sound) refl refl refl)
       (λ rs l t n s.
-      let c = call-at text rs (m .depth) slot (sym (t .at)) in
-      let e : entry .back ≡ getD rs slot blankRecord .back = ap (λ x. x .back) (t .is) in
+      let f = record-found text rs sought.Call (m .depth) slot (sym (t .at)) in
+      let c = is-call text (getD rs slot blankRecord) (found-call sought.Call (getD rs slot blankRecord) refl (f .asked)) in
+      let does : returned n (spec.sought isCall (n .records)) ≡ goesOn (spec.withRecords n (recordsIn text rs slot)) (positionOf text (backOf entry)) =
+      rw (t .is) (ap (λ x. returned n x) (ap (spec.sought isCall) (s .records) ∙ f .is ∙ ap (λ r. spec.found r (recordsIn text rs slot)) c)) in
       let h : slot ≤ m .depth = omega arith in
-      let P : List spec.Record → Type 0 =
-      (λ all. Comes text (next.On (entry .back)) (returned all n) (Same text rs (withDepth m slot) input space room)) in
-      subst P (sym (s .records))
-      (call-found text rs P (λ name limit step p rest h. h) (m .depth) slot (sym (t .at))
-      (rw (c .is, e) (s .placed slot (c .below), (refl, same-fewer slot h s)))))
+      let here : Positioned text (backOf entry) = rw (t .is) (s .placed slot b) in
+      rw does (here, (refl, same-fewer slot h s)))
 
 -- ---- what is found is one of the records
 
@@ -171,17 +168,10 @@ below-more : (d : ℕ) (f : Found) → FoundBelow d f → FoundBelow (suc d) f
 below-more d (found.At i) h = omega arith
 below-more d found.None h = tt
 
-found-low-from : (k : Sought) (rs : List Record) (d : ℕ) → FoundBelow d (foundFrom k rs d)
-unfolding foundFrom
-found-low-from k rs zero = tt
-found-low-from k rs (suc d) =
-    let x = getD rs d blankRecord in
-    by-test (x .loops)
-    (λ l. by-test (isSought k (x .name)) (λ t. rw (l, t) (omega arith)) (λ t. rw (l, t) (below-more d (foundFrom k rs d) (found-low-from k rs d))))
-    (λ l. by-test (seeksCall k) (λ t. rw (l, t) (omega arith)) (λ t. rw (l, t) tt))
-
 pub found-low : (k : Sought) (rs : List Record) (d : ℕ) → FoundBelow d (foundIn k rs d)
-found-low sought.Nothing rs d = tt
-found-low sought.Call rs d = found-low-from sought.Call rs d
-found-low sought.Loop rs d = found-low-from sought.Loop rs d
-found-low (sought.LoopOf name) rs d = found-low-from (sought.LoopOf name) rs d
+unfolding foundIn
+found-low k rs zero = tt
+found-low k rs (suc d) =
+    let x = getD rs d blankRecord in
+    by-test (isSought k x) (λ t. rw t (omega arith)) λ t.
+    by-test (counts x) (λ l. rw (t, l) (below-more d (foundIn k rs d) (found-low k rs d))) (λ l. rw (t, l) tt)

@@ -16,13 +16,13 @@ use Rattle.grammar.specs.bridge.Answers.{lineOf}
 use Rattle.grammar.specs.declared.tests.NamedLine.the-variants.{Names}
 use Rattle.statements.specs.Statements.{Begun, bad, done, variableOf, forAt}
 use Rattle.machine.specs.Machine as spec
-use Rattle.machine.specs.bridge.Holding.{positionOf, isSought, Positioned, Sound}
+use Rattle.machine.specs.bridge.Holding.{positionOf, Positioned, Sound}
+use Rattle.machine.specs.bridge.Wanted as sought
 use Rattle.machine.specs.declared.state.Machine.{Machine}
 use Rattle.machine.specs.declared.positions.Turned.{Turned}
 use Rattle.machine.specs.declared.positions.Next.the-variants as next
 use Rattle.machine.specs.declared.records.Record.{Record}
 use Rattle.machine.specs.declared.records.Found.{Found}
-use Rattle.machine.specs.declared.records.Sought.the-variants as sought
 use Rattle.turns.specs.Steps.{nextOn, doStatement}
 use Rattle.turns.specs.bridge.Turns.{turnedTo, afterOf, Turns, anyRecords, Told}
 use Rattle.turns.specs.bridge.Doing.{Begins, Does, loopAt, jumpAt, callAt}
@@ -39,7 +39,7 @@ next-text sound told at v after e = simp e (fails-turn sound told TypeMismatch)
 -- and with a number's
 pub next-whole : {text : List ℕ} {m : Machine} {input space room : List ℕ} {told : List Record → Type 0} {r : Turned} (at : ℕ) (v : tree.Variable) (after : spec.Position)
     → v .kind ≡ kind.Whole
-    → Turns text m input space room told (λ n. nextOn n (spec.sought (isSought (sought.LoopOf (v .telling))) (n .records)) after) r space room
+    → Turns text m input space room told (λ n. nextOn n (spec.sought (sought.wanted (sought.LoopOf (v .telling))) (n .records)) after) r space room
     → Turns text m input space room told (λ n. doStatement text at (tree.nextOf v) n after) r space room
 next-whole at v after e t = simp e t
 

@@ -5,6 +5,7 @@ use mathlib.Core.List.{List, _∷_}
 use Prim.Native.Nat.{ℕ, _+_, _≤_, _<_}
 use native.Mathlib.Omega.{arith}
 use native.Mathlib.Numerals.{add-one}
+use lib.ListN.{getD}
 use Rattle.whole.specs.Whole.{applied}
 use Rattle.whole.specs.declared.arithmetic.Answer.{Answer}
 use Rattle.whole.specs.declared.arithmetic.Answer.the-variants as answer
@@ -18,16 +19,17 @@ use Rattle.variables.specs.Tables.{slotIn}
 use Rattle.variables.proofs.Holding.{held-looked}
 use Rattle.variables.proofs.Looking.{looked-word}
 use Rattle.machine.specs.Machine as spec
-use Rattle.machine.specs.Machine.{passed}
-use Rattle.machine.specs.bridge.Holding.{positionOf, Positioned, recordsIn, isSought, seeksCall, Sound, Same}
+use Rattle.machine.specs.Machine.{mostRecords, passed}
+use Rattle.machine.specs.bridge.Holding.{positionOf, Positioned, blankRecord, backOf, recordOf, recordsIn, Sound, Same}
+use Rattle.machine.specs.bridge.Wanted.{seeksCall, wanted}
 use Rattle.machine.specs.declared.state.Machine.{Machine}
 use Rattle.machine.specs.declared.positions.Position.{Position}
 use Rattle.machine.specs.declared.positions.Next.the-variants as next
 use Rattle.machine.specs.declared.records.Record.{Record}
 use Rattle.machine.specs.declared.records.Found.the-variants as found
 use Rattle.machine.specs.declared.records.Sought.{Sought}
-use Rattle.machine.proofs.Stacking.{loop-top}
-use Rattle.machine.proofs.Searching.{loop-found, loop-missing}
+use Rattle.machine.proofs.Stacking.{is-loop, records-top}
+use Rattle.machine.proofs.Searching.{found-loop, record-found, record-missing}
 use Rattle.turns.specs.Steps as step
 use Rattle.turns.specs.Steps.{goesOn, turned, nextOn}
 use Rattle.turns.specs.bridge.Turns.{turnedTo, Turns, Told, withDepth, numberSet}
@@ -39,7 +41,7 @@ use Rattle.control.proofs.Fors.{sound-set}
 
 -- what the definition does
 abbrev nexts : Sought → spec.Position → spec.Machine → step.Next
-nexts k after n = nextOn n (spec.sought (isSought k) (n .records)) after
+nexts k after n = nextOn n (spec.sought (wanted k) (n .records)) after
 
 -- the number that a variable has
 abbrev pub held : Machine → Telling → ℕ
@@ -48,14 +50,22 @@ held m name = wordAt (slotIn (m .tables .numbers .names) name) (m .tables .numbe
 -- what the definition does with the loop that was found, and then with its variable set
 abbrev turning : List ℕ → Record → List spec.Record → spec.Position → Answer → spec.Machine → step.Next
 turning text entry under after x n =
-    turned n (entry .name) (entry .limit) (entry .step) (positionOf text (entry .back)) under after x
+    turned n (entry .name) (entry .limit) (entry .step) (positionOf text (backOf entry)) under after x
 
 abbrev going : List ℕ → Record → List spec.Record → spec.Position → ℕ → spec.Machine → step.Next
 going text entry under after w n =
     cond (passed w (entry .limit) (entry .step))
     (goesOn (spec.withRecords n under) after)
-    (goesOn (spec.withRecords n (spec.loop (entry .name) (entry .limit) (entry .step) (positionOf text (entry .back)) ∷ under))
-    (positionOf text (entry .back)))
+    (goesOn (spec.withRecords n (spec.loop (entry .name) (entry .limit) (entry .step) (positionOf text (backOf entry)) ∷ under))
+    (positionOf text (backOf entry)))
+
+-- the record that was found is a loop's
+entry-loop : (text : List ℕ) (k : Sought) (d slot : ℕ) (entry : Record) → seeksCall k ≡ false → (rs : List Record)
+    → Told k d (found.At slot) entry rs
+    → recordOf text entry ≡ spec.loop (entry .name) (entry .limit) (entry .step) (positionOf text (backOf entry))
+entry-loop text k d slot entry calls rs t =
+    let f = record-found text rs k d slot (sym (t .at)) in
+    rw (t .is) (is-loop text (getD rs slot blankRecord) (found-loop k (getD rs slot blankRecord) calls (f .asked)))
 
 module _ {text : List ℕ} {m : Machine} {input space room : List ℕ} {entry : Record} {k : Sought} (after : spec.Position)
     (calls : seeksCall k ≡ false) (sound : Sound m input space room) where
@@ -66,7 +76,7 @@ module _ {text : List ℕ} {m : Machine} {input space room : List ℕ} {entry : 
       record {
         machine = n;
         is = ap (λ x. nextOn n x after)
-            (ap (spec.sought (isSought k)) (s .records) ∙ loop-missing text rs k (m .depth) calls (sym (t .at)));
+            (ap (spec.sought (wanted k)) (s .records) ∙ record-missing text rs k (m .depth) (sym (t .at)));
         same = s;
       })
 
@@ -77,10 +87,9 @@ module _ {text : List ℕ} {m : Machine} {input space room : List ℕ} {entry : 
         → nexts k after n ≡ turning text entry (recordsIn text rs slot) after x n
     nexts-turned {x} e rs t n s =
         let y = sound .settled in
-        let f = loop-found text rs k (m .depth) slot calls (sym (t .at)) in
-        let g : spec.sought (isSought k) (n .records)
-        ≡ spec.found (entry .limit) (entry .step) (positionOf text (entry .back)) (entry .name) (recordsIn text rs slot) =
-        rw (t .is) (ap (spec.sought (isSought k)) (s .records) ∙ f .is) in
+        let f = record-found text rs k (m .depth) slot (sym (t .at)) in
+        let g = ap (spec.sought (wanted k)) (s .records) ∙ f .is ∙ ap (λ e. spec.found (recordOf text e) (recordsIn text rs slot)) (sym (t .is))
+        ∙ ap (λ r. spec.found r (recordsIn text rs slot)) (entry-loop text k (m .depth) slot entry calls rs t) in
         let w : wordOf (n .variables .numbers) (entry .name) ≡ held m (entry .name) =
         ap (λ v. wordOf (v .numbers) (entry .name)) (s .variables)
         ∙ sym (looked-word (held-looked (m .tables .numbers) (m .tables .strings) space (y .numbers) (y .strings)) (entry .name)) in
@@ -114,7 +123,7 @@ module _ {text : List ℕ} {m : Machine} {input space room : List ℕ} {entry : 
             → Turns text m input space room (Told k (m .depth) (found.At slot) entry) (nexts k after)
             (turnedTo (withDepth (numberSet m (entry .name) w .machine) slot) (next.On q)) space room
         next-ends q p a e =
-            let d : slot ≤ 32 = omega (arith, sound .deep) in
+            let d : slot ≤ mostRecords = omega (arith, sound .deep) in
             let h : slot ≤ m .depth = omega arith in
             turns-on (leaves-unprinted (sound-depth slot d (sound-set (entry .name) w sound)) refl refl refl) p
             (λ rs l t n s.
@@ -128,21 +137,20 @@ module _ {text : List ℕ} {m : Machine} {input space room : List ℕ} {entry : 
         -- or turns once more
         pub next-again : passed w (entry .limit) (entry .step) ≡ false
             → Turns text m input space room (Told k (m .depth) (found.At slot) entry) (nexts k after)
-            (turnedTo (withDepth (numberSet m (entry .name) w .machine) (slot + 1)) (next.On (entry .back))) space room
+            (turnedTo (withDepth (numberSet m (entry .name) w .machine) (slot + 1)) (next.On (backOf entry))) space room
         next-again e =
-            let d : slot + 1 ≤ 32 = omega (arith, sound .deep) in
+            let d : slot + 1 ≤ mostRecords = omega (arith, sound .deep) in
             turns-unwritten (leaves-unprinted (sound-depth (slot + 1) d (sound-set (entry .name) w sound)) refl refl refl)
             (λ rs l t n s.
             let j = rw yes at (leads-set rs t n s) in
             let under = recordsIn text rs slot in
             let does : nexts k after n
-            ≡ goesOn (spec.withRecords (j .machine) (spec.loop (entry .name) (entry .limit) (entry .step) (positionOf text (entry .back)) ∷ under))
-            (positionOf text (entry .back)) =
+            ≡ goesOn (spec.withRecords (j .machine) (spec.loop (entry .name) (entry .limit) (entry .step) (positionOf text (backOf entry)) ∷ under))
+            (positionOf text (backOf entry)) =
             j .is ∙ rw e in
-            let f = loop-found text rs k (m .depth) slot calls (sym (t .at)) in
             let top : recordsIn text rs (slot + 1)
-            ≡ spec.loop (entry .name) (entry .limit) (entry .step) (positionOf text (entry .back)) ∷ recordsIn text rs slot =
-            rw (add-one, t .is) (loop-top text rs slot (f .loops)) in
-            let here : Positioned text (entry .back) = rw (t .is) (s .placed slot low) in
+            ≡ spec.loop (entry .name) (entry .limit) (entry .step) (positionOf text (backOf entry)) ∷ recordsIn text rs slot =
+            rw add-one (records-top text rs slot ∙ ap (λ e. recordOf text e ∷ recordsIn text rs slot) (sym (t .is)) ∙ ap (λ r. r ∷ recordsIn text rs slot) (entry-loop text k (m .depth) slot entry calls rs t)) in
+            let here : Positioned text (backOf entry) = rw (t .is) (s .placed slot low) in
             rw does
             (here, (refl, same-depth (slot + 1) _ (sym top) (λ i h. let g : i < m .depth = omega arith in s .placed i g) (j .same))))

@@ -5,7 +5,7 @@ ghost use Prim.Native.Nat.{ℕ};
 ghost use Rattle.grammar.specs.Trees as tree;
 ghost use Rattle.machine.specs.Machine as spec;
 ghost use Rattle.machine.specs.bridge.Holding.{positionOf, Positioned, Sound};
-ghost use Rattle.machine.specs.declared.records.Sought.the-variants as sought;
+ghost use Rattle.machine.specs.bridge.Wanted as sought;
 ghost use Rattle.turns.specs.Steps.{doStatement};
 ghost use Rattle.turns.specs.bridge.Turns.{afterOf, Turns, anyRecords, Told, FoundBelow};
 ghost use Rattle.control.specs.bridge.Answers.{pushedTurn};
@@ -40,7 +40,7 @@ pub fn goto(text: &[u8], number: LineNumber, machine: Machine) -> Turned
     }
 }
 
-// A record more; at most 32.
+// A record more, if there is room.
 pub(crate) fn push(machine: Machine, held: Record, next: Next) -> Turned
     ensures { λ r. ⌜ r ≡ pushedTurn machine held next ⌝ }
 {
@@ -75,9 +75,7 @@ pub fn gosub(
     match find_line(text, number) {
         LineFound::None => fails(machine, Error::UndefinedLine),
         LineFound::Is(span) => {
-            let mut held = Record::blank();
-            let back = after(here, ahead);
-            held.back = back;
+            let held = Record::calls(after(here, ahead));
             let place = span.place;
             push(machine, held, Next::Enter(place))
         }
@@ -97,8 +95,7 @@ pub fn come_back(machine: Machine, found: Found, entry: Record) -> Turned
         Found::At(slot) => {
             let mut m = machine;
             m.depth = slot;
-            let back = entry.back;
-            turned_to(m, Next::On(back))
+            turned_to(m, Next::On(entry.back()))
         }
     }
 }

@@ -12,13 +12,13 @@ ghost use Rattle.variables.specs.bridge.Memory.{wordAt};
 ghost use Rattle.variables.specs.Tables.{slotIn};
 ghost use Rattle.statements.specs.Statements.{done, variableOf, forAt};
 ghost use Rattle.machine.specs.Machine.{sought};
-ghost use Rattle.machine.specs.bridge.Holding.{positionOf, Positioned, isSought, seeksCall, Settled, Sound};
+ghost use Rattle.machine.specs.bridge.Holding.{positionOf, Positioned, Settled, Sound};
+ghost use Rattle.machine.specs.bridge.Wanted.{LoopOf, seeksCall, wanted};
 ghost use Rattle.machine.specs.declared.records.Found.the-variants as found;
 ghost use Rattle.machine.specs.declared.records.Sought.{Sought};
-ghost use Rattle.machine.specs.declared.records.Sought.the-variants.{LoopOf};
-ghost use Rattle.turns.specs.Steps.{doStatement, nextOn};
+ghost use Rattle.turns.specs.Steps.{fromStep, fromLimit, nextOn, doStatement};
 ghost use Rattle.turns.specs.bridge.Turns.{afterOf, Turns, Told, FoundBelow};
-ghost use Rattle.control.specs.bridge.Answers.{Counts, Stepped, Limited, stepOf, droppedTo, loopTurn, stepsFrom, limitsFrom};
+ghost use Rattle.control.specs.bridge.Answers.{Counts, Stepped, Limited, stepOf, droppedTo, loopTurn};
 use crate::jumping::push;
 use grammar::is_keyword;
 use machine::Found;
@@ -82,13 +82,7 @@ fn begin_loop(
         return fails(set, Error::OutOfMemory);
     }
     let back = after(here, ahead);
-    let held = Record {
-        loops: true,
-        name,
-        limit,
-        step,
-        back,
-    };
+    let held = Record::counts(name, limit, step, back);
     push(dropped_to(set, found), held, Next::On(back))
 }
 
@@ -109,7 +103,7 @@ fn with_step(
         ((text input room : List ℕ) (by : Formula) (u : Scanned) → Sound machine input (now (space .entry)) room → Positioned text (afterOf here u)
         → stepOf (now (line .entry)) follow ≡ formulas.good by u → (entry : Record)
         → Turns text machine input (now (space .entry)) room (Told (LoopOf name) (machine .depth) found entry)
-        (stepsFrom name (positionOf text (afterOf here u)) from by limit) r (now (space .exit)) room)
+        (fromStep name (positionOf text (afterOf here u)) by from limit) r (now (space .exit)) room)
         ⌝ }
 {
     let token = follow.token;
@@ -150,7 +144,7 @@ fn with_limit(
         → Positioned text (afterOf here u) → formulaOf (now (line .entry)) first ≡ formulas.good to t
         → stepOf (now (line .entry)) t ≡ formulas.good by u → (entry : Record)
         → Turns text machine input (now (space .entry)) room (Told (LoopOf name) (machine .depth) found entry)
-        (limitsFrom name (positionOf text (afterOf here u)) to by from) r (now (space .exit)) room)
+        (fromLimit name (positionOf text (afterOf here u)) to by from) r (now (space .exit)) room)
         ⌝ }
 {
     match value(line, first, machine, space) {
@@ -233,11 +227,10 @@ fn turn(here: Place, ahead: Scanned, machine: Machine, slot: usize, entry: Recor
     ensures { λ r. ⌜
         ((text input space room : List ℕ) (k : Sought) → seeksCall k ≡ false → Sound machine input space room → Positioned text (afterOf here ahead)
         → Turns text machine input space room (Told k (machine .depth) (found.At slot) entry)
-        (λ n. nextOn n (sought (isSought k) (n .records)) (positionOf text (afterOf here ahead))) r space room)
+        (λ n. nextOn n (sought (wanted k) (n .records)) (positionOf text (afterOf here ahead))) r space room)
         ⌝ }
 {
     let name = entry.name;
-    let back = entry.back;
     match apply(Operator::Add, word_of(machine, name), entry.step) {
         Answer::Fault(error) => fails(machine, error),
         Answer::Whole(word) => {
@@ -251,7 +244,7 @@ fn turn(here: Place, ahead: Scanned, machine: Machine, slot: usize, entry: Recor
                 return goes_on(m, here, ahead);
             }
             m.depth = slot + 1;
-            turned_to(m, Next::On(back))
+            turned_to(m, Next::On(entry.back()))
         }
     }
 }
@@ -268,7 +261,7 @@ pub fn next_turn(
     ensures { λ r. ⌜
         ((text input space room : List ℕ) (k : Sought) → seeksCall k ≡ false → Sound machine input space room → Positioned text (afterOf here ahead)
         → Turns text machine input space room (Told k (machine .depth) found entry)
-        (λ n. nextOn n (sought (isSought k) (n .records)) (positionOf text (afterOf here ahead))) r space room)
+        (λ n. nextOn n (sought (wanted k) (n .records)) (positionOf text (afterOf here ahead))) r space room)
         ⌝ }
 {
     match found {

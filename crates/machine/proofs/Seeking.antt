@@ -57,8 +57,8 @@ use Rattle.statements.specs.Statements.{Begun, bad, done, variableOf, forAt, by
 use Rattle.statements.proofs.Findings.{by-name, by-line}
 use Rattle.statements.proofs.Views.{Final, plain, thens, elses, more-view, final-view}
 use Rattle.machine.specs.declared.records.Sought.{Sought}
-use Rattle.machine.specs.declared.records.Sought.the-variants as sought
 use Rattle.statements.specs.Parts.{headOf}
+use Rattle.machine.specs.bridge.Wanted as sought
 use Rattle.machine.specs.bridge.Seeking.{soughtBy, Seeks, soughtLoop}
 use Rattle.machine.proofs.Beginning.{if-so, by-assign, by-items, by-condition, by-for, by-input, begun-token}
 use Rattle.machine.proofs.Tokens.{tokenTag, wordTag, by-named}

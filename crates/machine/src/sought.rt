@@ -23,12 +23,12 @@ pub fn sought_record(line: &[u8], at: Place) -> Sought
     let token = first.token;
     match token {
         Token::Keyword(word) => match word {
-            Word::Return => Sought::Call,
+            Word::Return => Sought::CALL,
             Word::For => named_loop(line, token_at(line, first.next)),
             Word::Next => named_loop(line, token_at(line, first.next)),
-            _ => Sought::Nothing,
+            _ => Sought::NOTHING,
         },
-        _ => Sought::Nothing,
+        _ => Sought::NOTHING,
     }
 }
 
@@ -37,7 +37,7 @@ fn named_loop(line: &[u8], target: Scanned) -> Sought
 {
     let token = target.token;
     match token {
-        Token::Named(name) => Sought::LoopOf(telling_of(line, name)),
-        _ => Sought::Loop,
+        Token::Named(name) => Sought::loop_of(telling_of(line, name)),
+        _ => Sought::LOOP,
     }
 }

@@ -1,4 +1,5 @@
 pub mod Never
+pub mod Records
 pub mod Limits
 pub mod Fourteen
 pub mod Verdicts

@@ -25,7 +25,7 @@ use Rattle.grammar.specs.Trees.{Formula, Variable, Item, Statement}
 use Rattle.variables.specs.Strings.{Value, whole, text, Outcome, value, fault, make}
 use Rattle.variables.specs.Variables.{NumberVariable, wordOf, setNumber, hasNumber, numbersFull, stringsFull}
 use Rattle.operators.specs.Values.{valueOf}
-use Rattle.machine.specs.Machine.{Position, Record, loop, call, Machine, mostRecords, fresh, roomOf, withRecords, withStep, noting, write, commaBlanks, Search, missing, found, sought, below, passed}
+use Rattle.machine.specs.Machine.{Position, Record, loop, call, Machine, mostRecords, fresh, roomOf, withStep, noting, write, commaBlanks, isCall, isLoop, isLoopOf, Search, missing, found, sought, passed}
 use Rattle.statements.specs.Parts.{Rest, nothing, part, headOf, tailOf, placeOf}
 use Rattle.turns.specs.Steps.{
   Next,
@@ -46,6 +46,8 @@ use Rattle.turns.specs.Steps.{
   toLine,
   pushed,
   returned,
+  cleared,
+  begun,
   turned,
   nextOn,
   takeLine,
@@ -57,7 +59,8 @@ use Rattle.turns.specs.Steps.{
 use Rattle.runner.specs.Run.{lineNumberOf, Entered, over, faulty, opened, enter, Standing, finished, at, byEntered, entering, onward, following, turn}
 use Rattle.promises.specs.Passing.{standsAfter, isNext, lacksRoom, nextHasRoom}
 use Rattle.promises.proofs.Checked.Operators.{by-choice}
-use Rattle.promises.proofs.Checked.Statements.{begun}
+use Rattle.promises.proofs.Records as records
+use Rattle.promises.proofs.Records.{sought-each, below-each}
 
 -- ---- variables
 
@@ -89,12 +92,10 @@ RecordMade vs (loop v limit step p) = hasNumber vs v ≡ true
 RecordMade vs (call p) = Unit {0}
 
 abbrev RecordsMade : List NumberVariable → List Record → Type 0
-RecordsMade vs [] = Unit {0}
-RecordsMade vs (r ∷ rs) = RecordMade vs r × RecordsMade vs rs
+RecordsMade vs rs = records.Each (RecordMade vs) rs
 
 abbrev SearchMade : List NumberVariable → Search → Type 0
-SearchMade vs missing = Unit {0}
-SearchMade vs (found limit step p v under) = (hasNumber vs v ≡ true) × RecordsMade vs under
+SearchMade vs s = records.Found (RecordMade vs) s
 
 abbrev MachineMade : Machine → Type 0
 MachineMade m = RecordsMade (m .variables .numbers) (m .records)
@@ -106,16 +107,6 @@ record-stays vs name w (call p) h = tt
 records-stay : (vs : List NumberVariable) (name : Telling) (w : ℕ) (rs : List Record) → RecordsMade vs rs → RecordsMade (setNumber vs name w) rs
 records-stay vs name w [] h = tt
 records-stay vs name w (r ∷ rs) h = (record-stays vs name w r (h .0), records-stay vs name w rs (h .1))
-
-sought-made : (vs : List NumberVariable) (test : Telling → Bool) (rs : List Record) → RecordsMade vs rs → SearchMade vs (sought test rs)
-unfolding sought
-sought-made vs test [] h = tt
-sought-made vs test (call p ∷ rs) h = tt
-sought-made vs test (loop v limit step p ∷ rs) h = by-choice (SearchMade vs) (test v) h (sought-made vs test rs (h .1))
-
-below-made : (vs : List NumberVariable) (rs : List Record) (s : Search) → RecordsMade vs rs → SearchMade vs s → RecordsMade vs (below rs s)
-below-made vs rs missing h k = h
-below-made vs rs (found limit step p v under) h k = k .1
 
 -- ---- what a statement comes to
 
@@ -181,20 +172,15 @@ pushed-made : (m : Machine) (r : Record) (go : Machine → Next) → MachineMade
     → NextMade (pushed m r go)
 pushed-made m r go q p k = by-choice NextMade (leb mostRecords (length (m .records))) tt (k _ (p, q))
 
-returned-made : (rs : List Record) (m : Machine) → RecordsMade (m .variables .numbers) rs → NextMade (returned rs m)
-unfolding returned
-returned-made [] m h = tt
-returned-made (loop v l s p ∷ rs) m h = returned-made rs m (h .1)
-returned-made (call p ∷ rs) m h = h .1
+returned-made : (m : Machine) (s : Search) → SearchMade (m .variables .numbers) s → NextMade (returned m s)
+returned-made m missing h = tt
+returned-made m (found r under) h = h .1
 
-begun-made : (name : Telling) (limit step : ℕ) (after : Position) (m : Machine) → MachineMade m → hasNumber (m .variables .numbers) name ≡ true
-    → NextMade (begun name limit step after m)
-begun-made name limit step after m r h =
-    let test : Telling → Bool = λ u. alike u name in
-    let vs = m .variables .numbers in
-    let older = sought test (m .records) in
-    pushed-made (withRecords m (below (m .records) older)) (loop name limit step after) (λ n. goesOn n after)
-    (below-made vs (m .records) older r (sought-made vs test (m .records) r)) h (λ n q. q)
+begun-made : (name : Telling) (after : Position) (start limit step : ℕ) → Continues (begun name after start limit step)
+begun-made name after start limit step m r =
+    number-stored m name start (λ n. pushed (cleared name n) (loop name limit step after) (λ o. goesOn o after)) r
+    (λ n q h. pushed-made (cleared name n) (loop name limit step after) (λ o. goesOn o after)
+    (below-each (RecordMade (n .variables .numbers)) (isLoopOf name) (n .records) q) h (λ o s. s))
 
 turned-made : (m : Machine) (v : Telling) (limit step : ℕ) (back : Position) (under : List Record) (after : Position) (a : Answer)
     → RecordsMade (m .variables .numbers) under → NextMade (turned m v limit step back under after a)
@@ -206,12 +192,13 @@ turned-made m v limit step back under after (answer.Fault e) u = tt
 
 found-made : (m : Machine) (s : Search) (after : Position) → SearchMade (m .variables .numbers) s → NextMade (nextOn m s after)
 found-made m missing after h = tt
-found-made m (found limit step back v under) after h =
+found-made m (found (loop v limit step back) under) after h =
     turned-made m v limit step back under after (applied Add (wordOf (m .variables .numbers) v) step) (h .1)
+found-made m (found (call q) under) after h = tt
 
-next-made : (test : Telling → Bool) (m : Machine) (after : Position) → MachineMade m → NextMade (nextOn m (sought test (m .records)) after)
+next-made : (test : Record → Bool) (m : Machine) (after : Position) → MachineMade m → NextMade (nextOn m (sought test (m .records)) after)
 next-made test m after r =
-    found-made m (sought test (m .records)) after (sought-made (m .variables .numbers) test (m .records) r)
+    found-made m (sought test (m .records)) after (sought-each (RecordMade (m .variables .numbers)) test (m .records) r)
 
 filled-made : (k : Kind) (name : Telling) (b : List ℕ) (m : Machine) (go : Machine → Next) → MachineMade m → Continues go
     → NextMade (filled k name b m go)
@@ -236,17 +223,17 @@ statement-made program place (tree.goto l) m after r = line-made m (fromNumber (
 statement-made program place (tree.gosub l) m after r =
     line-made m (fromNumber (l .0) (linesOf program)) (λ ls. pushed m (call after) (λ n. enters n ls))
     (λ from. pushed-made m (call after) (λ n. enters n from) r tt (λ n q. q))
-statement-made program place tree.return m after r = returned-made (m .records) m r
+statement-made program place tree.return m after r = returned-made m (sought isCall (m .records)) (sought-each (RecordMade (m .variables .numbers)) isCall (m .records) r)
 statement-made program place (tree.for v from to by) m after r =
     by-choice NextMade (isWholeKind (v .kind))
     (whole-worked from m _ r λ a n rn.
     whole-worked to n _ rn λ b o ro.
     whole-worked by o _ ro λ s q rq.
-    number-stored q (v .telling) a (begun (v .telling) b s after) rq (begun-made (v .telling) b s after))
+    begun-made (v .telling) after a b s q rq)
     tt
-statement-made program place tree.next m after r = next-made (λ u. true) m after r
+statement-made program place tree.next m after r = next-made isLoop m after r
 statement-made program place (tree.nextOf v) m after r =
-    by-choice NextMade (isWholeKind (v .kind)) (next-made (λ u. alike u (v .telling)) m after r) tt
+    by-choice NextMade (isWholeKind (v .kind)) (next-made (isLoopOf (v .telling)) m after r) tt
 statement-made program place (tree.lineInput t v) m after r = written-made m t _ r (λ n q. input-made (n .input) n v _ q (λ o s. s))
 statement-made program place tree.end m after r = tt
 statement-made program place tree.stop m after r = tt
@@ -305,18 +292,19 @@ turned-has-room m v limit step back under after (answer.Fault e) h k = k
 
 found-has-room : (m : Machine) (s : Search) (after : Position) → SearchMade (m .variables .numbers) s → HasRoom (nextOn m s after)
 found-has-room m missing after h = refl
-found-has-room m (found limit step back v under) after h =
+found-has-room m (found (loop v limit step back) under) after h =
     turned-has-room m v limit step back under after (applied Add (wordOf (m .variables .numbers) v) step) (h .0) (fit-has-room _)
+found-has-room m (found (call q) under) after h = refl
 
-searched-has-room : (test : Telling → Bool) (m : Machine) (after : Position) → MachineMade m → HasRoom (nextOn m (sought test (m .records)) after)
+searched-has-room : (test : Record → Bool) (m : Machine) (after : Position) → MachineMade m → HasRoom (nextOn m (sought test (m .records)) after)
 searched-has-room test m after r =
-    found-has-room m (sought test (m .records)) after (sought-made (m .variables .numbers) test (m .records) r)
+    found-has-room m (sought test (m .records)) after (sought-each (RecordMade (m .variables .numbers)) test (m .records) r)
 
 statement-has-room : (program : List ℕ) (place : ℕ) (x : Statement) (m : Machine) (after : Position) → isNext x ≡ true → MachineMade m
     → HasRoom (doStatement program place x m after)
-statement-has-room program place tree.next m after e r = searched-has-room (λ u. true) m after r
+statement-has-room program place tree.next m after e r = searched-has-room isLoop m after r
 statement-has-room program place (tree.nextOf v) m after e r =
-    by-choice HasRoom (isWholeKind (v .kind)) (searched-has-room (λ u. alike u (v .telling)) m after r) refl
+    by-choice HasRoom (isWholeKind (v .kind)) (searched-has-room (isLoopOf (v .telling)) m after r) refl
 statement-has-room program place tree.empty m after e r = absurd (false≢true e)
 statement-has-room program place (tree.assign v f) m after e r = absurd (false≢true e)
 statement-has-room program place (tree.print is) m after e r = absurd (false≢true e)

@@ -29,7 +29,7 @@ use Rattle.strings.specs.Functions.{argument, startsWith, found, placeOf}
 use Rattle.operators.specs.Values.{isBefore, wantAt, valueOf, valuesOf}
 use Rattle.variables.specs.Tables.{namesFrom, namesIn, numbersIn, slotFrom, sumOf, emptyTables, nameBytes}
 use Rattle.machine.specs.Machine.{columnAfter, write, sought, passed}
-use Rattle.turns.specs.Steps.{printItems, returned}
+use Rattle.turns.specs.Steps.{printItems}
 use Rattle.checker.specs.Check.{present, anyMissing, firstFault, checkOf}
 use Rattle.checker.specs.declared.checking.Verdict.{Verdict}
 use Rattle.checker.specs.declared.checking.Verdict.the-variants.{Passed, Faulty}
@@ -138,5 +138,5 @@ seenOf e r = record {
 }
 
 pub starred-hold : map (λ (e : Example). seenOf e (runOf (bytes (e .recipe)) [] (lending (e .space)) (e .budget))) starred ≡ map (λ (e : Example). e .seen) starred
-unfolding starred bytes leading isDigit valueFrom sameBytes meaning capitalOf isLetter isHex hexDigit signs pairs classOf reserved tellingOf markOf wordToken numberToken hexFrom hexToken textToken signToken tokenAt linesFrom numberOf isPlain numbered judged loadLines loadOf formFor anyFor countOf formulaAt climbAt operandAt argumentsAt formulaOf allMeet sortOf sortsOf depthOf deepestOf itemsAt printAt forAt inputAt begunAt partAt readLine deepest allSome partsOf heads deepestIn allTyped signedValue num fit places trimmed digitByte numeral shown fromNumber make letGo letAllGo produced wordOf bytesOf stringBytes argument startsWith found placeOf isBefore wantAt valueOf valuesOf hasNumber hasString setNumber setString columnAfter write printItems returned sought passed enter running runOf joinedStrings present anyMissing firstFault checkOf askOf namesFrom namesIn numbersIn slotFrom sumOf nameBytes
+unfolding starred bytes leading isDigit valueFrom sameBytes meaning capitalOf isLetter isHex hexDigit signs pairs classOf reserved tellingOf markOf wordToken numberToken hexFrom hexToken textToken signToken tokenAt linesFrom numberOf isPlain numbered judged loadLines loadOf formFor anyFor countOf formulaAt climbAt operandAt argumentsAt formulaOf allMeet sortOf sortsOf depthOf deepestOf itemsAt printAt forAt inputAt begunAt partAt readLine deepest allSome partsOf heads deepestIn allTyped signedValue num fit places trimmed digitByte numeral shown fromNumber make letGo letAllGo produced wordOf bytesOf stringBytes argument startsWith found placeOf isBefore wantAt valueOf valuesOf hasNumber hasString setNumber setString columnAfter write printItems sought passed enter running runOf joinedStrings present anyMissing firstFault checkOf askOf namesFrom namesIn numbersIn slotFrom sumOf nameBytes
 starred-hold = refl

@@ -12,7 +12,8 @@ use Rattle.grammar.specs.Trees.{Part}
 use Rattle.statements.specs.Statements.{goodPart, partOf}
 use Rattle.statements.specs.Parts.{headOf, tailOf, placeOf}
 use Rattle.machine.specs.Machine as spec
-use Rattle.machine.specs.bridge.Holding.{linesAt, Parted, foundIn, entryAt, Sound, Same}
+use Rattle.machine.specs.bridge.Holding.{linesAt, Parted, Sound, Same}
+use Rattle.machine.specs.bridge.Wanted.{foundIn, entryAt}
 use Rattle.machine.specs.bridge.Seeking.{soughtBy}
 use Rattle.machine.specs.declared.state.Machine.{Machine}
 use Rattle.machine.specs.declared.positions.Next.{Next}

@@ -20,7 +20,6 @@ use Rattle.whole.specs.declared.errors.Error.the-variants.{
   InputPastEnd,
   OutputFull,
 }
-use Rattle.words.specs.Names.{alike}
 use Rattle.words.specs.declared.names.Kind.{Kind}
 use Rattle.words.specs.declared.names.Kind.the-variants as kind
 use Rattle.words.specs.declared.names.Telling.{Telling}
@@ -30,7 +29,7 @@ use Rattle.grammar.specs.Trees.{Formula, Variable, Item, Statement, Part}
 use Rattle.variables.specs.Strings.{Value, whole, text, Outcome, value, fault, make}
 use Rattle.variables.specs.Variables.{wordOf, setNumber, setString, numbersFull, stringsFull}
 use Rattle.operators.specs.Values.{valueOf}
-use Rattle.machine.specs.Machine.{Position, Record, loop, call, Machine, mostRecords, roomOf, withVariables, withRecords, withInput, noting, Printed, full, printed, write, commaBlanks, Search, missing, found, sought, below, passed}
+use Rattle.machine.specs.Machine.{Position, Record, loop, call, Machine, mostRecords, roomOf, withVariables, withRecords, withInput, noting, Printed, full, printed, write, commaBlanks, isCall, isLoop, isLoopOf, backOf, Search, missing, found, sought, below, passed}
 use Rattle.statements.specs.Parts.{nothing, part}
 
 -- what a statement comes to: the run goes on at a place, or at a line's start, or it ends
@@ -103,17 +102,35 @@ abbrev pub toLine : Machine → List Line → (List Line → Next) → Next
 toLine m [] go = fails UndefinedLine m
 toLine m (l ∷ ls) go = go (l ∷ ls)
 
--- a record more; at most 32
+-- a record more, if there is room
 abbrev pub pushed : Machine → Record → (Machine → Next) → Next
 pushed m r go = cond (leb mostRecords (length (m .records))) (fails OutOfMemory m) (go (withRecords m (r ∷ m .records)))
 
--- RETURN drops records through the nearest GOSUB and goes on after it
-unfoldable pub returned : List Record → Machine → Next
-returned [] m = fails ReturnWithoutGosub m
-returned (loop v l s p ∷ rs) m = returned rs m
-returned (call p ∷ rs) m = goesOn (withRecords m rs) p
+-- RETURN drops records through the nearest GOSUB's and goes on after it
+abbrev pub returned : Machine → Search → Next
+returned m missing = fails ReturnWithoutGosub m
+returned m (found r under) = goesOn (withRecords m under) (backOf r)
 
 -- ---- FOR and NEXT
+
+-- an older loop of the variable is dropped with all above it
+abbrev pub cleared : Telling → Machine → Machine
+cleared name m = withRecords m (below (m .records) (sought (isLoopOf name) (m .records)))
+
+-- FOR with its start, limit and step: the variable is stored, an older loop of it is dropped, and a record is made
+abbrev pub begun : Telling → Position → ℕ → ℕ → ℕ → Machine → Next
+begun name after start limit step m =
+    storeNumber m name start (λ n. pushed (cleared name n) (loop name limit step after) (λ o. goesOn o after))
+
+-- these are worked out one after another: FOR from its step on, from its limit on, and from its start on
+abbrev pub fromStep : Telling → Position → Formula → ℕ → ℕ → Machine → Next
+fromStep name after by start limit m = workedWhole by m (λ w n. begun name after start limit w n)
+
+abbrev pub fromLimit : Telling → Position → Formula → Formula → ℕ → Machine → Next
+fromLimit name after to by start m = workedWhole to m (λ w n. fromStep name after by start w n)
+
+abbrev pub fromStart : Telling → Position → Formula → Formula → Formula → Machine → Next
+fromStart name after from to by m = workedWhole from m (λ w n. fromLimit name after to by w n)
 
 -- one turn more, or the loop ends; the variable, which its FOR has made, is stored as an assignment stores it
 abbrev pub turned : Machine → Telling → ℕ → ℕ → Position → List Record → Position → Answer → Next
@@ -124,10 +141,12 @@ turned m v limit step back under after (Whole w) =
     (goesOn (withRecords n (loop v limit step back ∷ under)) back))
 turned m v limit step back under after (Fault e) = fails e m
 
+-- NEXT takes the loop that was found; it looks for loops alone
 abbrev pub nextOn : Machine → Search → Position → Next
 nextOn m missing after = fails NextWithoutFor m
-nextOn m (found limit step back v under) after =
+nextOn m (found (loop v limit step back) under) after =
     turned m v limit step back under after (applied Add (wordOf (m .variables .numbers) v) step)
+nextOn m (found (call p) under) after = fails NextWithoutFor m
 
 -- ---- LINE INPUT: its text is printed, then a line of input is taken
 
@@ -173,7 +192,7 @@ branch m lines p = goesOn m (record { lines = lines; rest = part p })
 abbrev pub lineOver : Machine → List Line → Next
 lineOver m lines = goesOn m (record { lines = lines; rest = nothing })
 
--- of a program, at a place of its line
+-- what a statement of a program does that stands at a place of its line; what those of the paper do hangs on no place
 abbrev pub doStatement : List ℕ → ℕ → Statement → Machine → Position → Next
 doStatement program at tree.empty m after = goesOn m after
 doStatement program at (tree.assign v f) m after =
@@ -186,17 +205,12 @@ doStatement program at (tree.ifElse c p q) m after =
 doStatement program at (tree.goto l) m after = toLine m (fromNumber (l .0) (linesOf program)) (λ ls. enters m ls)
 doStatement program at (tree.gosub l) m after =
     toLine m (fromNumber (l .0) (linesOf program)) (λ ls. pushed m (call after) (λ n. enters n ls))
-doStatement program at tree.return m after = returned (m .records) m
+doStatement program at tree.return m after = returned m (sought isCall (m .records))
 doStatement program at (tree.for v from to by) m after =
-    cond (isWholeKind (v .kind))
-    (workedWhole from m (λ a n. workedWhole to n (λ b o. workedWhole by o (λ s p.
-    storeNumber p (v .telling) a (λ q.
-    let clear = withRecords q (below (q .records) (sought (λ u. alike u (v .telling)) (q .records))) in
-    pushed clear (loop (v .telling) b s after) (λ r. goesOn r after))))))
-    (fails TypeMismatch m)
-doStatement program at tree.next m after = nextOn m (sought (λ u. true) (m .records)) after
+    cond (isWholeKind (v .kind)) (fromStart (v .telling) after from to by m) (fails TypeMismatch m)
+doStatement program at tree.next m after = nextOn m (sought isLoop (m .records)) after
 doStatement program at (tree.nextOf v) m after =
-    cond (isWholeKind (v .kind)) (nextOn m (sought (λ u. alike u (v .telling)) (m .records)) after) (fails TypeMismatch m)
+    cond (isWholeKind (v .kind)) (nextOn m (sought (isLoopOf (v .telling)) (m .records)) after) (fails TypeMismatch m)
 doStatement program at (tree.lineInput t v) m after =
     written m t (λ n. inputLine (n .input) n v (λ o. goesOn o after))
 doStatement program at tree.end m after = ends m

@@ -8,7 +8,6 @@ use lib.Dec.{leb}
 use lib.ListN.{length}
 use Rattle.whole.specs.declared.errors.Error.the-variants.{OutOfMemory}
 use Rattle.words.specs.declared.names.Name.{Name}
-use Rattle.words.specs.Names.{alike}
 use Rattle.words.specs.Places.{place}
 use Rattle.words.specs.declared.names.Telling.{Telling}
 use Rattle.words.specs.declared.places.Place.{Place}
@@ -22,8 +21,8 @@ use Rattle.statements.specs.Statements.{done, variableOf, forAt}
 use Rattle.reader.specs.declared.branches.Start.{Start}
 use Rattle.reader.specs.declared.branches.Start.the-variants as branch
 use Rattle.formulas.specs.bridge.Memory.{Scans}
-use Rattle.machine.specs.Machine as spec
-use Rattle.machine.specs.Machine.{below}
+use Rattle.machine.specs.Machine.{mostRecords}
+use Rattle.machine.specs.bridge.Holding.{loopRecord}
 use Rattle.machine.specs.declared.state.Machine.{Machine}
 use Rattle.machine.specs.declared.positions.Position.{Position}
 use Rattle.machine.specs.declared.positions.Turned.{Turned}
@@ -32,14 +31,12 @@ use Rattle.machine.specs.declared.positions.Next.the-variants as next
 use Rattle.machine.specs.declared.records.Record.{Record}
 use Rattle.machine.specs.declared.records.Found.{Found}
 use Rattle.machine.specs.declared.records.Found.the-variants as found
-use Rattle.turns.specs.Steps as step
-use Rattle.turns.specs.Steps.{goesOn, workedWhole, storeNumber, pushed}
 use Rattle.turns.specs.bridge.Turns.{turnedTo, withDepth, numberSet}
 
--- a record more, written above the others; at most 32
+-- a record more, written above the others, if there is room
 abbrev pub pushedTurn : Machine → Record → Next → Turned
 pushedTurn m held n =
-    cond (leb 32 (m .depth)) (turnedTo m (next.Fails OutOfMemory))
+    cond (leb mostRecords (m .depth)) (turnedTo m (next.Fails OutOfMemory))
     (record { machine = withDepth m (m .depth + 1); next = n; slot = m .depth; held = held })
 
 -- a part of the line is entered, or the line is over
@@ -54,30 +51,12 @@ abbrev pub droppedTo : Machine → Found → Machine
 droppedTo m (found.At i) = withDepth m i
 droppedTo m found.None = m
 
--- the record of a loop
-abbrev pub loopRecord : Telling → ℕ → ℕ → Position → Record
-loopRecord name limit step back = record { loops = true; name = name; limit = limit; step = step; back = back }
-
 -- the variable is set, an older loop of it is dropped, then a record is made
 abbrev pub loopTurn : Machine → Telling → ℕ → ℕ → ℕ → Position → Found → Turned
 loopTurn m name from limit step back f =
     cond (numberSet m name from .ok)
     (pushedTurn (droppedTo (numberSet m name from .machine) f) (loopRecord name limit step back) (next.On back))
     (turnedTo (numberSet m name from .machine) (next.Fails OutOfMemory))
-
--- what the definition then does, with the start, the limit and the step
-abbrev pub loopsFrom : Telling → spec.Position → ℕ → ℕ → ℕ → spec.Machine → step.Next
-loopsFrom name after from limit by m =
-    storeNumber m name from λ q.
-    pushed (spec.withRecords q (below (q .records) (spec.sought (λ u. alike u name) (q .records)))) (spec.loop name limit by after)
-    (λ r. goesOn r after)
-
--- from the limit on, and from the step on
-abbrev pub stepsFrom : Telling → spec.Position → ℕ → Formula → ℕ → spec.Machine → step.Next
-stepsFrom name after from by limit m = workedWhole by m (λ w o. loopsFrom name after from limit w o)
-
-abbrev pub limitsFrom : Telling → spec.Position → Formula → Formula → ℕ → spec.Machine → step.Next
-limitsFrom name after to by from m = workedWhole to m (λ w o. stepsFrom name after from by w o)
 
 -- the step of a FOR, from STEP on, if it stands; it is 1 if left out
 abbrev pub stepOf : List ℕ → Scanned → Reading

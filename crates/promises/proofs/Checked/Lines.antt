@@ -16,8 +16,9 @@ use Rattle.checker.specs.declared.checking.Soundness.{Soundness}
 use Rattle.checker.specs.declared.checking.Soundness.the-variants.{Sound, Fault}
 use Rattle.checker.specs.declared.checking.Verdict.{Verdict}
 use Rattle.checker.specs.declared.checking.Verdict.the-variants.{Passed}
-use Rattle.machine.specs.Machine.{Position, Record, loop, call}
+use Rattle.machine.specs.Machine.{Position, Record, backOf}
 use Rattle.runner.specs.Run.{Entered, over, faulty, opened, judgedLine, enter}
+use Rattle.promises.proofs.Records as records
 use Rattle.promises.proofs.Checked.Operators.{Allowed}
 
 -- neither of two
@@ -71,12 +72,10 @@ module _ (all : List Line) where
   PositionChecked p = LinesChecked (p .lines) × RestChecked (p .rest)
 
   abbrev pub RecordChecked : Record → Type 0
-  RecordChecked (loop v limit step p) = PositionChecked p
-  RecordChecked (call p) = PositionChecked p
+  RecordChecked r = PositionChecked (backOf r)
 
   abbrev pub RecordsChecked : List Record → Type 0
-  RecordsChecked [] = Unit {0}
-  RecordsChecked (r ∷ rs) = RecordChecked r × RecordsChecked rs
+  RecordsChecked rs = records.Each RecordChecked rs
 
   -- the first statement of a part, its branches, and what is left then
   pub part-apart : (p : Part) → PartChecked p → Checked (headOf p) × AllChecked (heads (partsWithin (headOf p))) × RestChecked (tailOf p)

@@ -10,7 +10,6 @@ use Rattle.whole.specs.Whole.{applied}
 use Rattle.whole.specs.declared.arithmetic.Answer.{Answer}
 use Rattle.whole.specs.declared.arithmetic.Answer.the-variants as answer
 use Rattle.whole.specs.declared.arithmetic.Operator.the-variants.{Add}
-use Rattle.words.specs.Names.{alike}
 use Rattle.words.specs.declared.names.Kind.{Kind}
 use Rattle.words.specs.declared.names.Kind.the-variants as kind
 use Rattle.words.specs.declared.names.Telling.{Telling}
@@ -34,15 +33,16 @@ use Rattle.machine.specs.Machine.{
   Machine,
   mostRecords,
   roomOf,
-  withRecords,
   noting,
   write,
   commaBlanks,
+  isCall,
+  isLoop,
+  isLoopOf,
   Search,
   missing,
   found,
   sought,
-  below,
   passed,
 }
 use Rattle.turns.specs.Steps.{
@@ -62,6 +62,8 @@ use Rattle.turns.specs.Steps.{
   toLine,
   pushed,
   returned,
+  cleared,
+  begun,
   turned,
   nextOn,
   takeLine,
@@ -70,6 +72,8 @@ use Rattle.turns.specs.Steps.{
   isWholeKind,
   doStatement,
 }
+use Rattle.promises.proofs.Records as records
+use Rattle.promises.proofs.Records.{sought-each, below-each}
 use Rattle.promises.proofs.Checked.Operators.{by-choice, Allowed, Answers, applied-answers, Fits, make-fits}
 use Rattle.promises.proofs.Checked.Formulas.{formula-fits}
 use Rattle.promises.proofs.Checked.Lines.{
@@ -94,11 +98,6 @@ fits-text : (s : Sort) (o : Outcome) → isText s ≡ true → Fits s o → Fits
 fits-text Whole o e h = absurd (false≢true e)
 fits-text Text o e h = h
 fits-text Wrong o e h = absurd (false≢true e)
-
--- what a FOR does once its variable is set: an older loop of it is dropped, and a record is made
-abbrev pub begun : Telling → ℕ → ℕ → Position → Machine → Next
-begun name limit step after m =
-    pushed (withRecords m (below (m .records) (sought (λ u. alike u name) (m .records)))) (loop name limit step after) (λ n. goesOn n after)
 
 -- `all` are the lines of the recipe
 module _ (all : List Line) where
@@ -197,34 +196,21 @@ module _ (all : List Line) where
       → NextChecked (pushed m r go)
   pushed-checked m r go q p k = by-choice NextChecked (leb mostRecords (length (m .records))) refl (k _ (p, q))
 
-  returned-checked : (rs : List Record) (m : Machine) → RecordsChecked all rs → NextChecked (returned rs m)
-  unfolding returned
-  returned-checked [] m h = refl
-  returned-checked (loop v l s p ∷ rs) m h = returned-checked rs m (h .1)
-  returned-checked (call p ∷ rs) m h = (h .1, h .0)
+  abbrev SearchChecked : Search → Type 0
+  SearchChecked s = records.Found (RecordChecked all) s
+
+  returned-checked : (m : Machine) (s : Search) → SearchChecked s → NextChecked (returned m s)
+  returned-checked m missing h = refl
+  returned-checked m (found r under) h = (h .1, h .0)
 
   -- ---- FOR and NEXT
 
-  abbrev SearchChecked : Search → Type 0
-  SearchChecked missing = Unit {0}
-  SearchChecked (found limit step p v under) = PositionChecked all p × RecordsChecked all under
-
-  sought-checked : (test : Telling → Bool) (rs : List Record) → RecordsChecked all rs → SearchChecked (sought test rs)
-  unfolding sought
-  sought-checked test [] h = tt
-  sought-checked test (call p ∷ rs) h = tt
-  sought-checked test (loop v limit step p ∷ rs) h = by-choice SearchChecked (test v) h (sought-checked test rs (h .1))
-
-  below-checked : (rs : List Record) (s : Search) → RecordsChecked all rs → SearchChecked s → RecordsChecked all (below rs s)
-  below-checked rs missing h k = h
-  below-checked rs (found limit step p v under) h k = k .1
-
-  begun-checked : (name : Telling) (limit step : ℕ) (after : Position) → PositionChecked all after → Continues (begun name limit step after)
-  begun-checked name limit step after p m r =
-      let test : Telling → Bool = λ u. alike u name in
-      let older = sought test (m .records) in
-      pushed-checked (withRecords m (below (m .records) older)) (loop name limit step after) (λ n. goesOn n after)
-      (below-checked (m .records) older r (sought-checked test (m .records) r)) p (goes-on after p)
+  begun-checked : (name : Telling) (after : Position) (start limit step : ℕ) → PositionChecked all after
+      → Continues (begun name after start limit step)
+  begun-checked name after start limit step p m r =
+      number-stored m name start (λ n. pushed (cleared name n) (loop name limit step after) (λ o. goesOn o after)) r
+      (λ n q. pushed-checked (cleared name n) (loop name limit step after) (λ o. goesOn o after)
+      (below-each (RecordChecked all) (isLoopOf name) (n .records) q) p (goes-on after p))
 
   turned-checked : (m : Machine) (v : Telling) (limit step : ℕ) (back : Position) (under : List Record) (after : Position) (a : Answer)
       → PositionChecked all back → RecordsChecked all under → PositionChecked all after → Answers a
@@ -236,13 +222,14 @@ module _ (all : List Line) where
 
   found-checked : (m : Machine) (s : Search) (after : Position) → SearchChecked s → PositionChecked all after → NextChecked (nextOn m s after)
   found-checked m missing after h p = refl
-  found-checked m (found limit step back v under) after h p =
+  found-checked m (found (loop v limit step back) under) after h p =
       let w = wordOf (m .variables .numbers) v in
       turned-checked m v limit step back under after (applied Add w step) (h .0) (h .1) p (applied-answers Add w step)
+  found-checked m (found (call q) under) after h p = refl
 
-  next-checked : (test : Telling → Bool) (m : Machine) (after : Position) → MachineChecked m → PositionChecked all after
+  next-checked : (test : Record → Bool) (m : Machine) (after : Position) → MachineChecked m → PositionChecked all after
       → NextChecked (nextOn m (sought test (m .records)) after)
-  next-checked test m after r p = found-checked m (sought test (m .records)) after (sought-checked test (m .records) r) p
+  next-checked test m after r p = found-checked m (sought test (m .records)) after (sought-each (RecordChecked all) test (m .records) r) p
 
   -- ---- LINE INPUT
 
@@ -281,7 +268,7 @@ module _ (program : List ℕ) (lines : LinesChecked (linesOf program) (linesOf p
       (whole-worked all from m _ (u .0) r λ a n rn.
       whole-worked all to n _ (w .0) rn λ b o ro.
       whole-worked all by o _ (w .1) ro λ s q rq.
-      number-stored all q (v .telling) a (begun (v .telling) b s after) rq (begun-checked all (v .telling) b s after p))
+      begun-checked all (v .telling) after a b s p q rq)
 
   pub statement-checked : (at : ℕ) (x : Statement) (m : Machine) (after : Position) → Checked all x → AllChecked all (heads (partsWithin x))
       → MachineChecked all m → PositionChecked all after → NextChecked all (doStatement program at x m after)
@@ -299,11 +286,11 @@ module _ (program : List ℕ) (lines : LinesChecked (linesOf program) (linesOf p
   statement-checked at (tree.gosub l) m after c i r p =
       line-found all (l .0) all m (λ ls. pushed m (call after) (λ n. enters n ls)) (not-false _ (c .named)) lines
       (λ from h. pushed-checked all m (call after) (λ n. enters n from) r p (λ n s. (s, h)))
-  statement-checked at tree.return m after c i r p = returned-checked all (m .records) m r
+  statement-checked at tree.return m after c i r p = returned-checked all m (sought isCall (m .records)) (sought-each (RecordChecked all) isCall (m .records) r)
   statement-checked at (tree.for v from to by) m after c i r p = for-checked at v from to by m after (c .typed) r p
-  statement-checked at tree.next m after c i r p = next-checked all (λ u. true) m after r p
+  statement-checked at tree.next m after c i r p = next-checked all isLoop m after r p
   statement-checked at (tree.nextOf v) m after c i r p =
-      rw (number-kind (v .kind) (c .typed)) (next-checked all (λ u. alike u (v .telling)) m after r p)
+      rw (number-kind (v .kind) (c .typed)) (next-checked all (isLoopOf (v .telling)) m after r p)
   statement-checked at (tree.lineInput t v) m after c i r p =
       written-checked all m t _ r (λ n s. input-checked all (n .input) n v _ (c .typed) s (goes-on all after p))
   statement-checked at tree.end m after c i r p = tt

@@ -12,7 +12,6 @@ use Rattle.whole.specs.declared.arithmetic.Answer.{Answer}
 use Rattle.whole.specs.declared.arithmetic.Answer.the-variants.{Whole, Fault}
 use Rattle.whole.specs.declared.arithmetic.Operator.the-variants.{Add}
 use Rattle.whole.specs.declared.errors.Error.the-variants.{OutOfStringSpace}
-use Rattle.words.specs.Names.{alike}
 use Rattle.words.specs.declared.names.Kind.{Kind}
 use Rattle.words.specs.declared.names.Kind.the-variants as kind
 use Rattle.words.specs.declared.names.Telling.{Telling}
@@ -41,6 +40,9 @@ use Rattle.machine.specs.Machine.{
   printed,
   write,
   commaBlanks,
+  isCall,
+  isLoop,
+  isLoopOf,
   Search,
   missing,
   found,
@@ -68,6 +70,8 @@ use Rattle.turns.specs.Steps.{
   toLine,
   pushed,
   returned,
+  cleared,
+  begun,
   turned,
   nextOn,
   Taken,
@@ -84,7 +88,6 @@ use Rattle.promises.specs.Unfinished.{LiveIsExact}
 use Rattle.promises.specs.StringSpace as asks
 use Rattle.promises.specs.StringSpace.{Ask, bytesIn, Exceeds, FormulaAsks, PrintAsks, StatementAsks}
 use Rattle.promises.proofs.Never.{never}
-use Rattle.promises.proofs.Limits.Keeping.{cleared, begun}
 use Rattle.promises.proofs.Fourteen.Rooms.{Spares, applied-spares}
 use Rattle.promises.proofs.Fourteen.Formulas.{make-over, make-refused, formula-over, formula-fails}
 
@@ -179,11 +182,14 @@ module _ (X : Type 0) where
       by-test (leb mostRecords (length (m .records)))
       (λ e. rw e (λ t. never (cc))) (λ e. rw e (h (withRecords m (r ∷ m .records))))
 
-  returned-tells : (rs : List Record) (m : Machine) → Tells X (returned rs m)
-  unfolding returned
-  returned-tells [] m = λ t. never (cc)
-  returned-tells (loop v l s q ∷ rs) m = returned-tells rs m
-  returned-tells (call q ∷ rs) m = tt
+  returned-tells : (m : Machine) (s : Search) → Tells X (returned m s)
+  returned-tells m missing = λ t. never (cc)
+  returned-tells m (found r under) = tt
+
+  begun-tells : (name : Telling) (after : Position) (start limit step : ℕ) (m : Machine) → Tells X (begun name after start limit step m)
+  begun-tells name after start limit step m =
+      number-tells m name start (λ n. pushed (cleared name n) (loop name limit step after) (λ o. goesOn o after))
+      (λ n. pushed-tells (cleared name n) (loop name limit step after) (λ o. goesOn o after) (λ o. tt))
 
   turned-tells : (m : Machine) (v : Telling) (limit step : ℕ) (back : Position) (under : List Record) (after : Position) (a : Answer) → Spares a
       → Tells X (turned m v limit step back under after a)
@@ -195,9 +201,10 @@ module _ (X : Type 0) where
 
   next-tells : (m : Machine) (s : Search) (after : Position) → Tells X (nextOn m s after)
   next-tells m missing after = λ t. never (cc)
-  next-tells m (found limit step back v under) after =
+  next-tells m (found (loop v limit step back) under) after =
       turned-tells m v limit step back under after (applied Add (wordOf (m .variables .numbers) v) step)
       (applied-spares Add (wordOf (m .variables .numbers) v) step)
+  next-tells m (found (call q) under) after = λ t. never (cc)
 
   filled-tells : (sort : Kind) (name : Telling) (b : List ℕ) (m : Machine) (go : Machine → Next) → ((n : Machine) → Tells X (go n))
       → Tells X (filled sort name b m go)
@@ -269,7 +276,7 @@ module _ (exact : LiveIsExact) where
   statement-tells program at (tree.goto l) m after = line-tells _ m (fromNumber (l .0) (linesOf program)) _ (λ ls. tt)
   statement-tells program at (tree.gosub l) m after =
       line-tells _ m (fromNumber (l .0) (linesOf program)) _ (λ ls. pushed-tells _ m (call after) (λ n. enters n ls) (λ n. tt))
-  statement-tells program at tree.return m after = returned-tells _ (m .records) m
+  statement-tells program at tree.return m after = returned-tells _ m (sought isCall (m .records))
   statement-tells program at (tree.for v from to by) m after =
       by-test (isWholeKind (v .kind))
       (λ t. rw t
@@ -279,13 +286,11 @@ module _ (exact : LiveIsExact) where
       (formula-tells to (noting m room) (λ k d x. record { ask = k; asks = asks.limited t e d; exceeds = x })) (λ b next d.
       whole-tells (StatementOver (after .lines) at (tree.for v from to by) m) by (noting m next) _
       (formula-tells by (noting m next) (λ k c x. record { ask = k; asks = asks.stepped t e d c; exceeds = x })) (λ s last c.
-      number-tells _ (noting m last) (v .telling) a
-      (begun (v .telling) b s after)
-      (λ q. pushed-tells (StatementOver (after .lines) at (tree.for v from to by) m) (cleared (v .telling) q) (loop (v .telling) b s after) (λ r. goesOn r after) (λ r. tt)))))))
+      begun-tells (StatementOver (after .lines) at (tree.for v from to by) m) (v .telling) after a b s (noting m last))))))
       (λ t. rw t (λ x. never (cc)))
-  statement-tells program at tree.next m after = next-tells _ m (sought (λ u. true) (m .records)) after
+  statement-tells program at tree.next m after = next-tells _ m (sought isLoop (m .records)) after
   statement-tells program at (tree.nextOf v) m after =
-      by-test (isWholeKind (v .kind)) (λ t. rw t (next-tells _ m (sought (λ u. alike u (v .telling)) (m .records)) after))
+      by-test (isWholeKind (v .kind)) (λ t. rw t (next-tells _ m (sought (isLoopOf (v .telling)) (m .records)) after))
       (λ t. rw t (λ x. never (cc)))
   statement-tells program at (tree.lineInput t v) m after =
       written-tells (StatementOver (after .lines) at (tree.lineInput t v) m) m t _ (λ n w.

@@ -11,7 +11,6 @@ use Rattle.whole.specs.Whole.{applied}
 use Rattle.whole.specs.declared.arithmetic.Answer.{Answer}
 use Rattle.whole.specs.declared.arithmetic.Answer.the-variants.{Whole, Fault}
 use Rattle.whole.specs.declared.arithmetic.Operator.the-variants.{Add}
-use Rattle.words.specs.Names.{alike}
 use Rattle.words.specs.declared.names.Kind.{Kind}
 use Rattle.words.specs.declared.names.Kind.the-variants as kind
 use Rattle.words.specs.declared.names.Telling.{Telling}
@@ -37,11 +36,13 @@ use Rattle.machine.specs.Machine.{
   columnAfter,
   write,
   commaBlanks,
+  isCall,
+  isLoop,
+  isLoopOf,
   Search,
   missing,
   found,
   sought,
-  below,
   passed,
 }
 use Rattle.turns.specs.Steps.{
@@ -65,6 +66,8 @@ use Rattle.turns.specs.Steps.{
   toLine,
   pushed,
   returned,
+  cleared,
+  begun,
   turned,
   nextOn,
   Taken,
@@ -99,13 +102,6 @@ pub record Keeps (P : Machine → Type 0) : Type 0 where
       → P m → P (withOutput m (m .output ++ bytes) (columnAfter (m .column) bytes))
   pub takes : (m : Machine) (left : List ℕ) → length left ≤ length (m .input)
       → P m → P (withInput m left (m .taken + (length (m .input) - length left)))
-
--- FOR: an older loop of the variable is dropped, and a record made
-abbrev pub cleared : Telling → Machine → Machine
-cleared v m = withRecords m (below (m .records) (sought (λ u. alike u v) (m .records)))
-
-abbrev pub begun : Telling → ℕ → ℕ → Position → Machine → Next
-begun v limit step after m = pushed (cleared v m) (loop v limit step after) (λ n. goesOn n after)
 
 -- a line of input is a text as a quoted one is
 made-text : (b : List ℕ) (vars : Variables) (before : Room) (v : Value) (room : Room) → make b before ≡ value v room
@@ -189,13 +185,16 @@ module _ (P : Machine → Type 0) (k : Keeps P) where
       by-test (leb mostRecords (length (m .records))) (λ e. rw e p)
       (λ e. rw e (h (withRecords m (r ∷ m .records)) (k .records m (r ∷ m .records) p)))
 
-  returned-keeps : (rs : List Record) (m : Machine) → P m → Leaves P (returned rs m)
-  unfolding returned
-  returned-keeps [] m p = p
-  returned-keeps (loop v l s q ∷ rs) m p = returned-keeps rs m p
-  returned-keeps (call q ∷ rs) m p = k .records m rs p
+  returned-keeps : (m : Machine) (s : Search) → P m → Leaves P (returned m s)
+  returned-keeps m missing p = p
+  returned-keeps m (found r under) p = k .records m under p
 
-  -- ---- NEXT
+  -- ---- FOR and NEXT
+
+  begun-keeps : (name : Telling) (after : Position) (start limit step : ℕ) (m : Machine) → P m → Leaves P (begun name after start limit step m)
+  begun-keeps name after start limit step m p =
+      number-keeps m name start (λ n. pushed (cleared name n) (loop name limit step after) (λ o. goesOn o after)) p (λ n q.
+      pushed-keeps (cleared name n) (loop name limit step after) (λ o. goesOn o after) (k .records n _ q) (λ o r. r))
 
   turned-keeps : (m : Machine) (v : Telling) (limit step : ℕ) (back : Position) (under : List Record) (after : Position) (a : Answer) → P m
       → Leaves P (turned m v limit step back under after a)
@@ -207,8 +206,9 @@ module _ (P : Machine → Type 0) (k : Keeps P) where
 
   next-keeps : (m : Machine) (s : Search) (after : Position) → P m → Leaves P (nextOn m s after)
   next-keeps m missing after p = p
-  next-keeps m (found limit step back v under) after p =
+  next-keeps m (found (loop v limit step back) under) after p =
       turned-keeps m v limit step back under after (applied Add (wordOf (m .variables .numbers) v) step) p
+  next-keeps m (found (call q) under) after p = p
 
   -- ---- LINE INPUT
 
@@ -251,17 +251,16 @@ module _ (P : Machine → Type 0) (k : Keeps P) where
   statement-keeps program at (tree.goto l) m after p = line-keeps m (fromNumber (l .0) (linesOf program)) _ p (λ ls. p)
   statement-keeps program at (tree.gosub l) m after p =
       line-keeps m (fromNumber (l .0) (linesOf program)) _ p (λ ls. pushed-keeps m (call after) (λ n. enters n ls) p (λ n q. q))
-  statement-keeps program at tree.return m after p = returned-keeps (m .records) m p
+  statement-keeps program at tree.return m after p = returned-keeps m (sought isCall (m .records)) p
   statement-keeps program at (tree.for v from to by) m after p =
       by-test (isWholeKind (v .kind))
       (λ e. rw e
       (whole-keeps from m _ p (λ a n q. whole-keeps to n _ q (λ b o r. whole-keeps by o _ r (λ s x y.
-      number-keeps x (v .telling) a (begun (v .telling) b s after) y (λ z u.
-      pushed-keeps (cleared (v .telling) z) (loop (v .telling) b s after) (λ o. goesOn o after) (k .records z _ u) (λ _ t. t)))))))
+      begun-keeps (v .telling) after a b s x y)))))
       (λ e. rw e p)
-  statement-keeps program at tree.next m after p = next-keeps m (sought (λ u. true) (m .records)) after p
+  statement-keeps program at tree.next m after p = next-keeps m (sought isLoop (m .records)) after p
   statement-keeps program at (tree.nextOf v) m after p =
-      by-test (isWholeKind (v .kind)) (λ e. rw e (next-keeps m (sought (λ u. alike u (v .telling)) (m .records)) after p)) (λ e. rw e p)
+      by-test (isWholeKind (v .kind)) (λ e. rw e (next-keeps m (sought (isLoopOf (v .telling)) (m .records)) after p)) (λ e. rw e p)
   statement-keeps program at (tree.lineInput t v) m after p = written-keeps m t _ p (λ n q. input-keeps (n .input) n v _ refl q (λ o r. r))
   statement-keeps program at tree.end m after p = p
   statement-keeps program at tree.stop m after p = p

@@ -19,6 +19,18 @@ write-comma κs a p z z′ ws ws′ e e′ = (same (e .0) (e′ .0), pair refl (
 pub record-blank : Unique machine.records.Record.blank.Kinds.ps machine.records.Record.blank.Kinds.r machine.records.Record.blank.Reads.Pre machine.records.Record.blank.Reads.Post
 record-blank κs a p z z′ ws ws′ e e′ = (same e e′, refl)
 
+pub record-calls : Unique machine.records.Record.calls.Kinds.ps machine.records.Record.calls.Kinds.r machine.records.Record.calls.Reads.Pre machine.records.Record.calls.Reads.Post
+record-calls κs a p z z′ ws ws′ e e′ = (same e e′, refl)
+
+pub record-counts : Unique machine.records.Record.counts.Kinds.ps machine.records.Record.counts.Kinds.r machine.records.Record.counts.Reads.Pre machine.records.Record.counts.Reads.Post
+record-counts κs a p z z′ ws ws′ e e′ = (same e e′, refl)
+
+pub record-back : Unique machine.records.Record.back.Kinds.ps machine.records.Record.back.Kinds.r machine.records.Record.back.Reads.Pre machine.records.Record.back.Reads.Post
+record-back κs a p z z′ ws ws′ e e′ = (same e e′, refl)
+
+pub sought-loop-of : Unique machine.records.Sought.loop_of.Kinds.ps machine.records.Sought.loop_of.Kinds.r machine.records.Sought.loop_of.Reads.Pre machine.records.Sought.loop_of.Reads.Post
+sought-loop-of κs a p z z′ ws ws′ e e′ = (same e e′, refl)
+
 pub stack-empty : Unique machine.records.Stack.empty.Kinds.ps machine.records.Stack.empty.Kinds.r machine.records.Stack.empty.Reads.Pre machine.records.Stack.empty.Reads.Post
 stack-empty κs a p z z′ ws ws′ e e′ = (λ i. record { records = same e e′ i }, refl)
 

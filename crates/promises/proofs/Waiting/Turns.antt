@@ -9,7 +9,6 @@ use Rattle.whole.specs.Whole.{applied}
 use Rattle.whole.specs.declared.arithmetic.Answer.{Answer}
 use Rattle.whole.specs.declared.arithmetic.Answer.the-variants.{Whole, Fault}
 use Rattle.whole.specs.declared.arithmetic.Operator.the-variants.{Add}
-use Rattle.words.specs.Names.{alike}
 use Rattle.words.specs.declared.names.Kind.{Kind}
 use Rattle.words.specs.declared.names.Kind.the-variants as kind
 use Rattle.words.specs.declared.names.Telling.{Telling}
@@ -21,10 +20,11 @@ use Rattle.statements.specs.Parts.{itemFormulas, formulasOf, Rest, nothing, par
 use Rattle.variables.specs.Strings.{Value, whole, text, Room, Outcome, value, fault, make}
 use Rattle.variables.specs.Variables.{wordOf, numbersFull, stringsFull}
 use Rattle.operators.specs.Values.{valueOf}
-use Rattle.machine.specs.Machine.{Position, Record, loop, call, Machine, mostRecords, roomOf, withRecords, withInput, noting, write, commaBlanks, Search, missing, found, sought, below, passed}
-use Rattle.turns.specs.Steps.{Next, goesOn, enters, ends, stops, fails, worked, wholeOnly, workedWhole, withNumber, assigned, written, shownValue, printItems, toLine, pushed, returned, turned, nextOn, takeLine, filled, inputLine, isWholeKind, doStatement}
-use Rattle.control.specs.bridge.Answers.{loopsFrom}
+use Rattle.machine.specs.Machine.{Position, Record, loop, call, Machine, mostRecords, roomOf, withInput, noting, write, commaBlanks, Search, missing, found, sought, passed, isCall, isLoop, isLoopOf, backOf}
+use Rattle.turns.specs.Steps.{Next, goesOn, enters, ends, stops, fails, worked, wholeOnly, workedWhole, withNumber, assigned, written, shownValue, printItems, toLine, pushed, returned, turned, nextOn, takeLine, filled, inputLine, isWholeKind, doStatement, cleared, begun}
 use Rattle.promises.specs.Unfinished.{mostUnfinished}
+use Rattle.promises.proofs.Records as records
+use Rattle.promises.proofs.Records.{sought-each, below-each}
 use Rattle.promises.proofs.Waiting.Rooms.{Good, make-good}
 use Rattle.promises.proofs.Waiting.Needs.{value-good}
 use Rattle.promises.proofs.Waiting.Nesting.{Fine, needs-few}
@@ -37,16 +37,11 @@ RestFine nothing = Unit {0}
 RestFine (part p) = PartFine p
 
 abbrev RecordFine : Record → Type 0
-RecordFine (loop v limit step back) = RestFine (back .rest)
-RecordFine (call back) = RestFine (back .rest)
-
-abbrev RecordsFine : List Record → Type 0
-RecordsFine [] = Unit {0}
-RecordsFine (r ∷ rs) = RecordFine r × RecordsFine rs
+RecordFine r = RestFine (backOf r .rest)
 
 pub record Sound (m : Machine) : Type 0 where
   pub few : m .highest ≤ mostUnfinished
-  pub held : RecordsFine (m .records)
+  pub held : records.Each RecordFine (m .records)
 
 abbrev pub NextFine : Next → Type 0
 NextFine (goesOn m p) = Sound m × RestFine (p .rest)
@@ -128,28 +123,15 @@ pushed-sound : {m : Machine} (r : Record) (go : Machine → Next) → Sound m �
 pushed-sound {m} r go s h k =
     either-fine (leb mostRecords (length (m .records))) _ _ s (k _ (record { few = s .few; held = (h, s .held) }))
 
-returned-sound : (rs : List Record) {m : Machine} → RecordsFine rs → Sound m → NextFine (returned rs m)
-unfolding returned
-returned-sound [] h s = s
-returned-sound (loop v limit step back ∷ rs) h s = returned-sound rs (h .1) s
-returned-sound (call back ∷ rs) h s = (record { few = s .few; held = h .1 }, h .0)
-
 abbrev SearchFine : Search → Type 0
-SearchFine missing = Unit {0}
-SearchFine (found limit step back v under) = RestFine (back .rest) × RecordsFine under
+SearchFine s = records.Found RecordFine s
 
-sought-fine : (test : Telling → Bool) (rs : List Record) → RecordsFine rs → SearchFine (sought test rs)
-unfolding sought
-sought-fine test [] h = tt
-sought-fine test (call back ∷ rs) h = tt
-sought-fine test (loop v limit step back ∷ rs) h = by-test (test v) (λ e. rw e h) (λ e. rw e (sought-fine test rs (h .1)))
-
-below-fine : (rs : List Record) (x : Search) → RecordsFine rs → SearchFine x → RecordsFine (below rs x)
-below-fine rs missing h k = h
-below-fine rs (found limit step back v under) h k = k .1
+returned-sound : {m : Machine} (x : Search) → Sound m → SearchFine x → NextFine (returned m x)
+returned-sound missing s h = s
+returned-sound (found r under) s h = (record { few = s .few; held = h .1 }, h .0)
 
 turned-sound : {m : Machine} (v : Telling) (limit step : ℕ) (back : Position) (under : List Record) (after : Position) (x : Answer)
-    → Sound m → RestFine (back .rest) → RecordsFine under → RestFine (after .rest)
+    → Sound m → RestFine (back .rest) → records.Each RecordFine under → RestFine (after .rest)
     → NextFine (turned m v limit step back under after x)
 turned-sound {m} v limit step back under after (Whole w) s b u a =
     either-fine (numbersFull (m .variables .numbers) v) _ _ s
@@ -158,16 +140,15 @@ turned-sound v limit step back under after (Fault e) s b u a = s
 
 next-sound : {m : Machine} (x : Search) (after : Position) → Sound m → SearchFine x → RestFine (after .rest) → NextFine (nextOn m x after)
 next-sound missing after s h a = s
-next-sound {m} (found limit step back v under) after s h a =
+next-sound {m} (found (loop v limit step back) under) after s h a =
     turned-sound v limit step back under after (applied Add (wordOf (m .variables .numbers) v) step) s (h .0) (h .1) a
+next-sound (found (call back) under) after s h a = s
 
 loop-sound : (m : Machine) (v : Telling) (from limit step : ℕ) (after : Position) → Sound m → RestFine (after .rest)
-    → NextFine (loopsFrom v after from limit step m)
+    → NextFine (begun v after from limit step m)
 loop-sound m v from limit step after s a =
     let q = withNumber m v from in
-    let x = sought (λ u. alike u v) (q .records) in
-    let clear : Sound (withRecords q (below (q .records) x)) =
-    record { few = s .few; held = below-fine (q .records) x (s .held) (sought-fine (λ u. alike u v) (m .records) (s .held)) } in
+    let clear : Sound (cleared v q) = record { few = s .few; held = below-each RecordFine (isLoopOf v) (m .records) (s .held) } in
     either-fine (numbersFull (m .variables .numbers) v) _ _ s
     (pushed-sound (loop v limit step after) (λ r. goesOn r after) clear a (λ r t. (t, a)))
 
@@ -207,7 +188,7 @@ statement-sound program at (tree.ifElse c q r) m after g p s a =
 statement-sound program at (tree.goto l) m after g p s a = line-sound (fromNumber (l .0) (linesOf program)) _ s (λ ls. s)
 statement-sound program at (tree.gosub l) m after g p s a =
     line-sound (fromNumber (l .0) (linesOf program)) _ s (λ ls. pushed-sound (call after) (λ n. enters n ls) s a (λ n t. t))
-statement-sound program at tree.return m after g p s a = returned-sound (m .records) (s .held) s
+statement-sound program at tree.return m after g p s a = returned-sound (sought isCall (m .records)) s (sought-each RecordFine isCall (m .records) (s .held))
 statement-sound program at (tree.for v from to by) m after g p s a =
     either-fine (isWholeKind (v .kind)) _ _
     (whole-sound m _ (g .0) s (λ x n t.
@@ -215,11 +196,11 @@ statement-sound program at (tree.for v from to by) m after g p s a =
     whole-sound o _ (g .1 .1 .0) u (λ z q w. loop-sound q (v .telling) x y z after w a))))
     s
 statement-sound program at tree.next m after g p s a =
-    next-sound (sought (λ u. true) (m .records)) after s (sought-fine (λ u. true) (m .records) (s .held)) a
+    next-sound (sought isLoop (m .records)) after s (sought-each RecordFine isLoop (m .records) (s .held)) a
 statement-sound program at (tree.nextOf v) m after g p s a =
     either-fine (isWholeKind (v .kind)) _ _
-    (next-sound (sought (λ u. alike u (v .telling)) (m .records)) after s
-    (sought-fine (λ u. alike u (v .telling)) (m .records) (s .held)) a)
+    (next-sound (sought (isLoopOf (v .telling)) (m .records)) after s
+    (sought-each RecordFine (isLoopOf (v .telling)) (m .records) (s .held)) a)
     s
 statement-sound program at (tree.lineInput t v) m after g p s a =
     written-sound m t _ s (λ n i. input-sound (n .input) n v after i a)

@@ -19,7 +19,7 @@ use Rattle.machine.specs.declared.state.Machine.{Machine}
 use Rattle.machine.specs.declared.positions.Turned.{Turned}
 use Rattle.machine.specs.declared.records.Record.{Record}
 use Rattle.machine.specs.declared.records.Found.{Found}
-use Rattle.machine.specs.declared.records.Sought.the-variants as sought
+use Rattle.machine.specs.bridge.Wanted as sought
 use Rattle.turns.specs.Steps.{doStatement}
 use Rattle.turns.specs.bridge.Turns.{afterOf, Turns, Told}
 

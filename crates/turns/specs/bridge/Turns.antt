@@ -22,7 +22,9 @@ use Rattle.variables.specs.declared.assigning.NumberStored.{NumberStored}
 use Rattle.variables.specs.declared.assigning.StringStored.{StringStored}
 use Rattle.variables.specs.declared.values.Worked.{Worked}
 use Rattle.machine.specs.Machine as spec
-use Rattle.machine.specs.bridge.Holding.{linesAt, bodyOf, Begins, Positioned, positionOf, blankRecord, foundIn, entryAt, variablesOf, Sound, Same}
+use Rattle.machine.specs.Machine.{mostRecords}
+use Rattle.machine.specs.bridge.Holding.{linesAt, bodyOf, Begins, Positioned, positionOf, blankRecord, variablesOf, Sound, Same}
+use Rattle.machine.specs.bridge.Wanted.{foundIn, entryAt}
 use Rattle.machine.specs.declared.state.Machine.{Machine}
 use Rattle.machine.specs.declared.state.Printer.{Printer}
 use Rattle.machine.specs.declared.positions.Position.{Position}
@@ -39,7 +41,7 @@ use Rattle.turns.specs.Steps.{goesOn, enters, ends, stops, fails}
 
 -- a statement that writes no record
 abbrev pub turnedTo : Machine → Next → Turned
-turnedTo m n = record { machine = m; next = n; slot = 32; held = blankRecord }
+turnedTo m n = record { machine = m; next = n; slot = mostRecords; held = blankRecord }
 
 -- where the run goes on after a statement of a line that this token follows
 abbrev pub afterOf : Place → Scanned → Position
@@ -92,7 +94,7 @@ pub record Leaves (m : Machine) (input space room : List ℕ) (r : Turned) (spac
 -- it does what the definition does, whatever records there are that meet what it was told of them
 pub record Turns (text : List ℕ) (m : Machine) (input space room : List ℕ) (told : List Record → Type 0) (does : spec.Machine → step.Next) (r : Turned) (space′ room′ : List ℕ) : Type 0 where
   pub leaves : Leaves m input space room r space′ room′
-  pub comes : (rs : List Record) → length rs ≡ 32 → told rs → (n : spec.Machine) → Same text rs m input space room n
+  pub comes : (rs : List Record) → length rs ≡ mostRecords → told rs → (n : spec.Machine) → Same text rs m input space room n
       → Comes text (r .next) (does n) (Same text (set rs (r .slot) (r .held)) (r .machine) input space′ room′)
 
 -- nothing is told of the records

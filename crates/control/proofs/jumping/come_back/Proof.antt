@@ -10,7 +10,7 @@ returns c text input space room at after s = rw (c .fails .ensures, c .before .e
 returns-2 : tie.Need-returns-2
 returns-2 c text input space room at after s =
     let f = c .before .before .before .found .given in
-    rw (c .turned-to .ensures, f .1) (back-found at after s (f .0 .0) (rw (f .1) at (c .before .before .before .before .before .pre)))
+    rw (c .turned-to .ensures, c .before .back .ensures, f .1) (back-found at after s (f .0 .0) (rw (f .1) at (c .before .before .before .before .before .pre)))
 
 pub come-back-spec : {M : Type 1} → statement M
 come-back-spec =
@@ -19,6 +19,7 @@ come-back-spec =
     (λ c. search needs)
     (λ c κs. search needs)
     (λ c. search needs)
+    (λ c κs. search needs)
     (λ c κs. search needs)
     returns
     returns-2)

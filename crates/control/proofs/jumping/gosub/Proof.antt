@@ -18,10 +18,9 @@ returns c input space room at s p =
 
 returns-2 : tie.Need-returns-2
 returns-2 c input space room at s p =
-    let k = c .before .before .before in
-    let f = k .before .before .before .before .find-line in
-    rw (c .push .ensures, k .blank .ensures, c .before .before .after .ensures)
-    (gosub-found _ s at _ p (sym (f .ensures) ∙ k .before .before .span .given .1))
+    let k = c .before .before .before .before .before in
+    rw (c .push .ensures, c .before .before .calls .ensures, c .before .before .before .after .ensures)
+    (gosub-found _ s at _ p (sym (k .before .before .find-line .ensures) ∙ k .span .given .1))
 
 pub gosub-spec : {M : Type 1} → statement M
 gosub-spec =

@@ -1,7 +1,7 @@
 use Rattle.statements.specs.Statements.{variableOf}
 use Rattle.control.proofs.Led.{next-text, next-whole}
 use Rattle.machine.proofs.Tokens.{no-name}
-use Rattle.machine.specs.declared.records.Sought.the-variants.{Loop, LoopOf}
+use Rattle.machine.specs.bridge.Wanted.{Loop, LoopOf}
 use mathlib.Core.Path.{refl}
 use borrow.Author.Needs.{needs}
 use Rattle.control.proofs.leading.next_loop.Statement.{statement}

@@ -17,11 +17,11 @@ returns c =
 
 returns-2 : tie.Need-returns-2
 returns-2 c =
-    let a = c .before .before .before .before .before .before .before .args in
-    let s = c .before .before .before .before .before .before .with-number in
-    rw (c .push .ensures, c .before .dropped-to .ensures, c .before .before .after .ensures)
-    (loop-made (a .machine) (a .name) (a .from) (a .limit) (a .step) (afterOf (a .here) (a .ahead)) (a .found) (s .ensures)
-    (not-false (s .result .ok) (c .before .before .before .if1 .left)))
+    let s = c .before .before .before .before .before .before .before in
+    let a = s .before .args in
+    rw (c .push .ensures, c .before .dropped-to .ensures, c .before .before .counts .ensures, c .before .before .before .after .ensures)
+    (loop-made (a .machine) (a .name) (a .from) (a .limit) (a .step) (afterOf (a .here) (a .ahead)) (a .found) (s .with-number .ensures)
+    (not-false (s .with-number .result .ok) (c .before .before .before .before .if1 .left)))
 
 pub begin-loop-spec : {M : Type 1} → statement M
 begin-loop-spec =
@@ -30,6 +30,7 @@ begin-loop-spec =
     (λ c κs. search needs)
     (λ c κs. search needs)
     returns
+    (λ c κs. search needs)
     (λ c κs. search needs)
     (λ c κs. search needs)
     (λ c κs. search needs)

@@ -3,7 +3,7 @@ use borrow.Author.Needs.{needs}
 use Rattle.statements.specs.Statements.{variableOf}
 use Rattle.machine.specs.bridge.Holding.{positionOf}
 use Rattle.turns.specs.bridge.Turns.{afterOf}
-use Rattle.control.specs.bridge.Answers.{limitsFrom}
+use Rattle.turns.specs.Steps.{fromLimit}
 use Rattle.turns.proofs.Keeping.{settled-kept, sound-kept}
 use Rattle.turns.proofs.Wholes.{turns-fault, turns-whole, turns-text}
 use Rattle.control.proofs.Fors.{for-read, for-parts, start-formed, limit-read, for-text, for-whole}
@@ -31,7 +31,7 @@ returns-2 c text input room at from to by u sound p e entry =
     let f = for-read (a .line .now) v (a .equals) e in
     rw (c .fails2 .ensures)
     (for-whole at v from to by _ (c .before .before .before .before .before .before .before .before .before .before .before .enum-told .given .1)
-    (turns-fault (λ w n. limitsFrom (v .telling) (positionOf text (afterOf (a .here) u)) to by w n) sound
+    (turns-fault (λ w n. fromLimit (v .telling) (positionOf text (afterOf (a .here) u)) to by w n) sound
     (rw (c .before .before .error .given .1) at (c .before .before .before .before .before .before .value .ensures from (f .upto) (rw (c .before .before .before .before .before .before .before .before .token-at .ensures) (f .from))))))
 
 returns-3 : tie.Need-returns-3
@@ -41,7 +41,7 @@ returns-3 c text input room at from to by u sound p e entry =
     let f = for-read (a .line .now) v (a .equals) e in
     rw (c .fails3 .ensures)
     (for-whole at v from to by _ (c .before .before .before .before .before .before .before .before .before .before .enum-told .given .1)
-    (turns-text (λ w n. limitsFrom (v .telling) (positionOf text (afterOf (a .here) u)) to by w n) sound
+    (turns-text (λ w n. fromLimit (v .telling) (positionOf text (afterOf (a .here) u)) to by w n) sound
     (rw (c .before .enum-told3 .given .1) at (c .before .before .before .before .before .value .ensures from (f .upto) (rw (c .before .before .before .before .before .before .before .token-at .ensures) (f .from))))))
 
 returns-4 : tie.Need-returns-4
@@ -51,7 +51,7 @@ returns-4 c text input room at from to by u sound p e entry =
     let f = for-read (a .line .now) v (a .equals) e in
     let x = rw (c .before .before .before .before .before .before .before .from .given .1) at (c .before .before .before .before .before .before .before .before .before .before .before .value .ensures from (f .upto) (rw (c .before .before .before .before .before .before .before .before .before .before .before .before .before .token-at .ensures) (f .from))) in
     for-whole at v from to by _ (c .before .before .before .before .before .before .before .before .before .before .before .before .before .before .before .before .enum-told .given .1)
-    (turns-whole (λ w n. limitsFrom (v .telling) (positionOf text (afterOf (a .here) u)) to by w n) sound x
+    (turns-whole (λ w n. fromLimit (v .telling) (positionOf text (afterOf (a .here) u)) to by w n) sound x
     (rw (c .before .before .before .before .before .before .before .before .before .before .before .before .before .before .before .telling-of .ensures) at
     (c .before .before .with-limit .ensures text input room to by (f .steps) u (sound-kept (x .framed .long) sound) p
     (rw (c .before .before .before .before .token-at2 .ensures, x .goes) (f .limit)) (f .by) entry)))

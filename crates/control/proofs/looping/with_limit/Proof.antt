@@ -2,7 +2,7 @@
 use borrow.Author.Needs.{needs}
 use Rattle.machine.specs.bridge.Holding.{positionOf}
 use Rattle.turns.specs.bridge.Turns.{afterOf}
-use Rattle.control.specs.bridge.Answers.{stepsFrom}
+use Rattle.turns.specs.Steps.{fromStep}
 use Rattle.turns.proofs.Keeping.{settled-kept, sound-kept}
 use Rattle.turns.proofs.Wholes.{turns-fault, turns-whole, turns-text}
 use Rattle.control.proofs.looping.with_limit.Statement.{statement}
@@ -18,21 +18,21 @@ returns : tie.Need-returns
 returns c text input room to by t u sound p e s entry =
     let a = c .before .before .before .before .before .before .before .before .before .before .args in
     rw (c .fails .ensures)
-    (turns-fault (λ w n. stepsFrom (a .name) (positionOf text (afterOf (a .here) u)) (a .from) by w n) sound
+    (turns-fault (λ w n. fromStep (a .name) (positionOf text (afterOf (a .here) u)) by (a .from) w n) sound
     (rw (c .before .before .error .given .1) at (c .before .before .before .before .before .before .value .ensures to t e)))
 
 returns-2 : tie.Need-returns-2
 returns-2 c text input room to by t u sound p e s entry =
     let a = c .before .before .before .before .before .before .before .before .before .args in
     rw (c .fails2 .ensures)
-    (turns-text (λ w n. stepsFrom (a .name) (positionOf text (afterOf (a .here) u)) (a .from) by w n) sound
+    (turns-text (λ w n. fromStep (a .name) (positionOf text (afterOf (a .here) u)) by (a .from) w n) sound
     (rw (c .before .enum-told .given .1) at (c .before .before .before .before .before .value .ensures to t e)))
 
 returns-3 : tie.Need-returns-3
 returns-3 c text input room to by t u sound p e s entry =
     let a = c .before .before .before .before .before .before .before .before .before .before .before .before .before .args in
     let v = rw (c .before .before .before .before .before .limit .given .1) at (c .before .before .before .before .before .before .before .before .before .value .ensures to t e) in
-    turns-whole (λ w n. stepsFrom (a .name) (positionOf text (afterOf (a .here) u)) (a .from) by w n) sound v
+    turns-whole (λ w n. fromStep (a .name) (positionOf text (afterOf (a .here) u)) by (a .from) w n) sound v
     (c .before .before .with-step .ensures text input room by u (sound-kept (v .framed .long) sound) p (rw (v .goes) s) entry)
 
 pub with-limit-spec : {M : Type 1} → statement M

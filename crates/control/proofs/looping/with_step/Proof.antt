@@ -7,7 +7,8 @@ use Rattle.grammar.specs.Formulas.{good, formulaOf}
 use Rattle.words.specs.declared.symbols.Scanned.{Scanned}
 use Rattle.machine.specs.bridge.Holding.{positionOf}
 use Rattle.turns.specs.bridge.Turns.{afterOf}
-use Rattle.control.specs.bridge.Answers.{loopsFrom, stepOf}
+use Rattle.turns.specs.Steps.{begun}
+use Rattle.control.specs.bridge.Answers.{stepOf}
 use Rattle.turns.proofs.Wholes.{turns-fault, turns-text}
 use Rattle.control.proofs.Fors.{step-stands, step-left-out, step-formed, turns-by-one, turns-stepped}
 use Rattle.control.proofs.looping.with_step.Statement.{statement}
@@ -37,13 +38,13 @@ returns-2 : tie.Need-returns-2
 returns-2 c text input room by u sound p e entry =
     let a = c .before .before .before .before .before .before .before .before .before .before .before .before .before .before .args in
     rw (c .fails .ensures)
-    (turns-fault (loopsFrom (a .name) (positionOf text (afterOf (a .here) u)) (a .from) (a .limit)) sound (rw (c .before .before .error .given .1) at (c .before .before .before .before .before .before .value .ensures by u (read (c .before .before .before .before .before .before .before .before) e))))
+    (turns-fault (begun (a .name) (positionOf text (afterOf (a .here) u)) (a .from) (a .limit)) sound (rw (c .before .before .error .given .1) at (c .before .before .before .before .before .before .value .ensures by u (read (c .before .before .before .before .before .before .before .before) e))))
 
 returns-3 : tie.Need-returns-3
 returns-3 c text input room by u sound p e entry =
     let a = c .before .before .before .before .before .before .before .before .before .before .before .before .before .args in
     rw (c .fails2 .ensures)
-    (turns-text (loopsFrom (a .name) (positionOf text (afterOf (a .here) u)) (a .from) (a .limit)) sound (rw (c .before .enum-told .given .1) at (c .before .before .before .before .before .value .ensures by u (read (c .before .before .before .before .before .before .before) e))))
+    (turns-text (begun (a .name) (positionOf text (afterOf (a .here) u)) (a .from) (a .limit)) sound (rw (c .before .enum-told .given .1) at (c .before .before .before .before .before .value .ensures by u (read (c .before .before .before .before .before .before .before) e))))
 
 returns-4 : tie.Need-returns-4
 returns-4 c text input room by u sound p e entry =
