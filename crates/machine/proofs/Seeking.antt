@@ -60,7 +60,7 @@ use Rattle.machine.specs.declared.records.Sought.{Sought}
 use Rattle.machine.specs.declared.records.Sought.the-variants as sought
 use Rattle.statements.specs.Parts.{headOf}
 use Rattle.machine.specs.bridge.Seeking.{soughtBy, Seeks, soughtLoop}
-use Rattle.machine.proofs.Beginning.{if-so, by-assign, by-items, by-condition, by-for, by-input, begun-token}
+use Rattle.statements.proofs.Ways.{if-so, by-assign, by-items, by-condition, by-for, by-input, begun-token}
 use Rattle.machine.proofs.Tokens.{tokenTag, wordTag, by-named}
 
 -- ---- the statement that begins a part
