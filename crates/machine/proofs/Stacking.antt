@@ -1,16 +1,19 @@
 -- The records that the stack holds, as the definition has them: the topmost first.
 use mathlib.Core.Path.{_≡_, refl, sym, ap, ap₂, _∙_}
 use mathlib.Core.Logic.{⊎-elim}
-use mathlib.Core.Bool.{true, false}
+use mathlib.Core.Bool.{Bool, true, false, not}
 use mathlib.Core.List.{List, [], _∷_, map}
 use Prim.Native.Nat.{ℕ, zero, suc, _≤_, _<_}
 use native.Mathlib.Nat.{not-suc-le-zero, le-of-suc-le-suc, le-refl}
 use native.Mathlib.Omega.{arith}
+use lib.Dec.{eqb}
 use lib.ListN.{length, getD, set, length-map}
 use lib.Seq.{set-out, getD-set-same, getD-set-other}
 use Rattle.whole.proofs.Numbers.{less}
+use Rattle.words.specs.declared.names.Telling.{Telling}
 use Rattle.machine.specs.Machine.{loop, call}
-use Rattle.machine.specs.bridge.Holding.{positionOf, blankRecord, recordOf, recordsIn}
+use Rattle.machine.specs.bridge.Holding.{positionOf, blankRecord, counts, backOf, overNumber, callRecord, loopRecord, recordOf, recordsIn}
+use Rattle.machine.specs.declared.positions.Position.{Position}
 use Rattle.machine.specs.declared.records.Record.{Record}
 
 -- ---- the array that holds them
@@ -29,6 +32,34 @@ getD-any (x ∷ rs) (suc i) d e h = getD-any rs i d e (le-of-suc-le-suc h)
 pub records-past : (rs : List Record) (slot : ℕ) (e : Record) → length rs ≤ slot → set rs slot e ≡ rs
 records-past rs slot e h = set-out rs slot e h
 
+-- ---- a record as the definition has it
+
+module _ (text : List ℕ) (e : Record) where
+  pub is-loop : counts e ≡ true → recordOf text e ≡ loop (e .name) (e .limit) (e .step) (positionOf text (backOf e))
+  is-loop f = rw f
+
+  pub is-call : counts e ≡ false → recordOf text e ≡ call (positionOf text (backOf e))
+  is-call f = rw f
+
+-- a place to come back to is the one that was put there
+over-held : (b : Bool) → not (eqb (overNumber b) 0) ≡ b
+over-held true = refl
+over-held false = refl
+
+pub call-back : (q : Position) → backOf (callRecord q) ≡ q
+call-back q = rw (over-held (q .over))
+
+pub loop-back : (name : Telling) (limit step : ℕ) (q : Position) → backOf (loopRecord name limit step q) ≡ q
+loop-back name limit step q = rw (over-held (q .over))
+
+-- and so is the record
+pub call-held : (text : List ℕ) (q : Position) → recordOf text (callRecord q) ≡ call (positionOf text q)
+call-held text q = ap (λ x. call (positionOf text x)) (call-back q)
+
+pub loop-held : (text : List ℕ) (name : Telling) (limit step : ℕ) (q : Position)
+    → recordOf text (loopRecord name limit step q) ≡ loop name limit step (positionOf text q)
+loop-held text name limit step q = ap (λ x. loop name limit step (positionOf text x)) (loop-back name limit step q)
+
 -- ---- those of them that count
 
 module _ (text : List ℕ) (rs : List Record) where
@@ -46,20 +77,6 @@ module _ (text : List ℕ) (rs : List Record) where
   pub records-top : (d : ℕ) → recordsIn text rs (suc d) ≡ recordOf text (getD rs d blankRecord) ∷ recordsIn text rs d
   unfolding recordsIn
   records-top d = refl
-
-  -- a loop's, and a GOSUB's
-  pub loop-top : (d : ℕ) → getD rs d blankRecord .loops ≡ true
-      → recordsIn text rs (suc d)
-      ≡ loop (getD rs d blankRecord .name) (getD rs d blankRecord .limit) (getD rs d blankRecord .step)
-      (positionOf text (getD rs d blankRecord .back))
-      ∷ recordsIn text rs d
-  unfolding recordsIn
-  loop-top d e = rw e
-
-  pub call-top : (d : ℕ) → getD rs d blankRecord .loops ≡ false
-      → recordsIn text rs (suc d) ≡ call (positionOf text (getD rs d blankRecord .back)) ∷ recordsIn text rs d
-  unfolding recordsIn
-  call-top d e = rw e
 
   -- one written above them changes none
   pub records-above : (d slot : ℕ) (e : Record) → d ≤ slot → recordsIn text (set rs slot e) d ≡ recordsIn text rs d

@@ -1,5 +1,5 @@
 -- The machine: what a run has, and where it stands.
-use mathlib.Core.Bool.{Bool, false, cond}
+use mathlib.Core.Bool.{Bool, true, false, cond}
 use mathlib.Core.List.{List, [], _∷_, _++_}
 use Prim.Native.Nat.{ℕ, suc, _+_, _-_, _%_}
 use lib.Dec.{ltb, eqb}
@@ -7,6 +7,7 @@ use lib.IntN.{pos}
 use lib.Signed.{ltZ}
 use lib.ListN.{length, replicate}
 use Rattle.whole.specs.Whole.{num}
+use Rattle.words.specs.Names.{alike}
 use Rattle.words.specs.declared.names.Telling.{Telling}
 use Rattle.loader.specs.Lines.{Line}
 use Rattle.statements.specs.Parts.{Rest}
@@ -62,6 +63,7 @@ fresh input lent = record {
   highest = 0;
 }
 
+-- the most records that there may be
 abbrev pub mostRecords : ℕ
 mostRecords = 32
 
@@ -111,22 +113,42 @@ write m bytes =
 abbrev pub commaBlanks : Machine → List ℕ
 commaBlanks m = replicate (14 - m .column % 14) 32
 
--- ---- loops
+-- ---- records
 
--- an older loop of the variable above the nearest GOSUB is dropped with all above it
+-- a GOSUB's, a loop's, and that of a variable's loop
+abbrev pub isCall : Record → Bool
+isCall (loop v limit step p) = false
+isCall (call p) = true
+
+abbrev pub isLoop : Record → Bool
+isLoop (loop v limit step p) = true
+isLoop (call p) = false
+
+abbrev pub isLoopOf : Telling → Record → Bool
+isLoopOf name (loop v limit step p) = alike v name
+isLoopOf name (call p) = false
+
+-- where the run goes on after it
+abbrev pub backOf : Record → Position
+backOf (loop v limit step p) = p
+backOf (call p) = p
+
+-- the record that was looked for, and those under it
 pub data Search : Type 0 where
   missing : Search
-  found : ℕ → ℕ → Position → Telling → List Record → Search
+  found : Record → List Record → Search
 
--- the topmost loop that passes the test, above the nearest GOSUB, and the records below it
-unfoldable pub sought : (Telling → Bool) → List Record → Search
+-- the topmost record that passes the test; none below the nearest GOSUB's is looked at
+unfoldable pub sought : (Record → Bool) → List Record → Search
 sought test [] = missing
-sought test (call p ∷ rs) = missing
-sought test (loop v limit step p ∷ rs) = cond (test v) (found limit step p v rs) (sought test rs)
+sought test (r ∷ rs) = cond (test r) (found r rs) (cond (isCall r) missing (sought test rs))
 
+-- what is left where it is dropped with all above it
 abbrev pub below : List Record → Search → List Record
 below rs missing = rs
-below rs (found limit step p v under) = under
+below rs (found r under) = under
+
+-- ---- loops
 
 -- the limit is passed in the step's direction; step 0 never passes
 unfoldable pub passed : ℕ → ℕ → ℕ → Bool

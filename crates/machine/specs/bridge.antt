@@ -1,3 +1,4 @@
 pub mod Holding
 pub mod Taking
+pub mod Wanted
 pub mod Seeking

@@ -2,24 +2,34 @@
 ghost use mathlib.Core.Path.{_≡_};
 ghost use Prim.Native.Nat.{_≤_};
 ghost use lib.ListN.{getD, set, replicate};
-ghost use Rattle.machine.specs.bridge.Holding.{blankRecord, seeksNothing, isSought, seeksCall, foundIn};
+ghost use Rattle.machine.specs.Machine.{mostRecords};
+ghost use Rattle.machine.specs.bridge.Holding.{blankRecord, backOf, overNumber, callRecord, loopRecord};
+ghost use Rattle.machine.specs.bridge.Wanted.{LoopOf, isSought, foundIn};
 use crate::positions::Position;
 use crate::state::Machine;
 use words::Place;
 use words::Telling;
 use words::same_name;
 
-// A FOR's: its variable, limit and step; or a GOSUB's. Both have the place to come back to.
+const NO_NAME: Telling = Telling {
+    first: 0,
+    second: 0,
+};
+
+// A FOR's: its variable, limit and step; or a GOSUB's. Both have the place to come back to. Numbers alone: a host may lend any bytes, so
+// every kind but a FOR's is a GOSUB's, and every number but 0 says that the line is over.
 pub struct Record {
-    pub loops: bool,
+    pub kind: u8,
     pub name: Telling,
     pub limit: u16,
     pub step: u16,
-    pub back: Position,
+    pub line: Place,
+    pub at: Place,
+    pub over: u8,
 }
 
 pub struct Stack {
-    pub records: [Record; 32],
+    pub records: [Record; Machine::RECORDS],
 }
 
 pub enum Found {
@@ -27,104 +37,171 @@ pub enum Found {
     None,
 }
 
-// The record that a statement asks for: none, the nearest GOSUB's, the topmost loop's, or that of a variable's loop.
-pub enum Sought {
-    Nothing,
-    Call,
-    Loop,
-    LoopOf(Telling),
+// The record that a statement asks for, by its kind: none, the nearest GOSUB's, the topmost loop's, or that of a variable's loop.
+pub struct Sought {
+    pub kind: u8,
+    pub name: Telling,
+}
+
+impl Sought {
+    const NONE: u8 = 0;
+
+    const NEAREST_CALL: u8 = 1;
+
+    const ANY_LOOP: u8 = 2;
+
+    const NAMED_LOOP: u8 = 3;
+
+    pub const NOTHING: Sought = Sought {
+        kind: Sought::NONE,
+        name: NO_NAME,
+    };
+
+    pub const CALL: Sought = Sought {
+        kind: Sought::NEAREST_CALL,
+        name: NO_NAME,
+    };
+
+    pub const LOOP: Sought = Sought {
+        kind: Sought::ANY_LOOP,
+        name: NO_NAME,
+    };
+
+    pub fn loop_of(name: Telling) -> Sought
+        ensures { λ r. ⌜ r ≡ LoopOf name ⌝ }
+    {
+        Sought {
+            kind: Sought::NAMED_LOOP,
+            name,
+        }
+    }
 }
 
 impl Record {
+    pub const CALL: u8 = 1;
+
+    pub const COUNT: u8 = 2;
+
     pub fn blank() -> Record
         ensures { λ r. ⌜ r ≡ blankRecord ⌝ }
     {
-        let none = Telling {
-            first: 0,
-            second: 0,
-        };
-        let back = Position {
-            line: Place(0),
-            at: Place(0),
-            over: false,
-        };
         Record {
-            loops: false,
-            name: none,
+            kind: 0,
+            name: NO_NAME,
             limit: 0,
             step: 0,
-            back,
+            line: Place(0),
+            at: Place(0),
+            over: 0,
         }
     }
+
+    // A GOSUB's.
+    pub fn calls(back: Position) -> Record
+        ensures { λ r. ⌜ r ≡ callRecord back ⌝ }
+    {
+        let line = back.line;
+        let at = back.at;
+        Record {
+            kind: Record::CALL,
+            name: NO_NAME,
+            limit: 0,
+            step: 0,
+            line,
+            at,
+            over: over_number(back.over),
+        }
+    }
+
+    // A FOR's.
+    pub fn counts(name: Telling, limit: u16, step: u16, back: Position) -> Record
+        ensures { λ r. ⌜ r ≡ loopRecord name limit step back ⌝ }
+    {
+        let line = back.line;
+        let at = back.at;
+        Record {
+            kind: Record::COUNT,
+            name,
+            limit,
+            step,
+            line,
+            at,
+            over: over_number(back.over),
+        }
+    }
+
+    // The place to come back to.
+    pub fn back(self) -> Position
+        ensures { λ r. ⌜ r ≡ backOf self ⌝ }
+    {
+        let line = self.line;
+        let at = self.at;
+        Position {
+            line,
+            at,
+            over: self.over != 0,
+        }
+    }
+}
+
+fn over_number(over: bool) -> u8
+    ensures { λ r. ⌜ r ≡ overNumber over ⌝ }
+{
+    if over {
+        return 1;
+    }
+    0
 }
 
 impl Stack {
     pub fn empty() -> Stack
-        ensures { λ r. ⌜ r .records ≡ replicate 32 blankRecord ⌝ }
+        ensures { λ r. ⌜ r .records ≡ replicate mostRecords blankRecord ⌝ }
     {
         let blank = Record::blank();
         Stack {
-            records: [blank; 32],
+            records: [blank; Machine::RECORDS],
         }
     }
 }
 
-// Whether no record is asked for.
-fn seeks_nothing(sought: Sought) -> bool
-    ensures { λ r. ⌜ r ≡ seeksNothing sought ⌝ }
+// Whether a record is the one that is asked for.
+fn is_sought(sought: Sought, entry: Record) -> bool
+    ensures { λ r. ⌜ r ≡ isSought sought entry ⌝ }
 {
-    match sought {
-        Sought::Nothing => true,
-        Sought::Call => false,
-        Sought::Loop => false,
-        Sought::LoopOf(_) => false,
+    let kind = sought.kind;
+    let counts = entry.kind == Record::COUNT;
+    if kind == Sought::NEAREST_CALL {
+        return !counts;
     }
+    if !counts {
+        return false;
+    }
+    if kind == Sought::ANY_LOOP {
+        return true;
+    }
+    if kind == Sought::NAMED_LOOP {
+        return same_name(entry.name, sought.name);
+    }
+    false
 }
 
-// Whether a loop's record is the one that is asked for.
-fn is_sought(sought: Sought, name: Telling) -> bool
-    ensures { λ r. ⌜ r ≡ isSought sought name ⌝ }
-{
-    match sought {
-        Sought::Nothing => false,
-        Sought::Call => false,
-        Sought::Loop => true,
-        Sought::LoopOf(other) => same_name(name, other),
-    }
-}
-
-// Whether the search ends at a GOSUB's record, and finds it.
-fn seeks_call(sought: Sought) -> bool
-    ensures { λ r. ⌜ r ≡ seeksCall sought ⌝ }
-{
-    match sought {
-        Sought::Nothing => false,
-        Sought::Call => true,
-        Sought::Loop => false,
-        Sought::LoopOf(_) => false,
-    }
-}
-
-// A search down the stack; a loop is only looked for above the nearest GOSUB.
+// A search down the stack: none below the nearest GOSUB's is looked at.
 pub fn find_record(stack: Stack, depth: usize, sought: Sought) -> Found
-    requires { ⌜ depth ≤ 32 ⌝ }
+    requires { ⌜ depth ≤ mostRecords ⌝ }
     ensures { λ r. ⌜ r ≡ foundIn sought (stack .records) depth ⌝ }
 {
-    if seeks_nothing(sought) {
+    if sought.kind == Sought::NONE {
         return Found::None;
     }
     let mut i = depth;
     while 0 < i {
         i -= 1;
         let entry = stack.records[i];
-        if !entry.loops {
-            if seeks_call(sought) {
-                return Found::At(i);
-            }
-            return Found::None;
-        }
-        if is_sought(sought, entry.name) {
+        if is_sought(sought, entry) {
             return Found::At(i);
+        }
+        if entry.kind != Record::COUNT {
+            return Found::None;
         }
     }
     Found::None

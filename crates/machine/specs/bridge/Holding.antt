@@ -1,12 +1,11 @@
 -- Bridge: how the code's machine, records and positions hold the definition's.
 -- The contracts of functions that crates use among themselves cite it; no demand and no promise of run, check_recipe or ask rests on it.
 use mathlib.Core.Path.{_≡_}
-use mathlib.Core.Bool.{Bool, true, false, cond}
+use mathlib.Core.Bool.{Bool, true, false, cond, not}
 use mathlib.Core.List.{List, [], _∷_, _++_}
 use Prim.Native.Nat.{ℕ, zero, suc, _+_, _≤_, _<_}
-use lib.Dec.{leb}
+use lib.Dec.{leb, eqb}
 use lib.ListN.{length, getD, take, drop}
-use Rattle.words.specs.Names.{alike}
 use Rattle.words.specs.Places.{place}
 use Rattle.words.specs.declared.names.Telling.{Telling}
 use Rattle.words.specs.declared.symbols.Scanned.{Scanned}
@@ -17,17 +16,13 @@ use Rattle.variables.specs.Variables.{Variables}
 use Rattle.variables.specs.bridge.Memory.{numbersHeld, stringsHeld, TidyNumbers, TidyStrings}
 use Rattle.variables.specs.Tables.{sumOf, emptyTables}
 use Rattle.machine.specs.Machine as spec
-use Rattle.machine.specs.Machine.{loop, call, columnAfter}
+use Rattle.machine.specs.Machine.{loop, call, mostRecords, columnAfter}
 use Rattle.statements.specs.Parts.{Rest, nothing, part}
 use Rattle.machine.specs.declared.state.Machine.{Machine}
 use Rattle.machine.specs.declared.state.Printer.{Printer}
 use Rattle.machine.specs.declared.positions.Position.{Position}
 use Rattle.machine.specs.declared.printing.Printed.{Printed}
 use Rattle.machine.specs.declared.records.Record.{Record}
-use Rattle.machine.specs.declared.records.Found.{Found}
-use Rattle.machine.specs.declared.records.Found.the-variants as found
-use Rattle.machine.specs.declared.records.Sought.{Sought}
-use Rattle.machine.specs.declared.records.Sought.the-variants as sought
 
 -- ---- positions: a line by its place in the text, a statement by its place in the line
 
@@ -75,62 +70,45 @@ pub record Positioned (text : List ℕ) (q : Position) : Type 0 where
 
 -- ---- records
 
+abbrev pub noName : Telling
+noName = record { first = 0; second = 0 }
+
 abbrev pub blankRecord : Record
-blankRecord = record {
-  loops = false;
-  name = record { first = 0; second = 0 };
-  limit = 0;
-  step = 0;
-  back = record { line = place 0; at = place 0; over = false };
-}
+blankRecord = record { kind = 0; name = noName; limit = 0; step = 0; line = place 0; at = place 0; over = 0 }
+
+abbrev callKind : ℕ
+callKind = 1
+
+abbrev countKind : ℕ
+countKind = 2
+
+-- a FOR's: any other kind is a GOSUB's
+abbrev pub counts : Record → Bool
+counts e = eqb (e .kind) countKind
+
+-- the place to come back to: any number but 0 says that the line is over
+abbrev pub backOf : Record → Position
+backOf e = record { line = e .line; at = e .at; over = not (eqb (e .over) 0) }
+
+abbrev pub overNumber : Bool → ℕ
+overNumber over = cond over 1 0
+
+abbrev pub callRecord : Position → Record
+callRecord back =
+    record { kind = callKind; name = noName; limit = 0; step = 0; line = back .line; at = back .at; over = overNumber (back .over) }
+
+abbrev pub loopRecord : Telling → ℕ → ℕ → Position → Record
+loopRecord name limit step back =
+    record { kind = countKind; name = name; limit = limit; step = step; line = back .line; at = back .at; over = overNumber (back .over) }
 
 abbrev pub recordOf : List ℕ → Record → spec.Record
 recordOf text e =
-    cond (e .loops) (loop (e .name) (e .limit) (e .step) (positionOf text (e .back))) (call (positionOf text (e .back)))
+    cond (counts e) (loop (e .name) (e .limit) (e .step) (positionOf text (backOf e))) (call (positionOf text (backOf e)))
 
 -- the first so many of some, the topmost first
 unfoldable pub recordsIn : List ℕ → List Record → ℕ → List spec.Record
 recordsIn text rs zero = []
 recordsIn text rs (suc d) = recordOf text (getD rs d blankRecord) ∷ recordsIn text rs d
-
--- what a search ends at
-abbrev pub seeksNothing : Sought → Bool
-seeksNothing sought.Nothing = true
-seeksNothing sought.Call = false
-seeksNothing sought.Loop = false
-seeksNothing (sought.LoopOf other) = false
-
-abbrev pub isSought : Sought → Telling → Bool
-isSought sought.Nothing name = false
-isSought sought.Call name = false
-isSought sought.Loop name = true
-isSought (sought.LoopOf other) name = alike name other
-
-abbrev pub seeksCall : Sought → Bool
-seeksCall sought.Nothing = false
-seeksCall sought.Call = true
-seeksCall sought.Loop = false
-seeksCall (sought.LoopOf other) = false
-
--- the search down from a depth
-unfoldable pub foundFrom : Sought → List Record → ℕ → Found
-foundFrom k rs zero = found.None
-foundFrom k rs (suc d) =
-    cond (getD rs d blankRecord .loops)
-    (cond (isSought k (getD rs d blankRecord .name)) (found.At d) (foundFrom k rs d))
-    (cond (seeksCall k) (found.At d) found.None)
-
--- which is not made where no record is asked for
-abbrev pub foundIn : Sought → List Record → ℕ → Found
-foundIn sought.Nothing rs d = found.None
-foundIn sought.Call rs d = foundFrom sought.Call rs d
-foundIn sought.Loop rs d = foundFrom sought.Loop rs d
-foundIn (sought.LoopOf name) rs d = foundFrom (sought.LoopOf name) rs d
-
--- the one found, or a blank one
-abbrev pub entryAt : Found → List Record → Record
-entryAt (found.At i) rs = getD rs i blankRecord
-entryAt found.None rs = blankRecord
 
 -- ---- printing
 
@@ -174,7 +152,7 @@ pub record Sound (m : Machine) (input space room : List ℕ) : Type 0 where
   pub settled : Settled m space
   pub fitting : Fitting (m .printer) room
   pub taken : m .taken ≤ length input
-  pub deep : m .depth ≤ 32
+  pub deep : m .depth ≤ mostRecords
 
 -- the definition's machine that it holds; only the highest number of unfinished strings is the definition's alone
 pub record Same (text : List ℕ) (rs : List Record) (m : Machine) (input space room : List ℕ) (n : spec.Machine) : Type 0 where
@@ -188,4 +166,4 @@ pub record Same (text : List ℕ) (rs : List Record) (m : Machine) (input space 
   pub steps : n .steps ≡ m .steps
   pub limit : n .space ≡ length space
   -- every record comes back to a place where a statement stands
-  pub placed : (i : ℕ) → i < m .depth → Positioned text (getD rs i blankRecord .back)
+  pub placed : (i : ℕ) → i < m .depth → Positioned text (backOf (getD rs i blankRecord))

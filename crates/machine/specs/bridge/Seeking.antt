@@ -9,7 +9,7 @@ use Rattle.grammar.specs.Trees as tree
 use Rattle.grammar.specs.Trees.{Statement}
 use Rattle.statements.specs.Statements.{Begun, bad, done, choice, variableOf}
 use Rattle.machine.specs.declared.records.Sought.{Sought}
-use Rattle.machine.specs.declared.records.Sought.the-variants as sought
+use Rattle.machine.specs.bridge.Wanted as sought
 
 abbrev pub soughtBy : Statement → Sought
 soughtBy tree.empty = sought.Nothing

@@ -3,6 +3,7 @@ use mathlib.Core.Path.{_≡_, sym}
 use native.Mathlib.Omega.{arith}
 use borrow.Author.Needs.{needs}
 use lib.ListN.{length}
+use Rattle.machine.specs.Machine.{mostRecords}
 use Rattle.machine.proofs.Stacking.{length-mapped, records-past}
 use Rattle.machine.proofs.records.with_record.Statement.{statement}
 use Rattle.machine.proofs.records.with_record.Tie as tie
@@ -10,7 +11,7 @@ use Rattle.machine.proofs.records.with_record.Tie as tie
 returns-2 : tie.Need-returns-2
 returns-2 c =
     let a = c .before .args in
-    let n : length (a .stack .records) ≡ 32 = search (needs, length-mapped) in
+    let n : length (a .stack .records) ≡ mostRecords = search (needs, length-mapped) in
     sym (records-past (a .stack .records) (a .slot) (a .entry) (omega arith))
 
 pub with-record-spec : {M : Type 1} → statement M
