@@ -26,7 +26,7 @@ use Rattle.machine.specs.declared.records.Found.{Found}
 use Rattle.turns.specs.Steps.{nextOn, doStatement}
 use Rattle.turns.specs.bridge.Turns.{turnedTo, afterOf, Turns, anyRecords, Told}
 use Rattle.turns.specs.bridge.Doing.{Begins, Does, loopAt, jumpAt, callAt}
-use Rattle.machine.proofs.Beginning.{by-for}
+use Rattle.statements.proofs.Ways.{by-for}
 use Rattle.turns.proofs.Beginning.{on-line}
 use Rattle.turns.proofs.Doing.{any-told, fails-turn}
 use Rattle.control.specs.bridge.Answers.{Counts}

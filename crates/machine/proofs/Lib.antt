@@ -5,5 +5,4 @@ pub mod Writing
 pub mod Standing
 pub mod Takes
 pub mod Tokens
-pub mod Beginning
 pub mod Seeking

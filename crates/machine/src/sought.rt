@@ -1,34 +1,26 @@
 // The record that a statement asks for.
 ghost use mathlib.Core.Path.{_≡_};
-ghost use mathlib.Core.Bool.{true};
-ghost use Rattle.grammar.specs.Trees.{Part};
-ghost use Rattle.statements.specs.Statements.{goodPart, partOf};
-ghost use Rattle.statements.specs.Parts.{headOf};
-ghost use Rattle.machine.specs.bridge.Seeking.{soughtBy, soughtLoop};
+ghost use Rattle.statements.specs.Statements.{begunBy};
+ghost use Rattle.machine.specs.bridge.Seeking.{Seeks, soughtLoop};
 use crate::records::Sought;
-use scanner::token_at;
-use words::Place;
+use statements::Lead;
 use words::Scanned;
 use words::Token;
 use words::Word;
 use words::telling_of;
 
-// The record that the statement at a place asks for.
-pub fn sought_record(line: &[u8], at: Place) -> Sought
-    ensures { λ r. ⌜
-        ((p : Part) (end : Scanned) → partOf (now (line .entry)) true (at .0) ≡ goodPart p end → r ≡ soughtBy (headOf p))
-        ⌝ }
+// By how it is led.
+pub fn sought_record(line: &[u8], lead: Lead) -> Sought
+    ensures { λ r. ⌜ Seeks r (begunBy (now (line .entry)) lead) ⌝ }
 {
-    let first = token_at(line, at);
-    let token = first.token;
-    match token {
-        Token::Keyword(word) => match word {
+    match lead {
+        Lead::Nothing => Sought::NOTHING,
+        Lead::By(word, from) => match word {
             Word::Return => Sought::CALL,
-            Word::For => named_loop(line, token_at(line, first.next)),
-            Word::Next => named_loop(line, token_at(line, first.next)),
+            Word::For => named_loop(line, from),
+            Word::Next => named_loop(line, from),
             _ => Sought::NOTHING,
         },
-        _ => Sought::NOTHING,
     }
 }
 

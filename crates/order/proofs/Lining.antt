@@ -5,7 +5,10 @@ use mathlib.Core.List.{List, [], _∷_}
 use Prim.Native.Nat.{ℕ, _+_}
 use native.Mathlib.Omega.{arith}
 use Rattle.grammar.specs.Trees.{Part}
-use Rattle.statements.specs.Statements.{begunAt}
+use Rattle.words.specs.Places.{place}
+use Rattle.scanner.specs.Tokens.{tokenAt}
+use Rattle.statements.specs.Statements.{leadOf, begunBy, begunAt}
+use Rattle.statements.specs.declared.leading.Lead.{Lead}
 use Rattle.statements.specs.bridge.Answers.{begunAnswer}
 use Rattle.statements.specs.declared.reading.StatementRead.{StatementRead}
 use Rattle.reader.specs.Lines.{Judgement, unreadable, tooDeep, holds, judgement, judgedAs}
@@ -23,6 +26,11 @@ steps s p e i = (
   further s p e i,
   λ x xs o. let v = visit s p o e i in let l : v .left ≡ xs = cc (v .all) in rw l at (v .on),
 )
+
+-- the statement that is led as the one at a place is the one there
+pub led-there : (s : List ℕ) (p : ℕ) {l : Lead} → l ≡ leadOf s true (tokenAt s (place p)) → begunBy s l ≡ begunAt s true p
+unfolding begunAt
+led-there s p e = rw e
 
 -- ---- a line that is judged
 

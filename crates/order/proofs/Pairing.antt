@@ -4,14 +4,15 @@ use mathlib.Core.List.{List, [], _∷_}
 use Prim.Native.Nat.{ℕ, zero, suc, _+_, _-_, _≤_}
 use native.Mathlib.Numerals.{add-one}
 use native.Mathlib.Omega.{arith}
-use Rattle.words.specs.Places.{place}
 use Rattle.words.specs.declared.symbols.Word.{Word}
-use Rattle.scanner.specs.Tokens.{tokenAt}
 use Rattle.loader.proofs.Rising.{recipe}
-use Rattle.grammar.specs.Trees.{Statement, end}
+use Rattle.grammar.specs.Trees.{Statement, Part}
+use Rattle.machine.specs.bridge.Holding.{bodyOf}
+use Rattle.statements.specs.declared.leading.Lead.{Lead}
+use Rattle.statements.specs.declared.leading.Lead.the-variants.{By, Nothing}
 use Rattle.statements.specs.Parts.{headOf}
 use Rattle.order.specs.Order.{Stand, Partner, some, partner, pairsBy}
-use Rattle.order.specs.bridge.Walking.{Ahead, Walks, Walking, leftOf, markedBy, countedBy, Spoken, PartnerAs}
+use Rattle.order.specs.bridge.Walking.{linesFrom, Ahead, leadAt, Walks, Walking, leftOf, markedBy, countedBy, PartnerAs}
 use Rattle.order.specs.declared.partners.Bracket.{Bracket}
 use Rattle.order.specs.declared.partners.Bracket.the-variants.{Opens, Closes, Neither}
 use Rattle.order.specs.declared.partners.Waiting.{Waiting}
@@ -19,8 +20,8 @@ use Rattle.order.specs.declared.partners.Waiting.the-variants.{Here, Sti
 use Rattle.order.specs.declared.texts.Spot.{Spot}
 use Rattle.order.specs.declared.texts.Walk.{Walk}
 use Rattle.order.specs.declared.texts.Walk.the-variants as walk
-use Rattle.order.proofs.Texting.{bodyAt, here-ahead, left-here, not-over, parting}
-use Rattle.order.proofs.Words.{part-led}
+use Rattle.order.proofs.Texting.{here-ahead, told, left-here, not-over, parting}
+use Rattle.order.proofs.Words.{WordedAs, part-led}
 
 -- ---- one statement more
 
@@ -111,11 +112,14 @@ left-few text (walk.At spot) xs a =
 left-few text walk.Over xs a = omega arith
 
 -- so two words mark the statements that they lead
-pub spot-marked : {text : List ℕ} {spot : Spot} {x : Stand} {xs : List Stand} (first second : Word) → Spoken first → Spoken second
-    → Ahead text spot (x ∷ xs)
-    → markedBy first second (tokenAt (bodyAt text (spot .line)) (place (spot .at .0)) .token) ≡ pairsBy first second (headOf (x .part))
-spot-marked {text} {spot} {x} first second f g a =
+marks-by : (first second : Word) (l : Lead) (q : Part) → WordedAs l q → markedBy first second l ≡ pairsBy first second (headOf q)
+marks-by first second Nothing q h = absurd h
+marks-by first second (By w t) q h = rw h
+
+pub spot-marked : {text : List ℕ} {spot : Spot} {x : Stand} {xs : List Stand} (first second : Word) → Ahead text spot (x ∷ xs)
+    → markedBy first second (leadAt text spot) ≡ pairsBy first second (headOf (x .part))
+spot-marked {text} {spot} {x} first second a =
     let p = parting a in
-    let l = part-led first f (bodyAt text (spot .line)) (spot .at .0) (p .first) (p .end) (p .reads) in
-    let r = part-led second g (bodyAt text (spot .line)) (spot .at .0) (p .first) (p .end) (p .reads) in
-    rw (p .is, l, r)
+    let t = told (here-ahead a) in
+    let l = part-led (bodyOf (linesFrom text spot)) (spot .at .0) (p .first) (p .end) (rw (t .body) at (p .reads)) in
+    rw (p .is) (marks-by first second (leadAt text spot) (p .first) l)

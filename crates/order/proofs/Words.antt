@@ -1,110 +1,88 @@
--- The word that a statement begins with is the one that leads it, where it may not be left out.
-use mathlib.Core.Path.{_≡_, refl, sym, _∙_}
-use mathlib.Core.Bool.{Bool, true, false, false≢true}
-use mathlib.Core.List.{List}
-use Prim.Native.Nat.{ℕ}
+-- The word that leads a statement is the one that the definition says.
+use mathlib.Core.Path.{_≡_, refl, sym, _∙_, ap}
+use mathlib.Core.Bool.{true}
+use mathlib.Core.List.{List, [], _∷_}
+use Prim.Native.Nat.{ℕ, _+_}
 use native.Mathlib.Omega.{arith}
-use borrow.Author.Tests.{eqb-true, eqb-false, ne-eqb}
-use lib.Dec.{eqb}
+use Rattle.words.specs.Places.{place}
 use Rattle.words.specs.declared.symbols.Scanned.{Scanned}
-use Rattle.words.specs.declared.symbols.Token.{Token}
-use Rattle.words.specs.declared.symbols.Token.the-variants.{
-  EndOfLine,
-  Keyword,
-  Not,
-  Infix,
-  Call,
-  Named,
-  Number,
-  Hexadecimal,
-  LineOnly,
-  Quoted,
-  Symbol,
-  Unreadable,
-}
 use Rattle.words.specs.declared.symbols.Word.{Word}
-use Rattle.words.specs.declared.symbols.Word.the-variants.{Let, Print, Goto, Else}
-use Rattle.words.proofs.Choices.{by-test}
-use Rattle.grammar.specs.Tests.{wordRank, isKeyword}
-use Rattle.grammar.specs.Trees.{Formula, Variable, Statement, empty, assign, print, ifThen, ifElse, goto, gosub, return, for, next, nextOf, lineInput, end, stop, remark, Part, last, more}
-use Rattle.statements.specs.Statements.{goodPart}
-use Rattle.statements.specs.Statements.{partOf}
-use Rattle.statements.proofs.Standing.{past, past-none, Assigned, Stands}
-use Rattle.statements.proofs.Views.{start, Final, plain, thens, elses, more-view, final-view, done-view, choice-view}
+use Rattle.words.specs.declared.symbols.Word.the-variants.{Let, Print, If, Then, Else, Goto, Gosub, Return, For, To, Step, Next, Line, Input, End, Stop, Rem, While, Wend, Data, Read, Restore}
+use Rattle.scanner.specs.Tokens.{tokenAt}
+use Rattle.grammar.specs.Tests.{isKeyword}
+use Rattle.grammar.specs.Trees.{Part, last, more}
 use Rattle.statements.specs.Parts.{headOf}
-use Rattle.order.specs.Order.{isLed}
-use Rattle.order.specs.bridge.Walking.{Spoken}
+use Rattle.statements.specs.Statements.{Begun, bad, done, choice, variableOf, byWord, leadOf, begunBy, begunAt, goodPart, partOf}
+use Rattle.statements.specs.declared.leading.Lead.{Lead}
+use Rattle.statements.specs.declared.leading.Lead.the-variants.{By, Nothing}
+use Rattle.grammar.specs.Formulas.{after}
+use Rattle.statements.proofs.Findings.{by-name, by-line}
+use Rattle.statements.proofs.Parts.{unrolled}
+use Rattle.statements.proofs.Views.{Final, plain, thens, elses, more-view, final-view}
+use Rattle.statements.proofs.Ways.{if-so, by-assign, by-items, by-condition, by-for, by-input}
+use Rattle.order.specs.Order.{wordOf}
 
-eqb-flip : (a b : ℕ) → eqb a b ≡ false → eqb b a ≡ false
-eqb-flip a b e = ne-eqb b a (λ h. eqb-false a b e (sym h))
+-- what a word leads is a statement of that word
+abbrev Worded : Word → Begun → Type 0
+Worded w bad = Unit {0}
+Worded w (done x u) = wordOf x ≡ w
+Worded w (choice c u) = If ≡ w
 
--- a token that is a word
-record Worded (w : Word) (t : Token) : Type 0 where
-  of : Word
-  is : t ≡ Keyword of
-  same : wordRank of ≡ wordRank w
+module _ (s : List ℕ) (t : Scanned) where
+  worded : (w : Word) → Worded w (byWord s w t)
+  worded Let = by-name (Worded Let) (t .token) _ _ (λ v f n. by-assign (Worded Let) tt s (after s t) (variableOf s v) (λ g u e. refl)) (λ n. tt)
+  worded Print = by-items (Worded Print) tt s t (λ is u e. refl)
+  worded If = by-condition (Worded If) tt s t (λ c u e. refl)
+  worded Then = tt
+  worded Else = refl
+  worded Goto = by-line (Worded Goto) (t .token) _ _ (λ l n r. refl) (λ n. tt)
+  worded Gosub = by-line (Worded Gosub) (t .token) _ _ (λ l n r. refl) (λ n. tt)
+  worded Return = refl
+  worded For = by-name (Worded For) (t .token) _ _ (λ v f n. by-for (Worded For) tt s (after s t) (variableOf s v) (λ a b c u e. refl)) (λ n. tt)
+  worded To = tt
+  worded Step = tt
+  worded Next = by-name (Worded Next) (t .token) _ _ (λ v f n. refl) (λ n. refl)
+  worded Line = if-so (Worded Line) tt (isKeyword Input (t .token)) _ (by-input (Worded Line) tt s (after s t) (λ text v u e. refl))
+  worded Input = tt
+  worded End = refl
+  worded Stop = refl
+  worded Rem = refl
+  worded While = tt
+  worded Wend = tt
+  worded Data = tt
+  worded Read = tt
+  worded Restore = tt
 
-worded : (w : Word) (t : Token) → isKeyword w t ≡ true → Worded w t
-worded w EndOfLine e = absurd (false≢true e)
-worded w (Keyword y) e = record { of = y; is = refl; same = eqb-true _ _ e }
-worded w Not e = absurd (false≢true e)
-worded w (Infix op) e = absurd (false≢true e)
-worded w (Call f) e = absurd (false≢true e)
-worded w (Named v) e = absurd (false≢true e)
-worded w (Number n) e = absurd (false≢true e)
-worded w (Hexadecimal n) e = absurd (false≢true e)
-worded w (LineOnly l) e = absurd (false≢true e)
-worded w (Quoted q) e = absurd (false≢true e)
-worded w (Symbol x) e = absurd (false≢true e)
-worded w Unreadable e = absurd (false≢true e)
+abbrev LedAs : Lead → Begun → Type 0
+LedAs (By w t) b = Worded w b
+LedAs Nothing b = b ≡ bad
 
-module _ (w : Word) (spoken : Spoken w) (s : List ℕ) (t : Scanned) where
-  -- it does not begin one that another word leads, given or not
-  other-word : (n : ℕ) → eqb n (wordRank w) ≡ false → ((y : Word) → t .token ≡ Keyword y → wordRank y ≡ wordRank w → ⊥)
-      → isKeyword w (t .token) ≡ eqb n (wordRank w)
-  other-word n e apart =
-      by-test (isKeyword w (t .token))
-      (λ f. let k = worded w (t .token) f in absurd (apart (k .of) (k .is) (k .same)))
-      (λ f. f ∙ sym e)
+led-as : (s : List ℕ) (l : Lead) → LedAs l (begunBy s l)
+led-as s (By w t) = worded s t w
+led-as s Nothing = refl
 
-  not-let : (v : Variable) (f : Formula) (u : Scanned) → Assigned s (past Let s t) v f u → (y : Word) → t .token ≡ Keyword y → wordRank y ≡ wordRank w → ⊥
-  not-let v f u h y e r =
-      let n : isKeyword Let (t .token) ≡ false = rw (e, r) (eqb-flip (wordRank Let) (wordRank w) (spoken .0)) in
-      let k = rw (past-none Let s t n, e) at (h .target .named) in
-      let z : _≡_ {A = ℕ} 0 1 = cc in omega arith
+begun-led : (s : List ℕ) (p : ℕ) → LedAs (leadOf s true (tokenAt s (place p))) (begunAt s true p)
+unfolding begunAt
+begun-led s p = led-as s (leadOf s true (tokenAt s (place p)))
 
-  -- a statement is led by a word just where it begins with it
-  done-led : (first : Bool) (x : Statement) (u : Scanned) → Stands s first t x u → isKeyword w (t .token) ≡ isLed w x
-  done-led first empty u h =
-      other-word (wordRank Else) (spoken .1 .1 .1) λ y e r.
-      let k = rw (e, r) at (h .0) in false≢true (sym (eqb-flip (wordRank Else) (wordRank w) (spoken .1 .1 .1)) ∙ k)
-  done-led first (assign v f) u h = other-word (wordRank Let) (spoken .0) (not-let v f u h)
-  done-led first (print is) u h =
-      other-word (wordRank Print) (spoken .1 .0) λ y e r.
-      let k = rw (e, r, eqb-flip (wordRank Print) (wordRank w) (spoken .1 .0)) at (h .word) in false≢true k
-  done-led first (ifThen c p) u h = absurd h
-  done-led first (ifElse c p q) u h = absurd h
-  done-led first (goto l) u h =
-      other-word (wordRank Goto) (spoken .1 .1 .0) λ y e r.
-      let n : isKeyword Goto (t .token) ≡ false = rw (e, r) (eqb-flip (wordRank Goto) (wordRank w) (spoken .1 .1 .0)) in
-      let k = rw (past-none Goto s t n, e) at (h .line) in
-      let z : _≡_ {A = ℕ} 0 1 = cc in omega arith
-  done-led first (gosub l) u h = rw (h .word)
-  done-led first return u h = rw (h .word)
-  done-led first (for v a b c) u h = rw (h .word)
-  done-led first next u h = rw (h .word)
-  done-led first (nextOf v) u h = rw (h .word)
-  done-led first (lineInput text v) u h = rw (h .word)
-  done-led first end u h = rw (h .word)
-  done-led first stop u h = rw (h .word)
-  done-led first remark u h = rw (h .word)
+-- the statement that begins a part is of the word that leads it
+abbrev pub WordedAs : Lead → Part → Type 0
+WordedAs (By w t) q = wordOf (headOf q) ≡ w
+WordedAs Nothing q = ⊥
 
-module _ (w : Word) (spoken : Spoken w) (s : List ℕ) (p : ℕ) where
-  last-led : (q : ℕ) (x : Statement) (u : Scanned) → Final s true p q x u → isKeyword w (start s p .token) ≡ isLed w x
-  last-led q x u (plain f) = done-led w spoken s (start s p) true x u (done-view s true p (f .begun))
-  last-led q x u (thens f) = rw (choice-view s true p (f .begun) .word)
-  last-led q x u (elses f) = rw (choice-view s true p (f .begun) .word)
+module _ (s : List ℕ) (p : ℕ) where
+  bad-not : {q : Part} {u : Scanned} → partOf s true p ≡ goodPart q u → begunAt s true p ≡ bad → ⊥
+  bad-not e b = let f = sym (unrolled s true p) ∙ e in let g = rw b at f in let z : _≡_ {A = ℕ} 0 1 = cc in omega arith
 
-  pub part-led : (q : Part) (u : Scanned) → partOf s true p ≡ goodPart q u → isKeyword w (start s p .token) ≡ isLed w (headOf q)
-  part-led (last q x) u e = last-led q x u (final-view s true p e)
-  part-led (more q x r) u e = let f = more-view s true p e in done-led w spoken s (start s p) true x (f .end) (done-view s true p (f .begun))
+  part-by : (l : Lead) → LedAs l (begunAt s true p) → (q : Part) (u : Scanned) → partOf s true p ≡ goodPart q u → WordedAs l q
+  part-by Nothing h q u e = bad-not e h
+  part-by (By w t) h (more q x r) u e = rw (more-view s true p e .begun) at h
+  part-by (By w t) h (last q x) u e = by-final (final-view s true p e)
+    where
+      by-final : {y : _} → Final s true p q y u → wordOf y ≡ w
+      by-final (plain f) = rw (f .begun) at h
+      by-final (thens f) = rw (f .begun) at h
+      by-final (elses f) = rw (f .begun) at h
+
+  pub part-led : (q : Part) (u : Scanned) → partOf s true p ≡ goodPart q u → WordedAs (leadOf s true (tokenAt s (place p))) q
+  part-led q u e = part-by (leadOf s true (tokenAt s (place p))) (begun-led s p) q u e

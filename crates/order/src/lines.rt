@@ -1,10 +1,9 @@
 // The statements of a line in text order, by their places.
 ghost use mathlib.Core.Path.{_≡_};
-ghost use mathlib.Core.List.{List, _∷_};
 ghost use Rattle.grammar.specs.Trees.{Part};
 ghost use Rattle.statements.specs.Parts.{partsOf};
 ghost use Rattle.reader.specs.Lines.{holds, judgement};
-ghost use Rattle.reader.specs.bridge.Walking.{Onto, StartsAs, Further};
+ghost use Rattle.reader.specs.bridge.Walking.{StartsAs};
 ghost use Rattle.order.specs.Order.{beyond};
 ghost use Rattle.order.specs.bridge.Walking.{PassesIf};
 use reader::Judged;
@@ -25,16 +24,6 @@ pub(crate) fn passes(line: &[u8]) -> bool
     }
 }
 
-// The statement after the one at a place.
-pub(crate) fn step(line: &[u8], at: Place) -> Start
-    ensures { λ r. ⌜
-        Further (now (line .entry)) (at .0) r
-        × ((x : Part) (xs : List Part) → Onto (now (line .entry)) (at .0) (x ∷ xs) → StartsAs (now (line .entry)) r xs)
-        ⌝ }
-{
-    next_statement(statement_at(line, at, true))
-}
-
 // The first statement that begins after a place.
 pub(crate) fn first_beyond(line: &[u8], at: Place) -> Start
     ensures { λ r. ⌜
@@ -47,7 +36,7 @@ pub(crate) fn first_beyond(line: &[u8], at: Place) -> Start
         if limit < here.0 {
             return Start::At(here);
         }
-        let Start::At(next) = step(line, here) else {
+        let Start::At(next) = next_statement(statement_at(line, here, true)) else {
             return Start::None;
         };
         here = next;

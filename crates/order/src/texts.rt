@@ -1,17 +1,21 @@
 // The statements of a text that loads, in text order.
+ghost use mathlib.Core.Path.{_≡_};
 ghost use mathlib.Core.List.{List, _∷_};
 ghost use Prim.Native.Nat.{_≤_, _<_};
 ghost use Rattle.machine.specs.bridge.Holding.{linesAt};
 ghost use Rattle.order.specs.Order as order;
 ghost use Rattle.order.specs.Order.{Stand, stands};
-ghost use Rattle.order.specs.bridge.Walking.{Reached, Lined, Ahead, Spotted, Walks, leftAt, leftFrom, leftOf};
+ghost use Rattle.order.specs.bridge.Walking.{Reached, Lined, Ahead, Spotted, Walks, leadAt, leftAt, leftFrom, leftOf};
 use crate::lines::first_beyond;
 use crate::lines::passes;
-use crate::lines::step;
 use loader::LineFound;
 use loader::LineSpan;
 use loader::line_at;
 use reader::Start;
+use reader::next_statement;
+use statements::Lead;
+use statements::lead_at;
+use statements::statement_led;
 use words::Place;
 
 // A statement of a text: its line, and its place among the bytes after the line's number.
@@ -49,9 +53,20 @@ pub fn enter(text: &[u8], place: Place) -> Walk
     }
 }
 
-// The statement after the one at a spot.
-pub fn onward(text: &[u8], spot: Spot) -> Walk
+// How the statement at a spot is led.
+pub fn lead_of(text: &[u8], spot: Spot) -> Lead
     requires { ⌜ Spotted (now text) spot ⌝ }
+    ensures { λ r. ⌜ r ≡ leadAt (now (text .entry)) spot ⌝ }
+{
+    let line = spot.line;
+    let from = line.body.0;
+    let end = line.end.0;
+    lead_at(&text[from..end], spot.at, true)
+}
+
+// The statement after the one at a spot, which is led so.
+pub fn onward(text: &[u8], spot: Spot, lead: Lead) -> Walk
+    requires { ⌜ Spotted (now text) spot × (lead ≡ leadAt (now text) spot) ⌝ }
     ensures { λ r. ⌜
         ((x : Stand) (xs : List Stand) → Ahead (now (text .entry)) spot (x ∷ xs) → Walks (now (text .entry)) r xs)
         × (leftOf (now (text .entry)) r < leftAt (now (text .entry)) spot)
@@ -61,7 +76,7 @@ pub fn onward(text: &[u8], spot: Spot) -> Walk
     let from = line.body.0;
     let end = line.end.0;
     let next = line.next;
-    match step(&text[from..end], spot.at) {
+    match next_statement(statement_led(&text[from..end], lead)) {
         Start::At(at) => Walk::At(Spot { line, at }),
         Start::None => enter(text, next),
     }

@@ -10,11 +10,11 @@ use Rattle.words.specs.declared.symbols.Token.{Token}
 use Rattle.words.specs.declared.symbols.Token.the-variants.{EndOfLine, Keyword, Not, Infix, Call, Named, Number, Hexadecimal, LineOnly, Quoted, Symbol, Unreadable}
 use Rattle.scanner.specs.Tokens.{tokenAt}
 use Rattle.grammar.specs.Trees.{Part}
-use Rattle.statements.specs.Statements.{bad, byToken, begunAt, badPart, goodPart, partOf}
+use Rattle.statements.specs.Statements.{bad, ledByToken, leadOf, begunBy, begunAt, badPart, goodPart, partOf}
 use Rattle.statements.proofs.Parts.{partBy, unrolled}
 
 -- so does its first statement
-begun-true : (s : List ℕ) (token : Token) (t : Scanned) → (byToken s false token t ≡ bad → ⊥) → byToken s true token t ≡ byToken s false token t
+begun-true : (s : List ℕ) (token : Token) (t : Scanned) → (begunBy s (ledByToken s false token t) ≡ bad → ⊥) → begunBy s (ledByToken s true token t) ≡ begunBy s (ledByToken s false token t)
 begun-true s EndOfLine t h = refl
 begun-true s (Keyword w) t h = refl
 begun-true s Not t h = refl
@@ -36,6 +36,6 @@ unfolding begunAt
 true-part s p {q} {u} e =
     let t = tokenAt s (place p) in
     let go = partBy p (partOf s) in
-    let f : go (byToken s false (t .token) t) ≡ goodPart q u = sym (unrolled s false p) ∙ e in
+    let f : go (begunBy s (leadOf s false t)) ≡ goodPart q u = sym (unrolled s false p) ∙ e in
     let g = begun-true s (t .token) t (λ b. not-good (sym (ap go b) ∙ f)) in
     unrolled s true p ∙ ap go g ∙ f

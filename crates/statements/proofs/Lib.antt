@@ -8,3 +8,4 @@ pub mod Printing
 pub mod Readings
 pub mod Standing
 pub mod Views
+pub mod Ways

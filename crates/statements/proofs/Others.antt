@@ -13,9 +13,11 @@ use Rattle.words.specs.declared.symbols.Token.{Token}
 use Rattle.words.specs.declared.symbols.Token.the-variants.{EndOfLine, Keyword, Not, Infix, Call, Named, Number, Hexadecimal, LineOnly, Quoted, Symbol, Unreadable}
 use Rattle.words.specs.declared.symbols.Word.{Word}
 use Rattle.words.specs.declared.symbols.Word.the-variants.{Let, Print, If, Then, Else, Goto, Gosub, Return, For, To, Step, Next, Line, Input, End, Stop, Rem, While, Wend, Data, Read, Restore}
-use Rattle.grammar.specs.Tests.{choose}
+use Rattle.grammar.specs.Tests.{isKeyword}
 use Rattle.grammar.specs.Formulas.{after}
-use Rattle.statements.specs.Statements.{bad, byWord, byMark, numberAt, byToken}
+use Rattle.statements.specs.Statements.{bad, byWord, ledBySign, ledByNumber, ledByToken}
+use Rattle.statements.specs.declared.leading.Lead.{Lead}
+use Rattle.statements.specs.declared.leading.Lead.the-variants.{Nothing}
 use Rattle.statements.specs.Parts.{deepest}
 use Rattle.statements.specs.bridge.Answers.{nameOf, isQuoted, formedRead, begunAnswer}
 use Rattle.statements.specs.declared.reading.NameFound.the-variants.{None}
@@ -61,27 +63,38 @@ no-text (Quoted q) h = absurd (miss noTexts 9 tt h)
 no-text (Symbol x) h = refl
 no-text Unreadable h = refl
 
-never : (first : Bool) → bad ≡ choose first (λ _. bad) (λ _. bad)
-never true = refl
-never false = refl
+-- what is no word, name, sign or line number, nor the end, leads nothing
+abbrev noLeads : List ℕ
+noLeads = 2 ∷ 3 ∷ 4 ∷ 7 ∷ 9 ∷ 11 ∷ []
 
--- what no other arm takes is a line number, or begins no statement
-abbrev numbering : List ℕ
-numbering = 2 ∷ 3 ∷ 4 ∷ 6 ∷ 7 ∷ 8 ∷ 9 ∷ 11 ∷ []
+pub no-lead : (s : List ℕ) (first : Bool) (t : Token) (u : Scanned) → OneOf noLeads (tokenTag t) → Nothing ≡ ledByToken s first t u
+no-lead s first EndOfLine u h = absurd (miss noLeads 0 tt h)
+no-lead s first (Keyword w) u h = absurd (miss noLeads 1 tt h)
+no-lead s first Not u h = refl
+no-lead s first (Infix op) u h = refl
+no-lead s first (Call f) u h = refl
+no-lead s first (Named v) u h = absurd (miss noLeads 5 tt h)
+no-lead s first (Number n) u h = absurd (miss noLeads 6 tt h)
+no-lead s first (Hexadecimal n) u h = refl
+no-lead s first (LineOnly l) u h = absurd (miss noLeads 8 tt h)
+no-lead s first (Quoted q) u h = refl
+no-lead s first (Symbol x) u h = absurd (miss noLeads 10 tt h)
+no-lead s first Unreadable u h = refl
 
-pub number-begins : (s : List ℕ) (first : Bool) (t : Token) (u : Scanned) → OneOf numbering (tokenTag t) → byToken s first t u ≡ numberAt s first t u
-number-begins s first EndOfLine u h = absurd (miss numbering 0 tt h)
-number-begins s first (Keyword w) u h = absurd (miss numbering 1 tt h)
-number-begins s first Not u h = never first
-number-begins s first (Infix op) u h = never first
-number-begins s first (Call f) u h = never first
-number-begins s first (Named v) u h = absurd (miss numbering 5 tt h)
-number-begins s first (Number n) u h = refl
-number-begins s first (Hexadecimal n) u h = never first
-number-begins s first (LineOnly l) u h = refl
-number-begins s first (Quoted q) u h = never first
-number-begins s first (Symbol x) u h = absurd (miss numbering 10 tt h)
-number-begins s first Unreadable u h = never first
+-- both kinds of line numbers lead alike
+pub number-leads : (s : List ℕ) (first : Bool) (t : Token) (u : Scanned) → OneOf (6 ∷ 8 ∷ []) (tokenTag t) → ledByNumber first u ≡ ledByToken s first t u
+number-leads s first EndOfLine u h = absurd (miss (6 ∷ 8 ∷ []) 0 tt h)
+number-leads s first (Keyword w) u h = absurd (miss (6 ∷ 8 ∷ []) 1 tt h)
+number-leads s first Not u h = absurd (miss (6 ∷ 8 ∷ []) 2 tt h)
+number-leads s first (Infix op) u h = absurd (miss (6 ∷ 8 ∷ []) 3 tt h)
+number-leads s first (Call f) u h = absurd (miss (6 ∷ 8 ∷ []) 4 tt h)
+number-leads s first (Named v) u h = absurd (miss (6 ∷ 8 ∷ []) 5 tt h)
+number-leads s first (Number n) u h = refl
+number-leads s first (Hexadecimal n) u h = absurd (miss (6 ∷ 8 ∷ []) 7 tt h)
+number-leads s first (LineOnly l) u h = refl
+number-leads s first (Quoted q) u h = absurd (miss (6 ∷ 8 ∷ []) 9 tt h)
+number-leads s first (Symbol x) u h = absurd (miss (6 ∷ 8 ∷ []) 10 tt h)
+number-leads s first Unreadable u h = absurd (miss (6 ∷ 8 ∷ []) 11 tt h)
 
 -- ---- signs
 
@@ -91,7 +104,7 @@ signTag x = tagOf Rattle.words.proofs.symbols.Sign.the-type x
 abbrev noMarks : List ℕ
 noMarks = 0 ∷ 1 ∷ 2 ∷ 3 ∷ 6 ∷ 7 ∷ []
 
-pub no-mark : (s : List ℕ) (x : Sign) (t : Scanned) → OneOf noMarks (signTag x) → byMark s x t ≡ bad
+pub no-mark : (s : List ℕ) (x : Sign) (t : Scanned) → OneOf noMarks (signTag x) → ledBySign s x t ≡ Nothing
 no-mark s Open t h = refl
 no-mark s Close t h = refl
 no-mark s Comma t h = refl
@@ -150,18 +163,25 @@ module _ {A : Type 0} (g : Word → A) (r : A) where
   of-words (w ∷ w′ ∷ l) e x (inl t) = same w x (cc) t
   of-words (w ∷ w′ ∷ l) e x (inr t) = of-words (w′ ∷ l) (cc) x t
 
+-- all words but ELSE
+abbrev otherWords : List Word
+otherWords = Let ∷ Print ∷ If ∷ Then ∷ Goto ∷ Gosub ∷ Return ∷ For ∷ To ∷ Step ∷ Next ∷ Line ∷ Input ∷ End ∷ Stop ∷ Rem ∷ While ∷ Wend ∷ Data ∷ Read ∷ Restore ∷ []
+
+pub no-else : (x : Word) → OneOf (map wordTag otherWords) (wordTag x) → isKeyword Else (Keyword x) ≡ false
+no-else x h = sym (of-words (λ w. isKeyword Else (Keyword w)) false otherWords refl x h)
+
 module _ (s : List ℕ) (x : Word) (t : Scanned) where
   -- GOTO and GOSUB
   pub word-jumps : OneOf (5 ∷ 6 ∷ []) (wordTag x) → begunAnswer (byWord s Goto t) ≡ begunAnswer (byWord s x t)
   word-jumps h =
-      let e = jump-same (after s t .token) (after s (after s t)) in
+      let e = jump-same (t .token) (after s t) in
       of-words (λ w. begunAnswer (byWord s w t)) (begunAnswer (byWord s Goto t)) (Goto ∷ Gosub ∷ []) (cc) x h
 
-  -- a word alone
-  pub word-alone : OneOf (7 ∷ 14 ∷ 15 ∷ 16 ∷ []) (wordTag x) → formedRead (after s t) 0 true ≡ begunAnswer (byWord s x t)
+  -- a word alone, and the empty statement
+  pub word-alone : OneOf (4 ∷ 7 ∷ 14 ∷ 15 ∷ 16 ∷ []) (wordTag x) → formedRead t 0 true ≡ begunAnswer (byWord s x t)
   unfolding deepest
   word-alone h =
-      of-words (λ w. begunAnswer (byWord s w t)) (formedRead (after s t) 0 true) (Return ∷ End ∷ Stop ∷ Rem ∷ []) refl x h
+      of-words (λ w. begunAnswer (byWord s w t)) (formedRead t 0 true) (Else ∷ Return ∷ End ∷ Stop ∷ Rem ∷ []) refl x h
 
   -- a word that begins no statement
   pub no-word : OneOf (3 ∷ 9 ∷ 10 ∷ 13 ∷ 17 ∷ 18 ∷ 19 ∷ 20 ∷ 21 ∷ []) (wordTag x) → bad ≡ byWord s x t

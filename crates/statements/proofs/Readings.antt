@@ -5,17 +5,14 @@ use mathlib.Core.List.{List, []}
 use Prim.Native.Nat.{ℕ, max}
 use native.Mathlib.Nat.{max-zero}
 use native.Mathlib.Omega.{arith}
-use Rattle.words.specs.declared.places.Place.{Place}
 use Rattle.words.specs.declared.symbols.Scanned.{Scanned}
 use Rattle.words.specs.declared.symbols.Sign.the-variants.{Semicolon}
-use Rattle.words.specs.declared.symbols.Token.{Token}
-use Rattle.scanner.specs.Tokens.{tokenAt}
 use Rattle.grammar.specs.Tests.{isSymbol}
 use Rattle.grammar.specs.Trees.{Formula, number, Variable, assign, for}
 use Rattle.grammar.specs.Formulas as formulas
 use Rattle.grammar.specs.Formulas.{Reading, after, quotedBytes}
 use Rattle.expressions.specs.Types.{sortOf, depthOf}
-use Rattle.statements.specs.Statements.{bad, done, choice, targetAt, inputAt, byToken, begunAt}
+use Rattle.statements.specs.Statements.{bad, done, choice, targetAt, inputAt}
 use Rattle.expressions.specs.Types.{isWhole, isOf}
 use Rattle.statements.specs.Parts.{isNumber, deepest}
 use Rattle.statements.specs.bridge.Answers.{isQuoted, formedRead, boundOf, begunAnswer}
@@ -103,9 +100,3 @@ module _ (s : List ℕ) (t : Scanned) where
   input-text {r} e g h = by-text (λ b. r ≡ begunAnswer b) (t .token) _ _ (λ q f a. rw g (h (quotedBytes s q))) (λ f. cc)
 
 -- ---- any statement, by its first token
-
-pub by-token : (s : List ℕ) (first : Bool) (at : Place) {t : Scanned} {token : Token} {r : StatementRead} → t ≡ tokenAt s at
-    → t .token ≡ token → r ≡ begunAnswer (byToken s first token t) → r ≡ begunAnswer (begunAt s first (at .0))
-unfolding begunAt
-by-token s first at {t} e f h =
-    h ∙ ap (λ x. begunAnswer (byToken s first x t)) (sym f) ∙ ap (λ u. begunAnswer (byToken s first (u .token) u)) e

@@ -20,7 +20,7 @@ use Rattle.grammar.specs.Tests.{choose, isSymbol, isKeyword, endsStatement, onT
 use Rattle.grammar.specs.Trees.{Formula, number, Variable, Item, semicolon, Statement, empty, assign, print, ifThen, ifElse, goto, gosub, return, for, next, nextOf, lineInput, end, stop, remark}
 use Rattle.grammar.specs.Formulas as formulas
 use Rattle.grammar.specs.Formulas.{Reading, good, after, quotedBytes, enough, formulaOf}
-use Rattle.statements.specs.Statements.{Begun, bad, done, choice, onFormula, variableOf, assignAt, Items, noItems, items, itemsAt, printed, printAt, ifAt, forAt, targetAt, inputAt, byWord, byMark, numberAt, byToken, begunAt}
+use Rattle.statements.specs.Statements.{Begun, bad, done, choice, onFormula, variableOf, assignAt, Items, noItems, items, itemsAt, printed, printAt, ifAt, forAt, targetAt, inputAt, byWord, ledByWord, ledBySign, ledByNumber, ledByToken, begunBy, begunAt}
 use Rattle.grammar.specs.bridge.Answers.{lineOf}
 use Rattle.statements.specs.bridge.Answers.{isQuoted, itemsOf}
 use Rattle.grammar.specs.declared.tests.NamedLine.the-variants.{Names}
@@ -248,17 +248,18 @@ module _ (s : List ℕ) (first : Bool) (t : Scanned) where
 
   -- ---- by the first token
 
-  number-seen : (token : Token) → t .token ≡ token → isKeyword Goto token ≡ false → S (numberAt s first token t)
-  number-seen token w k =
-      let p = past-none Goto s t (rw w k) in
-      if-so S tt first _ λ e.
-      by-line S token _ _ (λ l n r. record { bare = λ _. e; line = rw (p, w) n; next = rw p }) (λ n. tt)
+  number-seen : isKeyword Goto (t .token) ≡ false → S (begunBy s (ledByNumber first t))
+  number-seen k =
+      let p = past-none Goto s t k in
+      by-test first
+      (λ e. rw e (by-line (Seen s true t) (t .token) _ _ (λ l n r. record { bare = λ _. refl; line = rw p n; next = rw p }) (λ n. tt)))
+      (λ e. rw e tt)
 
   module _ {x : Word} (w : t .token ≡ Keyword x) where
     bare : Bare s t x (after s t)
     bare = record { word = w; next = refl }
 
-  word-seen : (x : Word) → t .token ≡ Keyword x → S (byWord s x t)
+  word-seen : (x : Word) → t .token ≡ Keyword x → S (begunBy s (ledByWord s x t))
   word-seen Let w = by-name S (after s t .token) _ _ (λ v f n. assign-seen (after s t) (past-word Let s t (rw w)) v n) (λ n. tt)
   word-seen Print w = print-seen (rw w)
   word-seen If w = if-seen w (formulaOf s (after s t)) refl
@@ -289,7 +290,7 @@ module _ (s : List ℕ) (first : Bool) (t : Scanned) where
   word-seen Read w = tt
   word-seen Restore w = tt
 
-  mark-seen : (x : Sign) → t .token ≡ Symbol x → S (byMark s x t)
+  mark-seen : (x : Sign) → t .token ≡ Symbol x → S (begunBy s (ledBySign s x t))
   mark-seen Open w = tt
   mark-seen Close w = tt
   mark-seen Comma w = tt
@@ -299,16 +300,16 @@ module _ (s : List ℕ) (first : Bool) (t : Scanned) where
   mark-seen Equal w = tt
   mark-seen Minus w = tt
 
-  token-seen : (token : Token) → t .token ≡ token → S (byToken s first token t)
+  token-seen : (token : Token) → t .token ≡ token → S (begunBy s (ledByToken s first token t))
   token-seen EndOfLine w = (rw w, refl)
   token-seen (Keyword x) w = word-seen x w
   token-seen Not w = tt
   token-seen (Infix op) w = tt
   token-seen (Call f) w = tt
-  token-seen (Named v) w = assign-seen t (past-none Let s t (rw w)) v w
-  token-seen (Number n) w = number-seen (Number n) w refl
+  token-seen (Named v) w = by-name S (t .token) _ _ (λ u f n. assign-seen t (past-none Let s t (rw w)) u n) (λ n. tt)
+  token-seen (Number n) w = number-seen (rw w)
   token-seen (Hexadecimal n) w = tt
-  token-seen (LineOnly l) w = number-seen (LineOnly l) w refl
+  token-seen (LineOnly l) w = number-seen (rw w)
   token-seen (Quoted q) w = tt
   token-seen (Symbol x) w = mark-seen x w
   token-seen Unreadable w = tt

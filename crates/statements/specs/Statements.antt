@@ -62,6 +62,8 @@ use Rattle.grammar.specs.Tests.{choose, isSymbol, isKeyword, endsStatement, end
 use Rattle.grammar.specs.Trees.{Formula, number, Variable, Item, comma, semicolon, shown, Statement, empty, assign, print, ifThen, ifElse, goto, gosub, return, for, next, nextOf, lineInput, end, stop, remark, Part, last, more}
 use Rattle.grammar.specs.Formulas as formulas
 use Rattle.grammar.specs.Formulas.{Reading, after, quotedBytes, enough, formulaOf}
+use Rattle.statements.specs.declared.leading.Lead.{Lead}
+use Rattle.statements.specs.declared.leading.Lead.the-variants.{By, Nothing}
 
 -- what a statement begins as: it does not read; it is done, and this token follows it; or it is an IF with this condition,
 -- whose part begins after this token
@@ -153,63 +155,78 @@ inputAt s t =
     (λ q. choose (isSymbol Semicolon (after s t .token)) (λ _. targetAt s (quotedBytes s q) (after s (after s t))) (λ _. bad))
     (targetAt s [] t)
 
--- a statement that begins with a word
+-- a statement by the word that leads it, from the token after that word on; an empty one is followed by what stands there
 abbrev pub byWord : List ℕ → Word → Scanned → Begun
-byWord s Let t = onName (after s t .token) (λ v. assignAt s (variableOf s v) (after s (after s t))) bad
-byWord s Print t = printAt s (after s t)
-byWord s If t = ifAt s (formulaOf s (after s t))
+byWord s Let t = onName (t .token) (λ v. assignAt s (variableOf s v) (after s t)) bad
+byWord s Print t = printAt s t
+byWord s If t = ifAt s (formulaOf s t)
 byWord s Then t = bad
 byWord s Else t = done empty t
-byWord s Goto t = onLine (after s t .token) (λ l. done (goto l) (after s (after s t))) bad
-byWord s Gosub t = onLine (after s t .token) (λ l. done (gosub l) (after s (after s t))) bad
-byWord s Return t = done return (after s t)
-byWord s For t = onName (after s t .token) (λ v. forAt s (variableOf s v) (after s (after s t))) bad
+byWord s Goto t = onLine (t .token) (λ l. done (goto l) (after s t)) bad
+byWord s Gosub t = onLine (t .token) (λ l. done (gosub l) (after s t)) bad
+byWord s Return t = done return t
+byWord s For t = onName (t .token) (λ v. forAt s (variableOf s v) (after s t)) bad
 byWord s To t = bad
 byWord s Step t = bad
-byWord s Next t = onName (after s t .token) (λ v. done (nextOf (variableOf s v)) (after s (after s t))) (done next (after s t))
-byWord s Line t = choose (isKeyword Input (after s t .token)) (λ _. inputAt s (after s (after s t))) (λ _. bad)
+byWord s Next t = onName (t .token) (λ v. done (nextOf (variableOf s v)) (after s t)) (done next t)
+byWord s Line t = choose (isKeyword Input (t .token)) (λ _. inputAt s (after s t)) (λ _. bad)
 byWord s Input t = bad
-byWord s End t = done end (after s t)
-byWord s Stop t = done stop (after s t)
-byWord s Rem t = done remark (after s t)
+byWord s End t = done end t
+byWord s Stop t = done stop t
+byWord s Rem t = done remark t
 byWord s While t = bad
 byWord s Wend t = bad
 byWord s Data t = bad
 byWord s Read t = bad
 byWord s Restore t = bad
 
--- a question mark is PRINT; before a colon stands an empty statement
-abbrev pub byMark : List ℕ → Sign → Scanned → Begun
-byMark s Open t = bad
-byMark s Close t = bad
-byMark s Comma t = bad
-byMark s Semicolon t = bad
-byMark s Colon t = done empty t
-byMark s Question t = printAt s (after s t)
-byMark s Equal t = bad
-byMark s Minus t = bad
+-- ---- how a statement is led: by its word, given or understood
+
+-- before ELSE stands an empty statement
+abbrev pub ledByWord : List ℕ → Word → Scanned → Lead
+ledByWord s w t = choose (isKeyword Else (Keyword w)) (λ _. By Else t) (λ _. By w (after s t))
+
+-- before a colon too; a question mark is PRINT
+abbrev pub ledBySign : List ℕ → Sign → Scanned → Lead
+ledBySign s Open t = Nothing
+ledBySign s Close t = Nothing
+ledBySign s Comma t = Nothing
+ledBySign s Semicolon t = Nothing
+ledBySign s Colon t = By Else t
+ledBySign s Question t = By Print (after s t)
+ledBySign s Equal t = Nothing
+ledBySign s Minus t = Nothing
 
 -- a line number at the start of a part is a GOTO statement
-abbrev pub numberAt : List ℕ → Bool → Token → Scanned → Begun
-numberAt s first token t = choose first (λ _. onLine token (λ l. done (goto l) (after s t)) bad) (λ _. bad)
+abbrev pub ledByNumber : Bool → Scanned → Lead
+ledByNumber first t = choose first (λ _. By Goto t) (λ _. Nothing)
 
-abbrev pub byToken : List ℕ → Bool → Token → Scanned → Begun
-byToken s first EndOfLine t = done empty t
-byToken s first (Keyword w) t = byWord s w t
-byToken s first Not t = bad
-byToken s first (Infix op) t = bad
-byToken s first (Call f) t = bad
-byToken s first (Named v) t = assignAt s (variableOf s v) (after s t)
-byToken s first (Number n) t = numberAt s first (Number n) t
-byToken s first (Hexadecimal n) t = bad
-byToken s first (LineOnly l) t = numberAt s first (LineOnly l) t
-byToken s first (Quoted q) t = bad
-byToken s first (Symbol sign) t = byMark s sign t
-byToken s first Unreadable t = bad
+-- LET may be left out
+abbrev pub ledByToken : List ℕ → Bool → Token → Scanned → Lead
+ledByToken s first EndOfLine t = By Else t
+ledByToken s first (Keyword w) t = ledByWord s w t
+ledByToken s first Not t = Nothing
+ledByToken s first (Infix op) t = Nothing
+ledByToken s first (Call f) t = Nothing
+ledByToken s first (Named v) t = By Let t
+ledByToken s first (Number n) t = ledByNumber first t
+ledByToken s first (Hexadecimal n) t = Nothing
+ledByToken s first (LineOnly l) t = ledByNumber first t
+ledByToken s first (Quoted q) t = Nothing
+ledByToken s first (Symbol sign) t = ledBySign s sign t
+ledByToken s first Unreadable t = Nothing
 
--- the statement at a place; `first` says that it is the first of a part of an IF
+-- `first` says that the statement is the first of a part of an IF
+abbrev pub leadOf : List ℕ → Bool → Scanned → Lead
+leadOf s first t = ledByToken s first (t .token) t
+
+abbrev pub begunBy : List ℕ → Lead → Begun
+begunBy s (By w t) = byWord s w t
+begunBy s Nothing = bad
+
+-- the statement at a place
 unfoldable pub begunAt : List ℕ → Bool → ℕ → Begun
-begunAt s first p = byToken s first (tokenAt s (place p) .token) (tokenAt s (place p))
+begunAt s first p = begunBy s (leadOf s first (tokenAt s (place p)))
 
 -- ---- parts
 

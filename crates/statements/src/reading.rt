@@ -7,11 +7,13 @@ ghost use Rattle.grammar.specs.Tests.{choose, isSymbol, isKeyword, endsStatemen
 ghost use Rattle.grammar.specs.Trees.{Formula, Variable, goto, next, nextOf};
 ghost use Rattle.grammar.specs.Formulas.{Reading, good, after, formulaOf};
 ghost use Rattle.expressions.specs.Types.{sortOf, depthOf};
-ghost use Rattle.statements.specs.Statements.{bad, done, choice, onFormula, variableOf, assignAt, isSeparator, printAt, ifAt, stepAt, limitAt, forAt, targetAt, inputAt, byWord, byMark, numberAt, begunAt};
+ghost use Rattle.statements.specs.Statements.{bad, done, choice, onFormula, variableOf, assignAt, isSeparator, printAt, ifAt, stepAt, limitAt, forAt, targetAt, inputAt, byWord, begunBy, begunAt};
 ghost use Rattle.expressions.specs.Types.{isWhole};
 ghost use Rattle.statements.specs.Parts.{isNumber};
 ghost use Rattle.expressions.specs.bridge.Answers.{cappedDepth};
 ghost use Rattle.statements.specs.bridge.Answers.{nameOf, isQuoted, formedRead, begunAnswer, boundOf};
+use crate::leading::Lead;
+use crate::leading::lead_at;
 use expressions::FormulaRead;
 use expressions::Sort;
 use expressions::formula_at;
@@ -403,33 +405,30 @@ fn target(line: &[u8], ahead: Scanned) -> StatementRead
     }
 }
 
-// A statement that begins with a word.
-fn by_word(line: &[u8], word: Word, ahead: Scanned) -> StatementRead
-    ensures { λ r. ⌜ r ≡ begunAnswer (byWord (now (line .entry)) word ahead) ⌝ }
+// A statement by the word that leads it, from the token after that word on.
+fn by_word(line: &[u8], word: Word, from: Scanned) -> StatementRead
+    ensures { λ r. ⌜ r ≡ begunAnswer (byWord (now (line .entry)) word from) ⌝ }
 {
-    let next = token_after(line, ahead);
     match word {
-        Word::Let => assignment_to(line, next),
-        Word::Print => print(line, next),
-        Word::If => condition(line, next),
-        Word::Else => plain(ahead),
-        Word::Goto | Word::Gosub => jump(line, next),
-        Word::For => loop_head(line, next),
-        Word::Next => loop_end(line, next),
-        Word::Line => line_input(line, next),
-        Word::Return | Word::End | Word::Stop | Word::Rem => plain(next),
+        Word::Let => assignment_to(line, from),
+        Word::Print => print(line, from),
+        Word::If => condition(line, from),
+        Word::Goto | Word::Gosub => jump(line, from),
+        Word::For => loop_head(line, from),
+        Word::Next => loop_end(line, from),
+        Word::Line => line_input(line, from),
+        Word::Else | Word::Return | Word::End | Word::Stop | Word::Rem => plain(from),
         _ => StatementRead::Bad,
     }
 }
 
-// A question mark is PRINT; before a colon stands an empty statement.
-fn by_mark(line: &[u8], sign: Sign, ahead: Scanned) -> StatementRead
-    ensures { λ r. ⌜ r ≡ begunAnswer (byMark (now (line .entry)) sign ahead) ⌝ }
+// The statement that is led so.
+pub fn statement_led(line: &[u8], lead: Lead) -> StatementRead
+    ensures { λ r. ⌜ r ≡ begunAnswer (begunBy (now (line .entry)) lead) ⌝ }
 {
-    match sign {
-        Sign::Colon => plain(ahead),
-        Sign::Question => print(line, token_after(line, ahead)),
-        _ => StatementRead::Bad,
+    match lead {
+        Lead::By(word, from) => by_word(line, word, from),
+        Lead::Nothing => StatementRead::Bad,
     }
 }
 
@@ -437,24 +436,5 @@ fn by_mark(line: &[u8], sign: Sign, ahead: Scanned) -> StatementRead
 pub fn statement_at(line: &[u8], at: Place, first: bool) -> StatementRead
     ensures { λ r. ⌜ r ≡ begunAnswer (begunAt (now (line .entry)) first (at .0)) ⌝ }
 {
-    let ahead = token_at(line, at);
-    let token = ahead.token;
-    match token {
-        Token::EndOfLine => plain(ahead),
-        Token::Keyword(word) => by_word(line, word, ahead),
-        Token::Named(_) => assignment_to(line, ahead),
-        Token::Symbol(sign) => by_mark(line, sign, ahead),
-        _ => numbered(line, first, ahead),
-    }
-}
-
-// What begins in no other way is a line number, where that may stand, or does not read.
-fn numbered(line: &[u8], first: bool, ahead: Scanned) -> StatementRead
-    ensures { λ r. ⌜ r ≡ begunAnswer (numberAt (now (line .entry)) first (ahead .token) ahead) ⌝ }
-{
-    if first {
-        jump(line, ahead)
-    } else {
-        StatementRead::Bad
-    }
+    statement_led(line, lead_at(line, at, first))
 }

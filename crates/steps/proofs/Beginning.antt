@@ -12,7 +12,7 @@ use Rattle.grammar.specs.Formulas.{after, formulaOf}
 use Rattle.statements.specs.Statements.{printAt, ifAt}
 use Rattle.turns.specs.bridge.Turns.{Formed}
 use Rattle.turns.specs.bridge.Doing.{Begins}
-use Rattle.machine.proofs.Beginning.{if-so, by-items, by-condition, by-input}
+use Rattle.statements.proofs.Ways.{if-so, by-items, by-condition, by-input}
 use Rattle.dialogue.specs.bridge.Showing.{Itemed}
 use Rattle.dialogue.specs.bridge.Asking.{Asks}
 use Rattle.steps.specs.bridge.Doing.{lineAt}

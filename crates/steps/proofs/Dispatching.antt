@@ -70,7 +70,7 @@ use Rattle.statements.proofs.Firsts.{true-part}
 use Rattle.turns.specs.Steps.{doStatement}
 use Rattle.turns.specs.bridge.Turns.{turnedTo, afterOf, Turns, anyRecords, Told, Standing}
 use Rattle.turns.specs.bridge.Doing.{Begins, Does}
-use Rattle.machine.proofs.Beginning.{if-so, by-items, by-condition, by-input}
+use Rattle.statements.proofs.Ways.{if-so, by-items, by-condition, by-input}
 use Rattle.turns.proofs.Doing.{any-told, goes-turn}
 use Rattle.machine.proofs.Tokens.{wordTag}
 use Rattle.steps.specs.bridge.Doing.{lineAt, ledBy, ReadsAs, LeadAs}

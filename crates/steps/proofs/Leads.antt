@@ -53,7 +53,7 @@ use Rattle.scanner.specs.Tokens.{tokenAt}
 use Rattle.grammar.specs.Formulas.{after}
 use Rattle.grammar.specs.Trees.{empty}
 use Rattle.statements.specs.Statements.{Begun, bad, done, choice, byWord, byMark, byToken}
-use Rattle.machine.proofs.Beginning.{begun-token}
+use Rattle.statements.proofs.Ways.{begun-token}
 use Rattle.machine.proofs.Tokens.{tokenTag, wordTag}
 use Rattle.steps.specs.bridge.Doing.{ledBy, ReadsAs, LeadAs}
 

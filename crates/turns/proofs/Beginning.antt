@@ -13,7 +13,7 @@ use Rattle.grammar.specs.bridge.Answers.{lineOf}
 use Rattle.grammar.specs.declared.tests.NamedLine.the-variants.{Names, NoLine}
 use Rattle.statements.specs.Statements.{Begun, assignAt}
 use Rattle.statements.proofs.Findings.{by-line}
-use Rattle.machine.proofs.Beginning.{by-assign}
+use Rattle.statements.proofs.Ways.{by-assign}
 use Rattle.turns.specs.bridge.Turns.{Formed}
 use Rattle.turns.specs.bridge.Doing.{Begins}
 

@@ -21,7 +21,7 @@ use Rattle.turns.specs.Steps as step
 use Rattle.turns.specs.Steps.{goesOn, ends, stops, fails, doStatement}
 use Rattle.turns.specs.bridge.Turns.{turnedTo, afterOf, Turns, anyRecords}
 use Rattle.turns.specs.bridge.Doing.{Does, setAt}
-use Rattle.machine.proofs.Beginning.{by-assign}
+use Rattle.statements.proofs.Ways.{by-assign}
 use Rattle.turns.proofs.Keeping.{leaves-unprinted}
 use Rattle.turns.proofs.Leading.{leads-self, turns-fails, turns-on, turns-ends, turns-stops}
 

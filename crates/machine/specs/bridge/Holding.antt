@@ -16,7 +16,7 @@ use Rattle.variables.specs.Variables.{Variables}
 use Rattle.variables.specs.bridge.Memory.{numbersHeld, stringsHeld, TidyNumbers, TidyStrings}
 use Rattle.variables.specs.Tables.{sumOf, emptyTables}
 use Rattle.machine.specs.Machine as spec
-use Rattle.machine.specs.Machine.{loop, call, columnAfter, mostRecords}
+use Rattle.machine.specs.Machine.{loop, call, mostRecords, columnAfter}
 use Rattle.statements.specs.Parts.{Rest, nothing, part}
 use Rattle.machine.specs.declared.state.Machine.{Machine}
 use Rattle.machine.specs.declared.state.Printer.{Printer}

@@ -1,25 +1,26 @@
 -- Bridge: how the code's spots stand to the statements of a text. Contracts between crates cite it; no demand and no promise of `run`,
 -- `check_recipe` or `ask` rests on it: `Order` says which statements there are.
 use mathlib.Core.Path.{_≡_}
-use mathlib.Core.Bool.{Bool, true, false, cond, not}
+use mathlib.Core.Bool.{Bool, true, cond, not}
 use mathlib.Core.List.{List, [], _∷_, _++_}
 use Prim.Native.Nat.{ℕ, zero, suc, _+_, _-_, _*_}
-use lib.Dec.{eqb}
 use lib.ListN.{length}
 use Rattle.words.specs.Places.{place}
 use Rattle.words.specs.declared.places.Place.{Place}
 use Rattle.words.specs.declared.symbols.Sign.the-variants.{Colon}
-use Rattle.words.specs.declared.symbols.Token.{Token}
+use Rattle.words.specs.declared.symbols.Token.the-variants.{Keyword}
 use Rattle.words.specs.declared.symbols.Word.{Word}
-use Rattle.words.specs.declared.symbols.Word.the-variants.{Let, Print, Goto, Else}
 use Rattle.scanner.specs.Tokens.{tokenAt}
 use Rattle.loader.specs.Lines.{Line, linesOf, lineAt, nextLine}
 use Rattle.loader.specs.Loading.{loadOf}
 use Rattle.loader.specs.declared.lines.LineFound.the-variants.{Is}
 use Rattle.loader.specs.declared.loading.Loaded.the-variants.{Fine}
 use Rattle.expressions.specs.bridge.Answers.{weight}
-use Rattle.grammar.specs.Tests.{wordRank, isSymbol, isKeyword}
+use Rattle.grammar.specs.Tests.{isSymbol, isKeyword}
 use Rattle.grammar.specs.Trees.{Part}
+use Rattle.statements.specs.Statements.{leadOf}
+use Rattle.statements.specs.declared.leading.Lead.{Lead}
+use Rattle.statements.specs.declared.leading.Lead.the-variants.{By, Nothing}
 use Rattle.statements.specs.declared.reading.StatementRead.{StatementRead}
 use Rattle.statements.specs.declared.reading.StatementRead.the-variants as statement
 use Rattle.reader.specs.Lines.{holds, judgement}
@@ -73,6 +74,10 @@ pub record Ahead (text : List ℕ) (spot : Spot) (xs : List Stand) : Type 0 wher
   pub onto : Onto (bodyOf (linesFrom text spot)) (spot .at .0) parts
   pub all : xs ≡ placed (linesFrom text spot) parts ++ stands (nextLine (linesFrom text spot))
 
+-- how that statement is led
+abbrev pub leadAt : List ℕ → Spot → Lead
+leadAt text spot = leadOf (bodyOf (linesFrom text spot)) true (tokenAt (bodyOf (linesFrom text spot)) (spot .at))
+
 -- a statement stands there
 pub record Spotted (text : List ℕ) (spot : Spot) : Type 0 where
   pub xs : List Stand
@@ -111,9 +116,10 @@ pastRead line (statement.Choice own) = record { line = line; at = line; over = t
 
 -- ---- partners
 
--- by the word that a statement begins with
-abbrev pub markedBy : Word → Word → Token → Bracket
-markedBy first second t = cond (isKeyword first t) Opens (cond (isKeyword second t) Closes Neither)
+-- by the word that leads a statement
+abbrev pub markedBy : Word → Word → Lead → Bracket
+markedBy first second Nothing = Neither
+markedBy first second (By w t) = cond (isKeyword first (Keyword w)) Opens (cond (isKeyword second (Keyword w)) Closes Neither)
 
 -- how many wait after a statement; or it is the partner
 abbrev pub countedBy : Bracket → ℕ → Waiting
@@ -121,12 +127,6 @@ countedBy Opens k = Still (k + 1)
 countedBy Closes zero = Here
 countedBy Closes (suc k) = Still k
 countedBy Neither k = Still k
-
--- a word that a statement which it leads begins with: not one that may be left out, or that leads an empty statement
-abbrev pub Spoken : Word → Type 0
-Spoken w =
-    (eqb (wordRank Let) (wordRank w) ≡ false)
-    × ((eqb (wordRank Print) (wordRank w) ≡ false) × ((eqb (wordRank Goto) (wordRank w) ≡ false) × (eqb (wordRank Else) (wordRank w) ≡ false)))
 
 -- the statement at a spot, as the text has it from there on
 pub record StandsAs (text : List ℕ) (spot : Spot) (x : Stand) : Type 0 where

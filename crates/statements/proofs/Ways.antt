@@ -1,22 +1,20 @@
--- How a statement that reads begins, as what holds of each way that it can: a formula, the items of a PRINT, a FOR, a LINE INPUT.
-use mathlib.Core.Path.{_≡_, refl, ap}
+-- The ways that a statement can begin: what holds of each way holds of what begins so. A formula, the items of a PRINT, a FOR, a LINE
+-- INPUT.
+use mathlib.Core.Path.{_≡_, refl}
 use mathlib.Core.Bool.{Bool, true, false}
 use mathlib.Core.List.{List, []}
 use Prim.Native.Nat.{ℕ}
-use Rattle.words.specs.declared.places.Place.{Place}
 use Rattle.words.specs.declared.symbols.Scanned.{Scanned}
-use Rattle.words.specs.declared.symbols.Token.{Token}
 use Rattle.words.specs.declared.symbols.Sign.the-variants.{Semicolon, Equal}
 use Rattle.words.specs.declared.symbols.Word.the-variants.{Then, Goto, To, Step}
 use Rattle.words.proofs.Choices.{by-test}
-use Rattle.scanner.specs.Tokens.{tokenAt}
 use Rattle.grammar.specs.Tests.{choose, isSymbol, isKeyword}
 use Rattle.grammar.specs.Trees.{Formula, number, Variable, Item, assign, print, for, lineInput}
 use Rattle.grammar.specs.Formulas as formulas
 use Rattle.grammar.specs.Formulas.{Reading, good, after, enough, formulaOf}
-use Rattle.statements.specs.Statements.{Begun, bad, done, choice, onFormula, variableOf, assignAt, Items, noItems, items, itemsAt, printed, printAt, ifAt, forAt, targetAt, inputAt, byToken, begunAt}
+use Rattle.statements.specs.Statements.{Begun, bad, done, choice, onFormula, variableOf, assignAt, Items, noItems, items, itemsAt, printed, printAt, ifAt, forAt, targetAt, inputAt}
 use Rattle.statements.specs.bridge.Answers.{itemsOf}
 use Rattle.statements.proofs.Findings.{by-name, by-line, by-text}
 
 -- ---- what holds of each way, and where nothing reads, holds
 
@@ -81,9 +79,3 @@ module _ (P : Begun → Type 0) (none : P bad) (s : List ℕ) (t : Scanned) wher
   pub by-input : ((text : List ℕ) (v : Variable) (u : Scanned) → inputAt s t ≡ done (lineInput text v) u → P (done (lineInput text v) u))
       → P (inputAt s t)
   by-input h = input-done (λ b. inputAt s t ≡ b → P b) (λ e. none) s t h refl
-
--- by its first token
-pub begun-token : (line : List ℕ) (at : Place) {t : Scanned} {x : Token} → t ≡ tokenAt line at → t .token ≡ x
-    → begunAt line true (at .0) ≡ byToken line true x t
-unfolding begunAt
-begun-token line at {t} e w = rw (← e) (ap (λ x. byToken line true x t) w)
