@@ -14,7 +14,8 @@ use Rattle.grammar.specs.Trees as tree
 use Rattle.grammar.specs.Formulas.{after}
 use Rattle.grammar.specs.bridge.Answers.{lineOf}
 use Rattle.grammar.specs.declared.tests.NamedLine.the-variants.{Names}
-use Rattle.statements.specs.Statements.{Begun, bad, done, variableOf, forAt}
+use Rattle.words.specs.declared.symbols.Word.the-variants.{For, Goto, Gosub}
+use Rattle.statements.specs.Statements.{Begun, bad, done, variableOf, forAt, byWord}
 use Rattle.machine.specs.Machine as spec
 use Rattle.machine.specs.bridge.Holding.{positionOf, Positioned, Sound}
 use Rattle.machine.specs.bridge.Wanted as sought
@@ -25,7 +26,7 @@ use Rattle.machine.specs.declared.records.Record.{Record}
 use Rattle.machine.specs.declared.records.Found.{Found}
 use Rattle.turns.specs.Steps.{nextOn, doStatement}
 use Rattle.turns.specs.bridge.Turns.{turnedTo, afterOf, Turns, anyRecords, Told}
-use Rattle.turns.specs.bridge.Doing.{Begins, Does, loopAt, jumpAt, callAt}
+use Rattle.turns.specs.bridge.Doing.{Begins, Does}
 use Rattle.statements.proofs.Ways.{by-for}
 use Rattle.turns.proofs.Beginning.{on-line}
 use Rattle.turns.proofs.Doing.{any-told, fails-turn}
@@ -59,16 +60,16 @@ module _ (text line : List ℕ) (here : Place) (at : ℕ) (m : Machine) (found :
       → forAt line (variableOf line name) (after line t) ≡ done (tree.for (variableOf line name) a b c) u
       → Turns text m input space room (Told (sought.LoopOf (variableOf line name .telling)) (m .depth) found entry)
       (λ n. doStatement text at (tree.for (variableOf line name) a b c) n (positionOf text (afterOf here u))) r space′ room′)
-      → D (loopAt line t)
+      → D (byWord line For t)
   loop-does t name w h = rw w (by-for D tt line (after line t) (variableOf line name) (λ a b c u e p. h a b c u p e))
 
   pub jump-does : (t : Scanned) (l : LineNumber) → lineOf (t .token) ≡ Names l
       → ((after : spec.Position) → Turns text m input space room anyRecords (λ n. doStatement text at (tree.goto l) n after) r space′ room′)
-      → D (jumpAt line t)
+      → D (byWord line Goto t)
   jump-does t l e h = rw (on-line (t .token) (λ l. done (tree.goto l) (after line t)) bad e) (λ p. any-told (h (positionOf text (afterOf here (after line t)))))
 
   pub call-does : (t : Scanned) (l : LineNumber) → lineOf (t .token) ≡ Names l
       → (Positioned text (afterOf here (after line t)) → Turns text m input space room anyRecords
       (λ n. doStatement text at (tree.gosub l) n (positionOf text (afterOf here (after line t)))) r space′ room′)
-      → D (callAt line t)
+      → D (byWord line Gosub t)
   call-does t l e h = rw (on-line (t .token) (λ l. done (tree.gosub l) (after line t)) bad e) (λ p. any-told (h p))

@@ -4,7 +4,9 @@ ghost use Prim.Native.Nat.{ℕ, _≤_};
 ghost use lib.ListN.{length};
 ghost use Rattle.machine.specs.bridge.Holding.{Settled, Sound};
 ghost use Rattle.turns.specs.bridge.Turns.{FoundBelow};
-ghost use Rattle.turns.specs.bridge.Doing.{Begins, Does, loopAt, nextAt, jumpAt, callAt};
+ghost use Rattle.words.specs.declared.symbols.Word.the-variants as led;
+ghost use Rattle.statements.specs.Statements.{byWord};
+ghost use Rattle.turns.specs.bridge.Doing.{Begins, Does};
 use crate::jumping::gosub;
 use crate::jumping::goto;
 use crate::looping::for_loop;
@@ -32,10 +34,10 @@ pub fn count(
     found: Found,
     space: &mut [u8],
 ) -> Turned
-    requires { ⌜ Begins (loopAt (now line) target) × ((length (now line) ≤ 255) × (Settled machine (now space) × FoundBelow (machine .depth) found)) ⌝ }
+    requires { ⌜ Begins (byWord (now line) led.For target) × ((length (now line) ≤ 255) × (Settled machine (now space) × FoundBelow (machine .depth) found)) ⌝ }
     ensures { λ r. ⌜
         ((text input room : List ℕ) (at : ℕ) (entry : Record) → Sound machine input (now (space .entry)) room
-        → Does text (now (line .entry)) here at machine found entry input (now (space .entry)) room r (now (space .exit)) room (loopAt (now (line .entry)) target))
+        → Does text (now (line .entry)) here at machine found entry input (now (space .entry)) room r (now (space .exit)) room (byWord (now (line .entry)) led.For target))
         ⌝ }
 {
     let token = target.token;
@@ -58,7 +60,7 @@ pub fn next_loop(
     requires { ⌜ FoundBelow (machine .depth) found ⌝ }
     ensures { λ r. ⌜
         ((text input space room : List ℕ) (at : ℕ) → Sound machine input space room
-        → Does text (now (line .entry)) here at machine found entry input space room r space room (nextAt (now (line .entry)) target))
+        → Does text (now (line .entry)) here at machine found entry input space room r space room (byWord (now (line .entry)) led.Next target))
         ⌝ }
 {
     let token = target.token;
@@ -77,7 +79,7 @@ pub fn next_loop(
 pub fn jump(text: &[u8], target: Scanned, machine: Machine) -> Turned
     ensures { λ r. ⌜
         ((line input space room : List ℕ) (here : Place) (at : ℕ) (found : Found) (entry : Record) → Sound machine input space room
-        → Does (now (text .entry)) line here at machine found entry input space room r space room (jumpAt line target))
+        → Does (now (text .entry)) line here at machine found entry input space room r space room (byWord line led.Goto target))
         ⌝ }
 {
     let token = target.token;
@@ -90,7 +92,7 @@ pub fn jump(text: &[u8], target: Scanned, machine: Machine) -> Turned
 pub fn call(text: &[u8], line: &[u8], here: Place, target: Scanned, machine: Machine) -> Turned
     ensures { λ r. ⌜
         ((input space room : List ℕ) (at : ℕ) (found : Found) (entry : Record) → Sound machine input space room
-        → Does (now (text .entry)) (now (line .entry)) here at machine found entry input space room r space room (callAt (now (line .entry)) target))
+        → Does (now (text .entry)) (now (line .entry)) here at machine found entry input space room r space room (byWord (now (line .entry)) led.Gosub target))
         ⌝ }
 {
     let token = target.token;

@@ -31,6 +31,7 @@ use machine::sought_record;
 use machine::with_record;
 use reader::Judged;
 use reader::judge;
+use statements::lead_at;
 use steps::do_statement;
 use variables::Tables;
 use variables::clean_up;
@@ -146,7 +147,8 @@ fn turn(
     let from = span.body.0;
     let end = span.end.0;
     let line = &text[from..end];
-    let sought = sought_record(line, at);
+    let lead = lead_at(line, at, true);
+    let sought = sought_record(line, lead);
     let found = find_record(stack, machine.depth, sought);
     let entry = found_record(stack, found);
     let mut begun = machine;
@@ -156,6 +158,7 @@ fn turn(
         line,
         here,
         at,
+        lead,
         begun,
         found,
         entry,

@@ -5,17 +5,16 @@ use Prim.Native.Nat.{ℕ, _≤_}
 use lib.ListN.{length}
 use Rattle.words.specs.declared.places.Place.{Place}
 use Rattle.words.specs.declared.symbols.Scanned.{Scanned}
-use Rattle.words.specs.declared.symbols.Word.the-variants.{Input}
+use Rattle.words.specs.declared.symbols.Word.the-variants.{Line, Input}
 use Rattle.scanner.specs.Tokens.{tokenAt}
 use Rattle.grammar.specs.Tests.{isKeyword}
 use Rattle.grammar.specs.Formulas.{after, formulaOf}
-use Rattle.statements.specs.Statements.{printAt, ifAt}
+use Rattle.statements.specs.Statements.{printAt, ifAt, byWord}
 use Rattle.turns.specs.bridge.Turns.{Formed}
 use Rattle.turns.specs.bridge.Doing.{Begins}
 use Rattle.statements.proofs.Ways.{if-so, by-items, by-condition, by-input}
 use Rattle.dialogue.specs.bridge.Showing.{Itemed}
 use Rattle.dialogue.specs.bridge.Asking.{Asks}
-use Rattle.steps.specs.bridge.Doing.{lineAt}
 
 module _ (s : List ℕ) (short : length s ≤ 255) (q : Place) {t : Scanned} (scanned : t ≡ tokenAt s q) where
   pub print-itemed : Begins (printAt s t) → Itemed s t
@@ -32,7 +31,7 @@ module _ (s : List ℕ) (short : length s ≤ 255) (w : Scanned) where
   abbrev after-input : Scanned
   after-input = after s w
 
-  pub input-asks : Begins (lineAt s w) → Asks s after-input
+  pub input-asks : Begins (byWord s Line w) → Asks s after-input
   input-asks =
       if-so (λ b. Begins b → Asks s after-input) (λ x. absurd x) (isKeyword Input (w .token)) _
       (by-input (λ b. Begins b → Asks s after-input) (λ x. absurd x) s after-input

@@ -1,5 +1,5 @@
 -- What a part's first statement does, by how it begins.
-use mathlib.Core.Path.{_≡_, refl, sym, subst, _∙_}
+use mathlib.Core.Path.{_≡_, refl, sym, ap, _∙_}
 use mathlib.Core.Bool.{Bool, true, false, false≢true}
 use mathlib.Core.List.{List, _∷_, []}
 use Prim.Native.Nat.{ℕ}
@@ -7,7 +7,9 @@ use native.Mathlib.Omega.{arith}
 use types.Run.{OneOf, miss}
 use Rattle.words.specs.declared.places.Place.{Place}
 use Rattle.words.specs.declared.symbols.Scanned.{Scanned}
-use Rattle.words.specs.declared.symbols.Sign.the-variants.{Colon}
+use Rattle.words.specs.Places.{place}
+use Rattle.words.specs.declared.symbols.Sign.{Sign}
+use Rattle.words.specs.declared.symbols.Sign.the-variants.{Open, Close, Comma, Semicolon, Colon, Question, Equal, Minus}
 use Rattle.words.specs.declared.symbols.Token.{Token}
 use Rattle.words.specs.declared.symbols.Token.the-variants.{
   EndOfLine,
@@ -49,11 +51,12 @@ use Rattle.words.specs.declared.symbols.Word.the-variants.{
   Restore,
 }
 use Rattle.words.proofs.Choices.{by-test}
+use Rattle.scanner.specs.Tokens.{tokenAt}
 use Rattle.grammar.specs.Tests.{isSymbol, isKeyword, endsStatement}
 use Rattle.grammar.specs.Trees as tree
 use Rattle.grammar.specs.Trees.{Part, last, more}
 use Rattle.grammar.specs.Formulas.{good, after, formulaOf}
-use Rattle.statements.specs.Statements.{Begun, bad, done, choice, items, printAt, ifAt, inputAt, begunAt, PartReading, goodPart, partOf}
+use Rattle.statements.specs.Statements.{Begun, bad, done, choice, items, printAt, ifAt, inputAt, byWord, ledBySign, ledByToken, leadOf, begunBy, begunAt, PartReading, goodPart, partOf}
 use Rattle.statements.specs.bridge.Answers.{itemsOf}
 use Rattle.statements.proofs.Parts.{partBy, unrolled}
 use Rattle.statements.proofs.Views.{Final, plain, thens, elses, more-view, final-view}
@@ -73,8 +76,8 @@ use Rattle.turns.specs.bridge.Doing.{Begins, Does}
 use Rattle.statements.proofs.Ways.{if-so, by-items, by-condition, by-input}
 use Rattle.turns.proofs.Doing.{any-told, goes-turn}
 use Rattle.machine.proofs.Tokens.{wordTag}
-use Rattle.steps.specs.bridge.Doing.{lineAt, ledBy, ReadsAs, LeadAs}
-use Rattle.steps.specs.declared.leading.Lead.{Lead}
+use Rattle.statements.specs.declared.leading.Lead.{Lead}
+use Rattle.statements.specs.declared.leading.Lead.the-variants.{By, Nothing}
 
 -- ---- what is left of a part after its first statement, which a token ends
 
@@ -126,19 +129,63 @@ begins-by p go (done x t) e =
     let h = rw (c, f) at e in let y : _≡_ {A = ℕ} 0 1 = cc in absurd (omega arith)
 begins-by p go (choice c t) e = tt
 
+-- a token of a line, wherever it stands
+pub record From (line : List ℕ) (t : Scanned) : Type 0 where
+  pub place : Place
+  pub is : t ≡ tokenAt line place
+
+abbrev FromLead : List ℕ → Lead → Type 0
+FromLead line (By w t) = From line t
+FromLead line Nothing = Unit {0}
+
+module _ (line : List ℕ) (first : Bool) where
+  from-token : (token : Token) (q : Place) → FromLead line (ledByToken line first token (tokenAt line q))
+  from-token EndOfLine q = record { place = q; is = refl }
+  from-token (Keyword w) q =
+      by-test (isKeyword Else (Keyword w)) (λ e. rw e (record { place = q; is = refl })) (λ e. rw e (record { place = tokenAt line q .next; is = refl }))
+  from-token Not q = tt
+  from-token (Infix op) q = tt
+  from-token (Call f) q = tt
+  from-token (Named v) q = record { place = q; is = refl }
+  from-token (Number n) q = by-test first (λ e. rw e (record { place = q; is = refl })) (λ e. rw e tt)
+  from-token (Hexadecimal n) q = tt
+  from-token (LineOnly l) q = by-test first (λ e. rw e (record { place = q; is = refl })) (λ e. rw e tt)
+  from-token (Quoted s) q = tt
+  from-token (Symbol x) q = from-sign x
+    where
+      from-sign : (x : Sign) → FromLead line (ledBySign line x (tokenAt line q))
+      from-sign Open = tt
+      from-sign Close = tt
+      from-sign Comma = tt
+      from-sign Semicolon = tt
+      from-sign Colon = record { place = q; is = refl }
+      from-sign Question = record { place = tokenAt line q .next; is = refl }
+      from-sign Equal = tt
+      from-sign Minus = tt
+  from-token Unreadable q = tt
+
 -- its first statement does
 part-begins : {line : List ℕ} {at : ℕ} → Parted line at → Begins (begunAt line true at)
 part-begins {line} {at} p =
     begins-by at (partOf line) (begunAt line true at) (sym (unrolled line true at) ∙ p .is)
 
--- and so does what it is led by
-pub lead-begins : {line : List ℕ} {at : ℕ} {l : Lead} → LeadAs line at l → Parted line at → Begins (ledBy line (l .word) (l .from))
-lead-begins {line} {at} l p = go (begunAt line true at) _ (l .reads) (part-begins p)
-  where
-    go : (b b′ : Begun) → ReadsAs b b′ → Begins b → Begins b′
-    go bad b′ e h = absurd h
-    go (done x u) b′ e h = subst Begins e h
-    go (choice c u) b′ e h = subst Begins e h
+-- how it is led
+module _ {line : List ℕ} {at : ℕ} {l : Lead} (is : l ≡ leadOf line true (tokenAt line (place at))) where
+  lead-there : begunAt line true at ≡ begunBy line l
+  unfolding begunAt
+  lead-there = ap (begunBy line) (sym is)
+
+  -- by a word, from a token of the line on
+  module _ {w : Word} {t : Scanned} (by : l ≡ By w t) where
+    pub lead-begins : Parted line at → Begins (byWord line w t)
+    lead-begins p = rw (lead-there, by) at (part-begins p)
+
+    pub lead-from : From line t
+    lead-from = rw (sym is ∙ by) at (from-token line true (tokenAt line (place at) .token) (place at))
+
+  -- not by nothing
+  pub lead-reads : {A : Type 0} → l ≡ Nothing → Parted line at → A
+  lead-reads by p = absurd (rw (lead-there, by) at (part-begins p))
 
 module _ (text line : List ℕ) (here : Place) (at : ℕ) (m : Machine) (found : Found) (entry : Record) (input space room : List ℕ) (r : Turned)
     (space′ room′ : List ℕ) where
@@ -168,15 +215,10 @@ module _ (text line : List ℕ) (here : Place) (at : ℕ) (m : Machine) (found :
       let a = after-colon st (f .end) (f .colon) (f .goes) in
       rw (f .at) (rw (a .is) at ((rw (f .begun) at d) (a .placed)))
 
-  reads-does : (b b′ : Begun) → ReadsAs b b′ → D b′ → D b
-  reads-does bad b′ e d = tt
-  reads-does (done x u) b′ e d = subst D (sym e) d
-  reads-does (choice c u) b′ e d = subst D (sym e) d
-
   -- what its first statement does is what the definition does of it
-  pub lead-does : Standing text line here → {l : Lead} → LeadAs line at l → D (ledBy line (l .word) (l .from))
-      → (p : Part) (end : Scanned) → partOf line true at ≡ goodPart p end → TurnsAs p
-  lead-does st l d p end i = part-does st p end i (reads-does (begunAt line true at) _ (l .reads) d)
+  pub lead-does : Standing text line here → {l : Lead} → l ≡ leadOf line true (tokenAt line (place at)) → {w : Word} {t : Scanned} → l ≡ By w t
+      → D (byWord line w t) → (p : Part) (end : Scanned) → partOf line true at ≡ goodPart p end → TurnsAs p
+  lead-does st is by d p end i = part-does st p end i (rw (lead-there is, by) d)
 
   pub print-does : (t : Scanned)
       → ((is : List tree.Item) (u : Scanned) → Positioned text (afterOf here u) → itemsOf line t ≡ items is u
@@ -199,7 +241,7 @@ module _ (text line : List ℕ) (here : Place) (at : ℕ) (m : Machine) (found :
   pub input-does : (t : Scanned)
       → ((prompt : List ℕ) (v : tree.Variable) (u : Scanned) → Positioned text (afterOf here u) → inputAt line (after line t) ≡ done (tree.lineInput prompt v) u
       → Turns text m input space room anyRecords (λ n. doStatement text at (tree.lineInput prompt v) n (positionOf text (afterOf here u))) r space′ room′)
-      → D (lineAt line t)
+      → D (byWord line Line t)
   input-does t h = if-so D tt (isKeyword Input (t .token)) _ (by-input D tt line (after line t) (λ prompt v u e p. any-told (h prompt v u p e)))
 
 -- ---- words that lead an empty statement or a remark, or none
@@ -210,7 +252,7 @@ otherWords = 3 ∷ 4 ∷ 9 ∷ 10 ∷ 13 ∷ 16 ∷ 17 ∷ 18 ∷ 19 ∷ 20 ∷ 
 module _ (text line : List ℕ) (here : Place) (at : ℕ) (m : Machine) (found : Found) (entry : Record) (input space room : List ℕ)
     (r : Turned) (sound : Sound m input space room) (t : Scanned) (e : r ≡ turnedTo m (next.On (afterOf here t))) where
   -- the run goes on there
-  pub other-does : (w : Word) → OneOf otherWords (wordTag w) → Does text line here at m found entry input space room r space room (ledBy line w t)
+  pub other-does : (w : Word) → OneOf otherWords (wordTag w) → Does text line here at m found entry input space room r space room (byWord line w t)
   other-does Let h = absurd (miss otherWords 0 tt h)
   other-does Print h = absurd (miss otherWords 1 tt h)
   other-does If h = absurd (miss otherWords 2 tt h)

@@ -2,13 +2,13 @@
 ghost use mathlib.Core.Path.{_≡_};
 ghost use mathlib.Core.Bool.{true};
 ghost use Rattle.grammar.specs.Trees.{Part};
-ghost use Rattle.statements.specs.Statements.{goodPart, partOf};
+ghost use Rattle.scanner.specs.Tokens.{tokenAt};
+ghost use Rattle.statements.specs.Statements.{leadOf, goodPart, partOf};
 ghost use Rattle.statements.specs.Parts.{headOf, tailOf, placeOf};
 ghost use Rattle.machine.specs.bridge.Holding.{linesAt, Parted, Sound};
 ghost use Rattle.machine.specs.bridge.Seeking.{soughtBy};
 ghost use Rattle.turns.specs.Steps.{doStatement};
 ghost use Rattle.turns.specs.bridge.Turns.{Turns, Told, Standing, FoundBelow};
-use crate::leading::lead_at;
 use control::call;
 use control::choose;
 use control::come_back;
@@ -23,19 +23,24 @@ use machine::Next;
 use machine::Record;
 use machine::Turned;
 use scanner::token_at;
+use statements::Lead;
+use turns::fails;
 use turns::goes_on;
 use turns::set;
 use turns::turned_to;
+use whole::Error;
 use words::Place;
 use words::Scanned;
 use words::Word;
 
-// After a remark and an empty statement the run goes on at what follows.
+// By how the statement is led. After a remark and an empty one the run goes on at what follows; a line that reads has none that is led
+// by nothing.
 pub fn do_statement(
     text: &[u8],
     line: &[u8],
     here: Place,
     at: Place,
+    lead: Lead,
     machine: Machine,
     found: Found,
     entry: Record,
@@ -43,7 +48,7 @@ pub fn do_statement(
     space: &mut [u8],
     room: &mut [u8],
 ) -> Turned
-    requires { ⌜ Standing (now text) (now line) here × (Parted (now line) (at .0) × (Sound machine (now input) (now space) (now room) × FoundBelow (machine .depth) found)) ⌝ }
+    requires { ⌜ Standing (now text) (now line) here × (Parted (now line) (at .0) × (Sound machine (now input) (now space) (now room) × (FoundBelow (machine .depth) found × (lead ≡ leadOf (now line) true (tokenAt (now line) at))))) ⌝ }
     ensures { λ r. ⌜
         ((p : Part) (end : Scanned) → partOf (now (line .entry)) true (at .0) ≡ goodPart p end
         → Turns (now (text .entry)) machine (now (input .entry)) (now (space .entry)) (now (room .entry))
@@ -52,29 +57,29 @@ pub fn do_statement(
         r (now (space .exit)) (now (room .exit)))
         ⌝ }
 {
-    let lead = lead_at(line, at);
-    let word = lead.word;
-    let from = lead.from;
-    match word {
-        Word::Let => set(line, here, from, machine, space),
-        Word::Print => print(line, here, from, machine, space, room),
-        Word::If => choose(line, here, from, machine, space),
-        Word::Goto => jump(text, from, machine),
-        Word::Gosub => call(text, line, here, from, machine),
-        Word::Return => come_back(machine, found, entry),
-        Word::For => count(line, here, from, machine, found, space),
-        Word::Next => next_loop(line, here, from, machine, found, entry),
-        Word::Line => line_input(
-            line,
-            here,
-            token_at(line, from.next),
-            machine,
-            input,
-            space,
-            room,
-        ),
-        Word::End => turned_to(machine, Next::Ends),
-        Word::Stop => turned_to(machine, Next::Stops),
-        _ => goes_on(machine, here, from),
+    match lead {
+        Lead::By(word, from) => match word {
+            Word::Let => set(line, here, from, machine, space),
+            Word::Print => print(line, here, from, machine, space, room),
+            Word::If => choose(line, here, from, machine, space),
+            Word::Goto => jump(text, from, machine),
+            Word::Gosub => call(text, line, here, from, machine),
+            Word::Return => come_back(machine, found, entry),
+            Word::For => count(line, here, from, machine, found, space),
+            Word::Next => next_loop(line, here, from, machine, found, entry),
+            Word::Line => line_input(
+                line,
+                here,
+                token_at(line, from.next),
+                machine,
+                input,
+                space,
+                room,
+            ),
+            Word::End => turned_to(machine, Next::Ends),
+            Word::Stop => turned_to(machine, Next::Stops),
+            _ => goes_on(machine, here, from),
+        },
+        Lead::Nothing => fails(machine, Error::Syntax),
     }
 }

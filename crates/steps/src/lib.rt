@@ -1,5 +1,4 @@
 // The statement that stands at a place of a line: which it is, and doing it.
 mod doing;
-mod leading;
 
 pub use doing::do_statement;

@@ -9,7 +9,8 @@ use Rattle.words.specs.declared.symbols.Scanned.{Scanned}
 use Rattle.words.specs.declared.symbols.Token.the-variants.{Named}
 use Rattle.grammar.specs.Trees as tree
 use Rattle.grammar.specs.Formulas.{good, after, formulaOf}
-use Rattle.statements.specs.Statements.{Begun, variableOf}
+use Rattle.words.specs.declared.symbols.Word.the-variants.{Let}
+use Rattle.statements.specs.Statements.{Begun, variableOf, byWord}
 use Rattle.machine.specs.Machine as spec
 use Rattle.machine.specs.bridge.Holding.{positionOf, Positioned, Sound}
 use Rattle.machine.specs.declared.state.Machine.{Machine}
@@ -20,7 +21,7 @@ use Rattle.machine.specs.declared.records.Found.{Found}
 use Rattle.turns.specs.Steps as step
 use Rattle.turns.specs.Steps.{goesOn, ends, stops, fails, doStatement}
 use Rattle.turns.specs.bridge.Turns.{turnedTo, afterOf, Turns, anyRecords}
-use Rattle.turns.specs.bridge.Doing.{Does, setAt}
+use Rattle.turns.specs.bridge.Doing.{Does}
 use Rattle.statements.proofs.Ways.{by-assign}
 use Rattle.turns.proofs.Keeping.{leaves-unprinted}
 use Rattle.turns.proofs.Leading.{leads-self, turns-fails, turns-on, turns-ends, turns-stops}
@@ -59,5 +60,5 @@ module _ (text line : List ℕ) (here : Place) (at : ℕ) (m : Machine) (found :
       → ((f : tree.Formula) (u : Scanned) → Positioned text (afterOf here u) → formulaOf line (after line (after line t)) ≡ good f u
       → Turns text m input space room anyRecords
       (λ n. doStatement text at (tree.assign (variableOf line name) f) n (positionOf text (afterOf here u))) r space′ room′)
-      → D (setAt line t)
+      → D (byWord line Let t)
   set-does t name w h = rw w (by-assign D tt line (after line t) (variableOf line name) (λ f u e p. any-told (h f u p e)))

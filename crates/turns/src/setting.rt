@@ -6,10 +6,11 @@ ghost use lib.ListN.{length};
 ghost use Rattle.variables.specs.bridge.Memory.{spaceStored};
 ghost use Rattle.grammar.specs.Trees.{Formula, assign};
 ghost use Rattle.grammar.specs.Formulas.{good, formulaOf};
-ghost use Rattle.statements.specs.Statements.{variableOf};
+ghost use Rattle.words.specs.declared.symbols.Word.the-variants as led;
+ghost use Rattle.statements.specs.Statements.{variableOf, byWord};
 ghost use Rattle.machine.specs.bridge.Holding.{positionOf, Positioned, Settled, Sound};
 ghost use Rattle.turns.specs.Steps.{doStatement};
-ghost use Rattle.turns.specs.bridge.Doing.{Begins, Does, setAt};
+ghost use Rattle.turns.specs.bridge.Doing.{Begins, Does};
 ghost use Rattle.turns.specs.bridge.Turns.{afterOf, Turns, anyRecords, Formed, numberSet, stringSet, storedTurn};
 use crate::turning::fails;
 use crate::turning::goes_on;
@@ -120,10 +121,10 @@ fn assign(
 
 // A name, the equals sign and a formula.
 pub fn set(line: &[u8], here: Place, target: Scanned, machine: Machine, space: &mut [u8]) -> Turned
-    requires { ⌜ Begins (setAt (now line) target) × ((length (now line) ≤ 255) × Settled machine (now space)) ⌝ }
+    requires { ⌜ Begins (byWord (now line) led.Let target) × ((length (now line) ≤ 255) × Settled machine (now space)) ⌝ }
     ensures { λ r. ⌜
         ((text input room : List ℕ) (at : ℕ) (found : Found) (entry : Record) → Sound machine input (now (space .entry)) room
-        → Does text (now (line .entry)) here at machine found entry input (now (space .entry)) room r (now (space .exit)) room (setAt (now (line .entry)) target))
+        → Does text (now (line .entry)) here at machine found entry input (now (space .entry)) room r (now (space .exit)) room (byWord (now (line .entry)) led.Let target))
         ⌝ }
 {
     let token = target.token;

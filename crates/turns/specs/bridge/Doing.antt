@@ -7,11 +7,10 @@ use Prim.Native.Nat.{ℕ}
 use Rattle.words.specs.declared.places.Place.{Place}
 use Rattle.words.specs.declared.symbols.Scanned.{Scanned}
 use Rattle.words.specs.declared.symbols.Word.the-variants.{Else}
-use Rattle.grammar.specs.Tests.{isKeyword, endsStatement, onName, onLine}
+use Rattle.grammar.specs.Tests.{isKeyword, endsStatement}
 use Rattle.grammar.specs.Trees as tree
 use Rattle.grammar.specs.Trees.{Part}
-use Rattle.grammar.specs.Formulas.{after}
-use Rattle.statements.specs.Statements.{Begun, bad, done, choice, variableOf, assignAt, forAt, goodPart, partOf}
+use Rattle.statements.specs.Statements.{Begun, bad, done, choice, goodPart, partOf}
 use Rattle.machine.specs.Machine as spec
 use Rattle.machine.specs.bridge.Holding.{linesAt, Positioned, positionOf}
 use Rattle.machine.specs.bridge.Seeking.{soughtBy}
@@ -45,20 +44,3 @@ module _ (text line : List ℕ) (here : Place) (at : ℕ) (m : Machine) (found :
       → Turns text m input space room (Told sought.Nothing (m .depth) found entry) (λ n. doStatement text at (tree.ifThen c p) n after) r space′ room′)
       × (isKeyword Else (u .token) ≡ true → (q : Part) (v : Scanned) → partOf line true (u .next .0) ≡ goodPart q v
       → Turns text m input space room (Told sought.Nothing (m .depth) found entry) (λ n. doStatement text at (tree.ifElse c p q) n after) r space′ room′)
-
--- ---- from the token on that a name or a line number is
-
-abbrev pub setAt : List ℕ → Scanned → Begun
-setAt s t = onName (t .token) (λ v. assignAt s (variableOf s v) (after s t)) bad
-
-abbrev pub loopAt : List ℕ → Scanned → Begun
-loopAt s t = onName (t .token) (λ v. forAt s (variableOf s v) (after s t)) bad
-
-abbrev pub nextAt : List ℕ → Scanned → Begun
-nextAt s t = onName (t .token) (λ v. done (tree.nextOf (variableOf s v)) (after s t)) (done tree.next t)
-
-abbrev pub jumpAt : List ℕ → Scanned → Begun
-jumpAt s t = onLine (t .token) (λ l. done (tree.goto l) (after s t)) bad
-
-abbrev pub callAt : List ℕ → Scanned → Begun
-callAt s t = onLine (t .token) (λ l. done (tree.gosub l) (after s t)) bad
