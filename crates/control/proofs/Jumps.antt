@@ -29,6 +29,7 @@ use Rattle.machine.specs.declared.records.Sought.the-variants as sought
 use Rattle.machine.proofs.Stacking.{records-length, records-past, records-push, each-push}
 use Rattle.machine.proofs.Searching.{call-at, call-found, call-missing}
 use Rattle.machine.proofs.Standing.{found-begins, found-none}
+use Rattle.machine.specs.Machine.{mostRecords}
 use Rattle.turns.specs.Steps as step
 use Rattle.turns.specs.Steps.{enters, fails, toLine, pushed, returned, doStatement}
 use Rattle.turns.specs.bridge.Turns.{turnedTo, Comes, Turns, anyRecords, Told, FoundBelow, withDepth}
@@ -39,7 +40,7 @@ use Rattle.turns.proofs.Leading.{Led, turns-fails, turns-enters, turns-unwritte
 -- ---- other records count
 
 module _ {m : Machine} {input space room : List ℕ} where
-  pub sound-depth : (d : ℕ) → d ≤ 32 → Sound m input space room → Sound (withDepth m d) input space room
+  pub sound-depth : (d : ℕ) → d ≤ mostRecords → Sound m input space room → Sound (withDepth m d) input space room
   sound-depth d h s =
       record {
         settled = record { numbers = s .settled .numbers; strings = s .settled .strings; all = s .settled .all; within = s .settled .within; small = s .settled .small };
@@ -73,15 +74,15 @@ module _ {m : Machine} {input space room : List ℕ} where
 -- ---- a record more
 
 module _ {text : List ℕ} {m : Machine} {input space room : List ℕ} (held : Record) (nx : Next) where
-  push-comes : {rs : List Record} {n : spec.Machine} (go : spec.Machine → step.Next) → length rs ≡ 32 → Positioned text (held .back)
+  push-comes : {rs : List Record} {n : spec.Machine} (go : spec.Machine → step.Next) → length rs ≡ mostRecords → Positioned text (held .back)
       → ((o : spec.Machine) (same : spec.Machine → Type 0) → same o → Comes text nx (go o) same) → Same text rs m input space room n
       → let r = pushedTurn m held nx in
       Comes text (r .next) (pushed n (recordOf text held) go) (Same text (set rs (r .slot) (r .held)) (r .machine) input space room)
   push-comes {rs} {n} go l p goes s =
       let e : length (n .records) ≡ m .depth = ap length (s .records) ∙ records-length text rs (m .depth) in
-      by-bound 32 (m .depth)
-      (λ h. rw (e, le-leb 32 (m .depth) h, records-past rs 32 blankRecord (omega arith)) (refl, s))
-      (λ h. rw (e, lt-leb 32 (m .depth) h)
+      by-bound mostRecords (m .depth)
+      (λ h. rw (e, le-leb mostRecords (m .depth) h, records-past rs mostRecords blankRecord (omega arith)) (refl, s))
+      (λ h. rw (e, lt-leb mostRecords (m .depth) h)
       (goes (spec.withRecords n (recordOf text held ∷ n .records)) _
       (rw add-one
       (same-depth (suc (m .depth)) (recordOf text held ∷ n .records)
@@ -100,9 +101,9 @@ module _ {text : List ℕ} {m m′ : Machine} {input space room space′ : List 
   turns-pushed go h long steps printer p goes led =
       record {
         leaves =
-            by-bound 32 (m′ .depth)
-            (λ b. rw (le-leb 32 (m′ .depth) b) (leaves-unprinted h long steps printer))
-            (λ b. rw (lt-leb 32 (m′ .depth) b) (leaves-unprinted (sound-depth (m′ .depth + 1) (omega arith) h) long steps printer));
+            by-bound mostRecords (m′ .depth)
+            (λ b. rw (le-leb mostRecords (m′ .depth) b) (leaves-unprinted h long steps printer))
+            (λ b. rw (lt-leb mostRecords (m′ .depth) b) (leaves-unprinted (sound-depth (m′ .depth + 1) (omega arith) h) long steps printer));
         comes = λ rs l t n s. let k = led rs l t n s in rw (k .is) (push-comes held nx go l p goes (k .same));
       }
 

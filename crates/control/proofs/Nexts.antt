@@ -18,7 +18,7 @@ use Rattle.variables.specs.Tables.{slotIn}
 use Rattle.variables.proofs.Holding.{held-looked}
 use Rattle.variables.proofs.Looking.{looked-word}
 use Rattle.machine.specs.Machine as spec
-use Rattle.machine.specs.Machine.{passed}
+use Rattle.machine.specs.Machine.{passed, mostRecords}
 use Rattle.machine.specs.bridge.Holding.{positionOf, Positioned, recordsIn, isSought, seeksCall, Sound, Same}
 use Rattle.machine.specs.declared.state.Machine.{Machine}
 use Rattle.machine.specs.declared.positions.Position.{Position}
@@ -114,7 +114,7 @@ module _ {text : List ℕ} {m : Machine} {input space room : List ℕ} {entry : 
             → Turns text m input space room (Told k (m .depth) (found.At slot) entry) (nexts k after)
             (turnedTo (withDepth (numberSet m (entry .name) w .machine) slot) (next.On q)) space room
         next-ends q p a e =
-            let d : slot ≤ 32 = omega (arith, sound .deep) in
+            let d : slot ≤ mostRecords = omega (arith, sound .deep) in
             let h : slot ≤ m .depth = omega arith in
             turns-on (leaves-unprinted (sound-depth slot d (sound-set (entry .name) w sound)) refl refl refl) p
             (λ rs l t n s.
@@ -130,7 +130,7 @@ module _ {text : List ℕ} {m : Machine} {input space room : List ℕ} {entry : 
             → Turns text m input space room (Told k (m .depth) (found.At slot) entry) (nexts k after)
             (turnedTo (withDepth (numberSet m (entry .name) w .machine) (slot + 1)) (next.On (entry .back))) space room
         next-again e =
-            let d : slot + 1 ≤ 32 = omega (arith, sound .deep) in
+            let d : slot + 1 ≤ mostRecords = omega (arith, sound .deep) in
             turns-unwritten (leaves-unprinted (sound-depth (slot + 1) d (sound-set (entry .name) w sound)) refl refl refl)
             (λ rs l t n s.
             let j = rw yes at (leads-set rs t n s) in

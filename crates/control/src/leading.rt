@@ -5,6 +5,7 @@ ghost use lib.ListN.{length};
 ghost use Rattle.machine.specs.bridge.Holding.{Settled, Sound};
 ghost use Rattle.turns.specs.bridge.Turns.{FoundBelow};
 ghost use Rattle.turns.specs.bridge.Doing.{Begins, Does, loopAt, nextAt, jumpAt, callAt};
+ghost use Rattle.words.specs.Places.{longestLine};
 use crate::jumping::gosub;
 use crate::jumping::goto;
 use crate::looping::for_loop;
@@ -32,7 +33,7 @@ pub fn count(
     found: Found,
     space: &mut [u8],
 ) -> Turned
-    requires { ⌜ Begins (loopAt (now line) target) × ((length (now line) ≤ 255) × (Settled machine (now space) × FoundBelow (machine .depth) found)) ⌝ }
+    requires { ⌜ Begins (loopAt (now line) target) × ((length (now line) ≤ longestLine) × (Settled machine (now space) × FoundBelow (machine .depth) found)) ⌝ }
     ensures { λ r. ⌜
         ((text input room : List ℕ) (entry : Record) → Sound machine input (now (space .entry)) room
         → Does text (now (line .entry)) here machine found entry input (now (space .entry)) room r (now (space .exit)) room (loopAt (now (line .entry)) target))

@@ -8,6 +8,7 @@ use native.Mathlib.Nat.{le-refl}
 use borrow.Author.Tests.{le-leb, lt-leb}
 use Rattle.whole.specs.Texts as texts
 use Rattle.whole.specs.declared.errors.Error.the-variants.{OutputFull}
+use Rattle.whole.specs.Bytes.{blank}
 use Rattle.words.specs.declared.places.Place.{Place}
 use Rattle.words.specs.declared.symbols.Scanned.{Scanned}
 use Rattle.words.specs.declared.symbols.Sign.the-variants.{Comma}
@@ -75,16 +76,16 @@ module _ {m : Machine} {i : Item} {space room space′ : List ℕ} (fit : Fittin
 
 module _ {m : Machine} {space room : List ℕ} (fit : Fitting (m .printer) room) (u : Scanned) where
   pub shows-comma : Shows m comma u space room
-      (shownAs (printedAs (m .printer) (length room) (replicate (14 - m .printer .column % 14) 32)) u)
-      space (copied room (m .printer .written) (replicate (14 - m .printer .column % 14) 32))
+      (shownAs (printedAs (m .printer) (length room) (replicate (14 - m .printer .column % 14) blank)) u)
+      space (copied room (m .printer .written) (replicate (14 - m .printer .column % 14) blank))
   shows-comma =
-      shows-bytes fit (replicate (14 - m .printer .column % 14) 32) u refl
+      shows-bytes fit (replicate (14 - m .printer .column % 14) blank) u refl
       (λ text rs input n same go.
-      let blanks = replicate (14 - m .printer .column % 14) 32 in
+      let blanks = replicate (14 - m .printer .column % 14) blank in
       let r = printedAs (m .printer) (length room) blanks in
       subst
       (λ k. Leads text rs (withPrinter m (r .printer)) input space (copied room (m .printer .written) blanks)
-      (written n (replicate (14 - k % 14) 32) go) (printedMet (r .ok) go))
+      (written n (replicate (14 - k % 14) blank) go) (printedMet (r .ok) go))
       (sym (same .column)) (leads-written same fit blanks go))
 
   pub shows-semicolon : Shows m semicolon u space room (answer.On (m .printer) u) space room

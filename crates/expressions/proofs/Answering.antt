@@ -16,7 +16,7 @@ use Rattle.grammar.specs.Tests.{isSymbol}
 use Rattle.grammar.specs.Trees.{Formula, minus, complement, twoSided, Arguments, none, also}
 use Rattle.grammar.specs.Functions.{takes}
 use Rattle.grammar.specs.Formulas.{Reading, bad, good, mapped, after, closed, countOf}
-use Rattle.expressions.specs.Types.{callSort, sortOf, sortsOf, depthOf, deepestOf}
+use Rattle.expressions.specs.Types.{callSort, sortOf, sortsOf, depthOf, deepestOf, deepestNesting}
 use Rattle.expressions.specs.bridge.Answers.{sortsBy, fitOf, cappedDepth, deeper, answerOf, frontedRead, joinedRead, closedRead, Kept, listedAt}
 use Rattle.expressions.specs.declared.calls.Fit.the-variants.{Gives, NoForm}
 use Rattle.expressions.specs.declared.calls.Sorts.{Sorts}
@@ -45,9 +45,9 @@ not-read (good f v) e g = cc
 
 capped-suc : (d : ℕ) → deeper (cappedDepth d) ≡ cappedDepth (suc d)
 capped-suc d =
-    by-test (leb (cappedDepth d) 8)
-    (λ e. rw e (omega (arith, leb-true (cappedDepth d) 8 e)))
-    (λ e. rw e (omega (arith, leb-false (cappedDepth d) 8 e)))
+    by-test (leb (cappedDepth d) deepestNesting)
+    (λ e. rw e (omega (arith, leb-true (cappedDepth d) deepestNesting e)))
+    (λ e. rw e (omega (arith, leb-false (cappedDepth d) deepestNesting e)))
 
 pub capped-max : (a b : ℕ) → cappedDepth (max a b) ≡ max (cappedDepth a) (cappedDepth b)
 capped-max a b = omega arith

@@ -121,7 +121,10 @@ unfoldable mutual
   sortsOf none = []
   sortsOf (also a f) = sortsOf a ++ (sortOf f ∷ [])
 
--- ---- how deep parentheses nest, a function's own included
+-- ---- how deep parentheses nest, a function's own included: at most 8
+
+abbrev pub deepestNesting : ℕ
+deepestNesting = 8
 
 unfoldable mutual
   pub depthOf : Formula → ℕ

@@ -9,7 +9,7 @@ use lib.ListN.{length, take, drop, length-drop}
 use lib.Seq.{take-add, drop-at, drop-drop, length-take-le}
 use Rattle.whole.specs.Digits.{leadingDigits, leadingValue}
 use Rattle.whole.proofs.Numbers.{less}
-use Rattle.words.specs.Places.{place, lineNumber}
+use Rattle.words.specs.Places.{place, lineNumber, largestLineNumber, longestLine}
 use Rattle.words.specs.declared.places.LineNumber.{LineNumber}
 use Rattle.words.specs.declared.symbols.Scanned.{Scanned}
 use Rattle.words.specs.declared.symbols.Token.{Token}
@@ -137,9 +137,9 @@ pub record Told (text : List ℕ) (p : ℕ) (span : LineSpan) : Type 0 where
   pub starts : span .place ≡ place p
   pub next : span .next ≡ place (line .next)
   pub number : span .number ≡ lineNumber (leadingValue (line .bytes))
-  pub small : leadingValue (line .bytes) ≤ 65529
+  pub small : leadingValue (line .bytes) ≤ largestLineNumber
   pub body : take (span .end .0 - span .body .0) (drop (span .body .0) text) ≡ bodyOf (linesAt text p)
-  pub short : length (bodyOf (linesAt text p)) ≤ 255
+  pub short : length (bodyOf (linesAt text p)) ≤ longestLine
   pub low : span .body .0 ≤ span .end .0
   pub high : span .end .0 ≤ length text
   pub onward : p < span .next .0

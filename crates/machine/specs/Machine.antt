@@ -7,6 +7,7 @@ use lib.IntN.{pos}
 use lib.Signed.{ltZ}
 use lib.ListN.{length, replicate}
 use Rattle.whole.specs.Whole.{num}
+use Rattle.whole.specs.Bytes.{blank}
 use Rattle.words.specs.declared.names.Telling.{Telling}
 use Rattle.loader.specs.Lines.{Line}
 use Rattle.grammar.specs.Trees.{Statement, Part, last, more}
@@ -76,8 +77,13 @@ fresh input lent = record {
   highest = 0;
 }
 
+-- at most 32 records; a 33rd is 7
 abbrev pub mostRecords : ℕ
 mostRecords = 32
+
+-- a line of input has at most 254 bytes, its end not counted
+abbrev pub longestInputLine : ℕ
+longestInputLine = 254
 
 -- the room that a statement begins with: the variables alone are live
 abbrev pub roomOf : Machine → Room
@@ -123,7 +129,7 @@ write m bytes =
 
 -- a comma gives 14 minus (column mod 14) blanks
 abbrev pub commaBlanks : Machine → List ℕ
-commaBlanks m = replicate (14 - m .column % 14) 32
+commaBlanks m = replicate (14 - m .column % 14) blank
 
 -- ---- loops
 

@@ -3,6 +3,7 @@ ghost use mathlib.Core.Path.{_≡_};
 ghost use Prim.Native.Nat.{_≤_};
 ghost use lib.ListN.{getD, set, replicate};
 ghost use Rattle.machine.specs.bridge.Holding.{blankRecord, seeksNothing, isSought, seeksCall, foundIn};
+ghost use Rattle.machine.specs.Machine.{mostRecords};
 use crate::positions::Position;
 use crate::state::Machine;
 use words::Place;
@@ -19,7 +20,7 @@ pub struct Record {
 }
 
 pub struct Stack {
-    pub records: [Record; 32],
+    pub records: [Record; Machine::RECORDS],
 }
 
 pub enum Found {
@@ -60,11 +61,11 @@ impl Record {
 
 impl Stack {
     pub fn empty() -> Stack
-        ensures { λ r. ⌜ r .records ≡ replicate 32 blankRecord ⌝ }
+        ensures { λ r. ⌜ r .records ≡ replicate mostRecords blankRecord ⌝ }
     {
         let blank = Record::blank();
         Stack {
-            records: [blank; 32],
+            records: [blank; Machine::RECORDS],
         }
     }
 }
@@ -107,7 +108,7 @@ fn seeks_call(sought: Sought) -> bool
 
 // A search down the stack; a loop is only looked for above the nearest GOSUB.
 pub fn find_record(stack: Stack, depth: usize, sought: Sought) -> Found
-    requires { ⌜ depth ≤ 32 ⌝ }
+    requires { ⌜ depth ≤ mostRecords ⌝ }
     ensures { λ r. ⌜ r ≡ foundIn sought (stack .records) depth ⌝ }
 {
     if seeks_nothing(sought) {

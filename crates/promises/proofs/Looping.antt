@@ -50,6 +50,7 @@ use Rattle.machine.specs.Machine.{
   passed,
   headOf,
   tailOf,
+  longestInputLine,
 }
 use Rattle.turns.specs.Steps.{
   Next,
@@ -262,7 +263,7 @@ input-made : (s : List ℕ) (m : Machine) (v : Variable) (go : Machine → Next)
 input-made [] m v go r k = tt
 input-made (b ∷ s) m v go r k =
     let t = takeLine (b ∷ s) in
-    by-choice NextMade (ltb 254 (length (t .bytes))) tt
+    by-choice NextMade (ltb longestInputLine (length (t .bytes))) tt
     (worked-made _ (make (t .bytes) _) _ r (λ c n q. filled-made (v .kind) (v .telling) (t .bytes) n go q k))
 
 statement-made : (program : List ℕ) (x : Statement) (m : Machine) (after : Position) → MachineMade m → NextMade (doStatement program x m after)

@@ -12,7 +12,8 @@ use Rattle.loader.specs.declared.lines.LineSpan.{LineSpan}
 use Rattle.grammar.specs.Trees.{Part}
 use Rattle.space.specs.Moves.{cleared}
 use Rattle.variables.proofs.Holding.{empty-numbers, empty-strings, empty-numbers-held, empty-strings-held, empty-sum}
-use Rattle.machine.specs.Machine.{headOf, tailOf, lentBy}
+use Rattle.variables.specs.Strings.{longestSpace}
+use Rattle.machine.specs.Machine.{headOf, tailOf, lentBy, mostRecords}
 use Rattle.machine.specs.Machine as spec
 use Rattle.machine.specs.bridge.Holding.{linesAt, blankRecord, freshMachine, Sound, Same}
 use Rattle.machine.specs.declared.state.Machine.{Machine}
@@ -60,7 +61,7 @@ pub record Kept (text input space₀ room₀ : List ℕ) (budget : ℕ) (space r
   pub spaceLong : length space ≡ length space₀
   pub roomLong : length room ≡ length room₀
   pub beyond : drop (m .printer .written) room ≡ drop (m .printer .written) room₀
-  pub slots : length rs ≡ 32
+  pub slots : length rs ≡ mostRecords
   pub within : m .steps ≤ budget
   -- the definition's machine, and where its run stands
   pub machine : spec.Machine
@@ -70,7 +71,7 @@ pub record Kept (text input space₀ room₀ : List ℕ) (budget : ℕ) (space r
   pub comes : running (budget - m .steps) text place ≡ runIn text input (lentBy space₀ room₀) budget
 
 -- it holds at the start
-module _ (text input space room : List ℕ) (small : length space ≤ 16384) where
+module _ (text input space room : List ℕ) (small : length space ≤ longestSpace) where
   fresh-sound : Sound freshMachine input space room
   fresh-sound =
       record {
@@ -95,7 +96,7 @@ module _ (text input space room : List ℕ) (small : length space ≤ 16384) whe
         placed = λ i h. absurd (omega arith);
       }
 
-  pub kept-fresh : (budget : ℕ) {m : Machine} {rs : List Record} (s : Standing) → m ≡ freshMachine → rs ≡ replicate 32 blankRecord
+  pub kept-fresh : (budget : ℕ) {m : Machine} {rs : List Record} (s : Standing) → m ≡ freshMachine → rs ≡ replicate mostRecords blankRecord
       → ((n : spec.Machine) → StandsAs text s n (entering n (linesAt text 0)))
       → Kept text input space room budget space room m rs s
   kept-fresh budget {m} {rs} s e f stands =
@@ -105,7 +106,7 @@ module _ (text input space room : List ℕ) (small : length space ≤ 16384) whe
         spaceLong = refl;
         roomLong = refl;
         beyond = refl;
-        slots = rw f (length-replicate 32 blankRecord);
+        slots = rw f (length-replicate mostRecords blankRecord);
         within = omega arith;
         machine = spec.fresh input (lentBy space room);
         same = fresh-same rs;

@@ -22,6 +22,7 @@ use Rattle.statements.specs.Parts.{statementsOf, deepestIn}
 use Rattle.variables.specs.Variables.{Variables, stringBytes, joinedStrings}
 use Rattle.variables.specs.Tables.{numbersTable, stringsTable}
 use Rattle.variables.specs.declared.tables.Tables.{Tables}
+use Rattle.variables.specs.Strings.{longestSpace}
 use Rattle.runner.specs.declared.running.Ran as code
 use Rattle.runner.specs.declared.running.Outcome.{Outcome}
 use Rattle.runner.specs.declared.running.Outcome.the-variants.{Ended, Stopped, Out, Failed, Refused}
@@ -108,7 +109,7 @@ ifLoaded (loaded.Refused refusal p) m go = endsWith (Refused refusal p) m
 -- text is loaded
 unfoldable pub runOf : List ℕ → List ℕ → Lent → ℕ → Ran
 runOf text input lent budget =
-    cond (ltb 16384 (lent .space)) (endsWith (Refused SpaceTooLong (place 0)) (fresh input lent))
+    cond (ltb longestSpace (lent .space)) (endsWith (Refused SpaceTooLong (place 0)) (fresh input lent))
     (ifLoaded (loadOf text) (fresh input lent) (λ _. running budget text (entering (fresh input lent) (linesOf text))))
 
 -- ---- what is answered: outcome word, number, line, place; what does not apply is 0

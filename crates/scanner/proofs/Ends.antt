@@ -44,6 +44,7 @@ use Rattle.words.specs.declared.symbols.Token.the-variants.{
 use Rattle.words.proofs.Choices.{by-test}
 use Rattle.words.proofs.Tables.{every, meaning-passes}
 use Rattle.words.proofs.Runs.{in-line, run-some}
+use Rattle.words.specs.Places.{largestLineNumber}
 use Rattle.scanner.specs.Runs.{passes}
 use Rattle.scanner.specs.Tokens.{
   markOf,
@@ -238,7 +239,7 @@ module _ (b : ℕ) (s : List ℕ) (i end : ℕ) (all : i + length (b ∷ s) ≡ 
       let h = run-some isDigit b s e in
       let k = leading-inside isDigit (b ∷ s) in
       by-test (leb v 32767) (λ p. rw p (omega arith)) λ p.
-      rw p (by-test (leb v 65529) (λ q. rw q (omega arith)) (λ q. rw q (omega arith)))
+      rw p (by-test (leb v largestLineNumber) (λ q. rw q (omega arith)) (λ q. rw q (omega arith)))
 
   hex-stays : Stays end i (hexToken i (b ∷ s))
   unfolding hexToken

@@ -16,6 +16,7 @@ use Rattle.machine.specs.declared.positions.Next.the-variants as next
 use Rattle.machine.specs.declared.positions.Turned.{Turned}
 use Rattle.machine.specs.declared.records.Record.{Record}
 use Rattle.machine.proofs.Stacking.{records-past}
+use Rattle.machine.specs.Machine.{mostRecords}
 use Rattle.turns.specs.Steps as step
 use Rattle.turns.specs.Steps.{goesOn, enters, ends, stops, fails}
 use Rattle.turns.specs.bridge.Turns.{turnedTo, Comes, Leaves, Turns}
@@ -41,19 +42,19 @@ module _ {text : List ℕ} {rs : List Record} {m : Machine} {input space room : 
 abbrev pub Led : List ℕ → Machine → List ℕ → List ℕ → List ℕ → (List Record → Type 0) → (spec.Machine → step.Next) → Machine → List ℕ → List ℕ
     → (spec.Machine → step.Next) → Type 0
 Led text m input space room told does m′ space′ room′ go =
-    (rs : List Record) → length rs ≡ 32 → told rs → (n : spec.Machine) → Same text rs m input space room n
+    (rs : List Record) → length rs ≡ mostRecords → told rs → (n : spec.Machine) → Same text rs m input space room n
     → Leads text rs m′ input space′ room′ (does n) go
 
 module _ {text : List ℕ} {m m′ : Machine} {input space room space′ room′ : List ℕ} {told : List Record → Type 0}
     {does : spec.Machine → step.Next} where
   pub turns-unwritten : {x : Next} → Leaves m input space room (turnedTo m′ x) space′ room′
-      → ((rs : List Record) → length rs ≡ 32 → told rs → (n : spec.Machine) → Same text rs m input space room n
+      → ((rs : List Record) → length rs ≡ mostRecords → told rs → (n : spec.Machine) → Same text rs m input space room n
       → Comes text x (does n) (Same text rs m′ input space′ room′))
       → Turns text m input space room told does (turnedTo m′ x) space′ room′
   turns-unwritten leaves h =
       record {
         leaves = leaves;
-        comes = λ rs l t n s. rw (records-past rs 32 blankRecord (omega arith)) (h rs l t n s);
+        comes = λ rs l t n s. rw (records-past rs mostRecords blankRecord (omega arith)) (h rs l t n s);
       }
 
   -- it fails,

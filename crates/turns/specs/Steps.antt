@@ -55,6 +55,7 @@ use Rattle.machine.specs.Machine.{
   sought,
   below,
   passed,
+  longestInputLine,
 }
 
 -- what a statement comes to: the run goes on at a place, or at a line's start, or it ends
@@ -174,7 +175,7 @@ filled kind.Text name b m go = storeString m name b go
 -- a line of input has at most 254 bytes; it is taken, and then its string asks for room
 abbrev pub lineTaken : Machine → Variable → Taken → (Machine → Next) → Next
 lineTaken m v t go =
-    cond (ltb 254 (length (t .bytes))) (fails LineBufferOverflow m)
+    cond (ltb longestInputLine (length (t .bytes))) (fails LineBufferOverflow m)
     (let n = withInput m (t .left) (m .taken + (length (m .input) - length (t .left))) in
     worked n (make (t .bytes) (roomOf n)) (λ b o. filled (v .kind) (v .telling) (t .bytes) o go))
 

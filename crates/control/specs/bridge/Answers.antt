@@ -8,7 +8,7 @@ use lib.ListN.{length}
 use Rattle.whole.specs.declared.errors.Error.the-variants.{OutOfMemory}
 use Rattle.words.specs.declared.names.Name.{Name}
 use Rattle.words.specs.Names.{alike}
-use Rattle.words.specs.Places.{place}
+use Rattle.words.specs.Places.{place, longestLine}
 use Rattle.words.specs.declared.names.Telling.{Telling}
 use Rattle.words.specs.declared.places.Place.{Place}
 use Rattle.words.specs.declared.symbols.Scanned.{Scanned}
@@ -22,7 +22,7 @@ use Rattle.reader.specs.declared.branches.Branch.{Branch}
 use Rattle.reader.specs.declared.branches.Branch.the-variants as branch
 use Rattle.formulas.specs.bridge.Memory.{Scans}
 use Rattle.machine.specs.Machine as spec
-use Rattle.machine.specs.Machine.{below}
+use Rattle.machine.specs.Machine.{below, mostRecords}
 use Rattle.machine.specs.declared.state.Machine.{Machine}
 use Rattle.machine.specs.declared.positions.Position.{Position}
 use Rattle.machine.specs.declared.positions.Turned.{Turned}
@@ -38,7 +38,7 @@ use Rattle.turns.specs.bridge.Turns.{turnedTo, withDepth, numberSet}
 -- a record more, written above the others; at most 32
 abbrev pub pushedTurn : Machine → Record → Next → Turned
 pushedTurn m held n =
-    cond (leb 32 (m .depth)) (turnedTo m (next.Fails OutOfMemory))
+    cond (leb mostRecords (m .depth)) (turnedTo m (next.Fails OutOfMemory))
     (record { machine = withDepth m (m .depth + 1); next = n; slot = m .depth; held = held })
 
 -- a part of the line is entered, or the line is over
@@ -84,7 +84,7 @@ stepOf s t = choose (isKeyword Step (t .token)) (λ _. formulaOf s (after s t)) 
 
 -- a FOR that reads from what follows its limit on
 pub record Stepped (line : List ℕ) (t : Scanned) : Type 0 where
-  pub short : length line ≤ 255
+  pub short : length line ≤ longestLine
   pub step : Formula
   pub end : Scanned
   pub reads : stepOf line t ≡ good step end
@@ -99,7 +99,7 @@ pub record Limited (line : List ℕ) (first : Scanned) : Type 0 where
 
 -- a FOR that reads from its equals sign on
 pub record Counts (line : List ℕ) (name : Name) (equals : Scanned) : Type 0 where
-  pub short : length line ≤ 255
+  pub short : length line ≤ longestLine
   pub scans : Scans line equals
   pub start : Formula
   pub limit : Formula

@@ -9,6 +9,7 @@ use Rattle.whole.specs.declared.errors.Error.the-variants.{OutputFull}
 use Rattle.words.specs.declared.places.Place.{Place}
 use Rattle.words.specs.declared.symbols.Scanned.{Scanned}
 use Rattle.words.specs.declared.symbols.Sign.the-variants.{Comma, Semicolon}
+use Rattle.words.specs.Places.{longestLine}
 use Rattle.space.specs.Moves.{copied}
 use Rattle.grammar.specs.Tests.{isSymbol, endsStatement}
 use Rattle.grammar.specs.Trees.{Item, comma, semicolon, shown}
@@ -52,7 +53,7 @@ ShowsWorked (worked.Text len t) used p space room r room′ =
 
 -- the items of a PRINT that read from a token of the line on, up to one that ends the statement
 pub record Itemed (line : List ℕ) (first : Scanned) : Type 0 where
-  pub short : length line ≤ 255
+  pub short : length line ≤ longestLine
   pub scans : Scans line first
   pub all : List Item
   pub end : Scanned

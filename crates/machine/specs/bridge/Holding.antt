@@ -16,8 +16,9 @@ use Rattle.statements.specs.Statements.{PartReading, badPart, goodPart, partOf}
 use Rattle.variables.specs.Variables.{Variables}
 use Rattle.variables.specs.bridge.Memory.{numbersHeld, stringsHeld, TidyNumbers, TidyStrings}
 use Rattle.variables.specs.Tables.{sumOf, emptyTables}
+use Rattle.variables.specs.Strings.{longestSpace}
 use Rattle.machine.specs.Machine as spec
-use Rattle.machine.specs.Machine.{Rest, nothing, part, loop, call, columnAfter}
+use Rattle.machine.specs.Machine.{Rest, nothing, part, loop, call, columnAfter, mostRecords}
 use Rattle.machine.specs.declared.state.Machine.{Machine}
 use Rattle.machine.specs.declared.state.Printer.{Printer}
 use Rattle.machine.specs.declared.positions.Position.{Position}
@@ -161,7 +162,7 @@ pub record Settled (m : Machine) (space : List ℕ) : Type 0 where
   pub strings : TidyStrings (m .tables .strings)
   pub all : sumOf (m .tables .strings .lengths) ≡ m .used
   pub within : m .used ≤ length space
-  pub small : length space ≤ 16384
+  pub small : length space ≤ longestSpace
 
 -- of its printer and the room
 pub record Fitting (p : Printer) (room : List ℕ) : Type 0 where
@@ -173,7 +174,7 @@ pub record Sound (m : Machine) (input space room : List ℕ) : Type 0 where
   pub settled : Settled m space
   pub fitting : Fitting (m .printer) room
   pub taken : m .taken ≤ length input
-  pub deep : m .depth ≤ 32
+  pub deep : m .depth ≤ mostRecords
 
 -- the definition's machine that it holds; only the highest number of unfinished strings is the definition's alone
 pub record Same (text : List ℕ) (rs : List Record) (m : Machine) (input space room : List ℕ) (n : spec.Machine) : Type 0 where

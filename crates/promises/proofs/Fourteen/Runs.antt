@@ -15,6 +15,7 @@ use Rattle.grammar.specs.Trees.{Statement, Part}
 use Rattle.statements.specs.Statements.{LineReading, doesNotRead, reads, readLine}
 use Rattle.statements.specs.Parts.{statementsOf, deepestIn}
 use Rattle.variables.specs.Variables.{stringBytes}
+use Rattle.variables.specs.Strings.{longestSpace}
 use Rattle.machine.specs.Machine.{Rest, nothing, part, Position, Machine, Lent, fresh, withStep, headOf, tailOf}
 use Rattle.turns.specs.Steps.{Next, goesOn, enters, ends, stops, fails, doStatement}
 use Rattle.runner.specs.Run.{
@@ -193,7 +194,7 @@ module _ (exact : LiveIsExact) (text input : List ℕ) (lent : Lent) (budget : �
   unfolding runOf
   asked-fails l a =
       let same = begun-space text (lent .space) budget start l (a .statement) (a .machine) (a .begins) start-space in
-      rw (le-ltb 16384 (lent .space) (a .small), a .loads)
+      rw (le-ltb longestSpace (lent .space) (a .small), a .loads)
       (running-fails exact text (lent .space) budget start l (a .statement) (a .machine) (a .begins)
       (λ after. statement-fails exact text (a .statement) (a .machine) after (a .ask) (a .asks) (rw same (a .exceeds))))
 

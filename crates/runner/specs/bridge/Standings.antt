@@ -12,7 +12,7 @@ use Rattle.loader.specs.declared.lines.LineFound.the-variants.{Is}
 use Rattle.loader.specs.declared.loading.Loaded.the-variants.{Fine}
 use Rattle.loader.specs.declared.refusals.Refusal.{Refusal}
 use Rattle.variables.specs.declared.tables.Tables.{Tables}
-use Rattle.machine.specs.Machine.{headOf, tailOf}
+use Rattle.machine.specs.Machine.{headOf, tailOf, mostRecords}
 use Rattle.machine.specs.Machine as spec
 use Rattle.machine.specs.bridge.Holding.{linesAt, bodyOf, positionOf, Begins, Parted, Positioned, Sound, Same}
 use Rattle.machine.specs.declared.state.Machine.{Machine}
@@ -90,7 +90,7 @@ stepped m =
 -- what a turn begins with
 pub record Turnable (text : List ℕ) (span : LineSpan) (at : Place) (m : Machine) (rs : List Record) (input space room : List ℕ) : Type 0 where
   pub stood : Stood text span at
-  pub slots : length rs ≡ 32
+  pub slots : length rs ≡ mostRecords
   pub sound : Sound m input space room
   pub few : m .steps < 4294967295
 

@@ -9,6 +9,7 @@ use Rattle.words.specs.declared.names.Telling.{Telling}
 use Rattle.words.specs.declared.places.Place.{Place}
 use Rattle.words.specs.declared.symbols.Scanned.{Scanned}
 use Rattle.words.specs.declared.symbols.Sign.the-variants.{Colon}
+use Rattle.words.specs.Places.{longestLine}
 use Rattle.grammar.specs.Tests.{isSymbol}
 use Rattle.grammar.specs.Trees.{Formula}
 use Rattle.grammar.specs.Formulas.{formulaOf}
@@ -32,13 +33,14 @@ use Rattle.machine.specs.declared.records.Record.{Record}
 use Rattle.machine.specs.declared.records.Found.{Found}
 use Rattle.machine.specs.declared.records.Found.the-variants as found
 use Rattle.machine.specs.declared.records.Sought.{Sought}
+use Rattle.machine.specs.Machine.{mostRecords}
 use Rattle.turns.specs.Steps as step
 use Rattle.turns.specs.declared.setting.Stored.{Stored}
 use Rattle.turns.specs.Steps.{goesOn, enters, ends, stops, fails}
 
 -- a statement that writes no record
 abbrev pub turnedTo : Machine → Next → Turned
-turnedTo m n = record { machine = m; next = n; slot = 32; held = blankRecord }
+turnedTo m n = record { machine = m; next = n; slot = mostRecords; held = blankRecord }
 
 -- where the run goes on after a statement of a line that this token follows
 abbrev pub afterOf : Place → Scanned → Position
@@ -91,7 +93,7 @@ pub record Leaves (m : Machine) (input space room : List ℕ) (r : Turned) (spac
 -- it does what the definition does, whatever records there are that meet what it was told of them
 pub record Turns (text : List ℕ) (m : Machine) (input space room : List ℕ) (told : List Record → Type 0) (does : spec.Machine → step.Next) (r : Turned) (space′ room′ : List ℕ) : Type 0 where
   pub leaves : Leaves m input space room r space′ room′
-  pub comes : (rs : List Record) → length rs ≡ 32 → told rs → (n : spec.Machine) → Same text rs m input space room n
+  pub comes : (rs : List Record) → length rs ≡ mostRecords → told rs → (n : spec.Machine) → Same text rs m input space room n
       → Comes text (r .next) (does n) (Same text (set rs (r .slot) (r .held)) (r .machine) input space′ room′)
 
 -- nothing is told of the records
@@ -100,7 +102,7 @@ anyRecords rs = Unit {0}
 
 -- a formula that reads from a token of the line on
 pub record Formed (line : List ℕ) (first : Scanned) : Type 0 where
-  pub short : length line ≤ 255
+  pub short : length line ≤ longestLine
   pub scans : Scans line first
   pub reads : Reads (formulaOf line first)
 
@@ -112,7 +114,7 @@ pub record Valued (m : Machine) (f : Formula) (u : Scanned) (before : List ℕ) 
 
 -- the line of a text that begins at a place, after its number
 pub record Standing (text line : List ℕ) (here : Place) : Type 0 where
-  pub short : length line ≤ 255
+  pub short : length line ≤ longestLine
   pub begins : Begins text (here .0)
   pub is : line ≡ bodyOf (linesAt text (here .0))
 

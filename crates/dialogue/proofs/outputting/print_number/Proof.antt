@@ -5,17 +5,17 @@ use native.Mathlib.Omega.{arith}
 use borrow.Author.Needs.{needs}
 use lib.ListN.{length}
 use lib.Seq.{length-take-le}
-use Rattle.whole.specs.Texts.{printed}
+use Rattle.whole.specs.Texts.{printed, longestString}
 use Rattle.space.specs.Moves.{copied}
 use Rattle.machine.specs.bridge.Holding.{printedAs}
 use Rattle.dialogue.proofs.Printing.{held-front}
 use Rattle.dialogue.proofs.outputting.print_number.Statement.{statement}
 use Rattle.dialogue.proofs.outputting.print_number.Tie as tie
 
-long : (c : tie.After-struct-known) → length (c .before .before .print-text .result .bytes) ≡ 255
+long : (c : tie.After-struct-known) → length (c .before .before .print-text .result .bytes) ≡ longestString
 long c = search needs
 
-short : (c : tie.After-struct-known) → c .before .before .print-text .result .len ≤ 255
+short : (c : tie.After-struct-known) → c .before .before .print-text .result .len ≤ longestString
 short c = search needs
 
 array-share-prefix-bytes : tie.Need-array-share-prefix-bytes

@@ -6,6 +6,7 @@ use borrow.Author.Needs.{needs}
 use borrow.Author.Tests.{not-true, not-false}
 use lib.ListN.{length}
 use Rattle.machine.specs.bridge.Holding.{foundFrom, foundIn}
+use Rattle.machine.specs.Machine.{mostRecords}
 use Rattle.machine.proofs.Stacking.{length-mapped}
 use Rattle.machine.proofs.Searching.{nothing-sought, searched, ends-call, ends-none, ends-loop, goes-on, none-left}
 use Rattle.machine.proofs.records.find_record.Statement.{statement}
@@ -13,7 +14,7 @@ use Rattle.machine.proofs.records.find_record.Tie as tie
 
 abbrev Inv-loop : tie.InvT-loop
 Inv-loop depth sought stack i₀ i =
-    (length (stack .records) ≡ 32) × (i ≤ depth) × (foundFrom sought (stack .records) i ≡ foundIn sought (stack .records) depth)
+    (length (stack .records) ≡ mostRecords) × (i ≤ depth) × (foundFrom sought (stack .records) i ≡ foundIn sought (stack .records) depth)
 
 abbrev μ-loop : tie.MeasureT-loop
 μ-loop depth sought stack i₀ i = i

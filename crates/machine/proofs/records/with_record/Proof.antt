@@ -6,11 +6,12 @@ use lib.ListN.{length}
 use Rattle.machine.proofs.Stacking.{length-mapped, records-past}
 use Rattle.machine.proofs.records.with_record.Statement.{statement}
 use Rattle.machine.proofs.records.with_record.Tie as tie
+use Rattle.machine.specs.Machine.{mostRecords}
 
 returns-2 : tie.Need-returns-2
 returns-2 c =
     let a = c .before .args in
-    let n : length (a .stack .records) ≡ 32 = search (needs, length-mapped) in
+    let n : length (a .stack .records) ≡ mostRecords = search (needs, length-mapped) in
     sym (records-past (a .stack .records) (a .slot) (a .entry) (omega arith))
 
 pub with-record-spec : {M : Type 1} → statement M
