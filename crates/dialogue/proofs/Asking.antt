@@ -12,6 +12,7 @@ use lib.Seq.{drop-drop, length-take-le}
 use Rattle.whole.specs.declared.errors.Error.{Error}
 use Rattle.whole.specs.declared.errors.Error.the-variants.{OutOfStringSpace, TypeMismatch, LineBufferOverflow, InputPastEnd, OutputFull}
 use Rattle.whole.specs.Texts.{longestString}
+use Rattle.whole.proofs.Never.{never}
 use Rattle.words.specs.declared.names.Kind.the-variants as kind
 use Rattle.words.specs.declared.names.Name.{Name}
 use Rattle.words.specs.declared.names.Telling.{Telling}
@@ -318,7 +319,7 @@ no-text t go other o =
 text-of : (s b : List ℕ) (t : Scanned) {prompt : List ℕ} {v : Variable} {u : Scanned} → targetAt s b t ≡ done (lineInput prompt v) u → prompt ≡ b
 text-of s b t {prompt} {v} {u} =
     by-name (λ x. x ≡ done (lineInput prompt v) u → prompt ≡ b) (t .token) _ _ (λ w f n e. cc)
-    (λ f e. let z : _≡_ {A = ℕ} 0 1 = cc in absurd (omega arith))
+    (λ f e. never (cc))
 
 -- the variable is the one that the token names, and what follows it follows the statement
 pub target-is : (s b : List ℕ) (t : Scanned) {name : Name} {v : Variable} {u : Scanned} → t .token ≡ Named name
@@ -329,7 +330,7 @@ pub not-target : (s b : List ℕ) (t : Scanned) {v : Variable} {u : Scanned} →
     → targetAt s b t ≡ done (lineInput b v) u → ⊥
 not-target s b t o e =
     let h = rw (no-name (t .token) (λ v. done (lineInput b (variableOf s v)) (after s t)) bad o) at e in
-    let z : _≡_ {A = ℕ} 0 1 = cc in omega arith
+    never (cc)
 
 module _ (s : List ℕ) (t : Scanned) {prompt : List ℕ} {v : Variable} {u : Scanned} (e : inputAt s t ≡ done (lineInput prompt v) u) where
   -- a quoted text comes first,
@@ -340,7 +341,7 @@ module _ (s : List ℕ) (t : Scanned) {prompt : List ℕ} {v : Variable} {u : Sc
       let h = rw w at e in
       by-test (isSymbol Semicolon (after s t .token))
       (λ c. let k = rw c at h in let p = text-of s (quotedBytes s q) (after s (after s t)) k in (rw p at k, p))
-      (λ c. let k = rw c at h in let z : _≡_ {A = ℕ} 0 1 = cc in absurd (omega arith))
+      (λ c. let k = rw c at h in never (cc))
 
   -- or none
   pub input-bare : OneOf noTexts (tokenTag (t .token)) → (targetAt s [] t ≡ done (lineInput [] v) u) × (prompt ≡ [])

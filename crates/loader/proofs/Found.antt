@@ -9,6 +9,7 @@ use lib.Dec.{leb}
 use lib.ListN.{length}
 use Rattle.whole.specs.Digits.{isDigit, leadingDigits, leadingValue}
 use Rattle.whole.proofs.Reading.{leading-inside}
+use Rattle.whole.proofs.Never.{never}
 use Rattle.words.specs.Places.{lineNumber, largestLineNumber}
 use Rattle.words.specs.declared.places.LineNumber.{LineNumber}
 use Rattle.words.proofs.Choices.{by-test, both}
@@ -50,7 +51,7 @@ module _ (s : List ℕ) {n : LineNumber} {count : ℕ} where
       let some = leb 1 (length (leadingDigits s)) in let fits = leb (leadingValue s) largestLineNumber in
       by-test (some && fits)
       (λ t. let f = rw t at e in record { is = cc; digits = cc; small = leb-true _ _ (both some fits t .1) })
-      (λ t. let f = rw t at e in let z : _≡_ {A = ℕ} 0 1 = cc in absurd (omega arith))
+      (λ t. let f = rw t at e in never (cc))
 
   -- its digits stand within the line
   pub digits-inside : numberOf s ≡ Is n count → count ≤ length s

@@ -9,6 +9,7 @@ use lib.Dec.{leb, ltb}
 use lib.ListN.{length, getD}
 use Rattle.whole.specs.Bytes.{leading}
 use Rattle.whole.specs.Digits.{leadingDigits, leadingValue}
+use Rattle.whole.proofs.Never.{never}
 use Rattle.words.specs.Places.{place, lineNumber, largestLineNumber, longestLine}
 use Rattle.words.specs.declared.places.Place.{Place}
 use Rattle.words.specs.declared.places.LineNumber.{LineNumber}
@@ -43,7 +44,7 @@ pub record Accepted (s : List ℕ) (before floor : ℕ) (n : LineNumber) : Type 
 
 -- no line is judged both good and bad
 not-both : {P : Type 0} {r : Refusal} {k : ℕ} {n : LineNumber} → Bad r k ≡ Good n → P
-not-both e = let z : _≡_ {A = ℕ} 0 1 = cc in absurd (omega arith)
+not-both e = never (cc)
 
 -- how far into a line its fault is
 abbrev offsetOf : Judged → ℕ
@@ -140,7 +141,7 @@ pub record Recipe (text : List ℕ) : Type 0 where
 
 -- what is refused is not fine
 not-fine : {P : Type 0} {r : Refusal} {p : Place} → Refused r p ≡ Fine → P
-not-fine e = let z : _≡_ {A = ℕ} 0 1 = cc in absurd (omega arith)
+not-fine e = never (cc)
 
 -- where all is fine, so are the first line and what follows it
 fine-first : (s : List ℕ) (before floor start : ℕ) (next : ℕ → Loaded) → after (judged s before floor) start next ≡ Fine

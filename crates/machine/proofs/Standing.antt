@@ -9,6 +9,7 @@ use lib.ListN.{length, take, drop, length-drop}
 use lib.Seq.{take-add, drop-at, drop-drop, length-take-le}
 use Rattle.whole.specs.Digits.{leadingDigits, leadingValue}
 use Rattle.whole.proofs.Numbers.{less}
+use Rattle.whole.proofs.Never.{never}
 use Rattle.words.specs.Places.{place, lineNumber, largestLineNumber, longestLine}
 use Rattle.words.specs.declared.places.LineNumber.{LineNumber}
 use Rattle.words.specs.declared.symbols.Scanned.{Scanned}
@@ -61,7 +62,7 @@ begun-true s (Symbol sign) t h = refl
 begun-true s Unreadable t h = refl
 
 not-good : {P : Type 0} {q : Part} {u : Scanned} → badPart ≡ goodPart q u → P
-not-good e = let z : _≡_ {A = ℕ} 0 1 = cc in absurd (omega arith)
+not-good e = never (cc)
 
 -- and so does a part
 pub true-part : (s : List ℕ) (p : ℕ) {q : Part} {u : Scanned} → partOf s false p ≡ goodPart q u → partOf s true p ≡ goodPart q u
@@ -204,7 +205,7 @@ told-as b fine {span} e =
 -- where one is found one begins,
 some-first : (text : List ℕ) (p : ℕ) (ls : List Line) → linesAt text p ≡ ls → Reaches text p → {span : LineSpan} → firstOf ls ≡ Is span
     → Begins text p
-some-first text p [] q w e = let z : _≡_ {A = ℕ} 0 1 = cc in absurd (omega arith)
+some-first text p [] q w e = never (cc)
 some-first text p (l ∷ ls) q w e = begins-here w q
 
 pub reached-some : {text : List ℕ} {p : ℕ} → Reaches text p → {span : LineSpan} → lineAt text (place p) ≡ Is span → Begins text p
@@ -213,7 +214,7 @@ reached-some {text} {p} w e = some-first text p (linesAt text p) refl w e
 -- and where none is, none is left
 none-first : (ls : List Line) → Rising 0 ls → firstOf ls ≡ None → ls ≡ []
 none-first [] r e = refl
-none-first (l ∷ ls) r e = let f = rw (r .0 .is) at e in let z : _≡_ {A = ℕ} 0 1 = cc in absurd (omega arith)
+none-first (l ∷ ls) r e = let f = rw (r .0 .is) at e in never (cc)
 
 pub reached-none : {text : List ℕ} {p : ℕ} → Reaches text p → loadOf text ≡ Fine → lineAt text (place p) ≡ None → linesAt text p ≡ []
 reached-none {text} {p} w fine e = none-first (linesAt text p) (reaches-rising w fine) e
@@ -228,15 +229,15 @@ pub record FoundBegins (text : List ℕ) (n : LineNumber) (span : LineSpan) : Ty
 located-at : (l : Line) (x : NumberFound) {span : LineSpan} → located l x ≡ Is span → span .place .0 ≡ l .start
 located-at l (number.Is m count) {span} e =
     let f : place (l .start) ≡ span .place = cc in sym (ap (λ x. x .0) f)
-located-at l number.None e = let z : _≡_ {A = ℕ} 0 1 = cc in absurd (omega arith)
+located-at l number.None e = never (cc)
 
 located-some : (n : ℕ) (l : Line) (x : NumberFound) → has n x ≡ true → located l x ≡ None → ⊥
-located-some n l (number.Is m count) h e = let z : _≡_ {A = ℕ} 0 1 = cc in absurd (omega arith)
-located-some n l number.None h e = let z : _≡_ {A = ℕ} 0 1 = cc in absurd (omega arith)
+located-some n l (number.Is m count) h e = never (cc)
+located-some n l number.None h e = never (cc)
 
 module _ (text : List ℕ) (n : LineNumber) where
   found-by : (ls : List Line) → fromNumber (n .0) (linesOf text) ≡ ls → {span : LineSpan} → firstOf ls ≡ Is span → FoundBegins text n span
-  found-by [] q e = let z : _≡_ {A = ℕ} 0 1 = cc in absurd (omega arith)
+  found-by [] q e = never (cc)
   found-by (l ∷ ls) q {span} e =
       let s = from-suffix (n .0) (linesOf text) in
       let a = from-at text (n .0) q in

@@ -11,6 +11,7 @@ use lib.ListN.{length, drop}
 use Rattle.whole.specs.declared.errors.Error.{Error}
 use Rattle.whole.specs.declared.errors.Error.the-variants.{LineBufferOverflow, InputPastEnd}
 use Rattle.whole.proofs.Numbers.{less}
+use Rattle.whole.proofs.Never.{never}
 use Rattle.words.proofs.Choices.{by-test}
 use Rattle.loader.specs.Lines.{extentAt}
 use Rattle.loader.specs.declared.lines.Extent.{Extent}
@@ -55,14 +56,14 @@ module _ (input : List ℕ) (p : ℕ) where
       (λ h.
       let x = extentAt p (drop p input) in
       by-test (ltb longestInputLine (x .end - p))
-      (λ b. let f = taken-long h refl (ltb-true longestInputLine (x .end - p) b) in let z : _≡_ {A = ℕ} 0 1 = cc in absurd (omega arith))
+      (λ b. let f = taken-long h refl (ltb-true longestInputLine (x .end - p) b) in never (cc))
       (λ b.
       let s = ltb-false longestInputLine (x .end - p) b in
       let f = taken-line {e = x} h refl s in
       let g : e ≡ x = cc in
       let w = walked input p h g in
       record { some = h; is = g; low = w .low; inside = omega (arith, w .mid, w .inside); short = rw g s }))
-      (λ h. let f = taken-none h in let z : _≡_ {A = ℕ} 0 1 = cc in absurd (omega arith))
+      (λ h. let f = taken-none h in never (cc))
       (less p (length input))
 
   -- or why there is none
@@ -79,6 +80,6 @@ module _ (input : List ℕ) (p : ℕ) where
       let g : x ≡ LineBufferOverflow = cc in rw g (long h s))
       (λ b.
       let f = taken-line {e = w} h refl (ltb-false longestInputLine (w .end - p) b) in
-      let z : _≡_ {A = ℕ} 0 1 = cc in absurd (omega arith)))
+      never (cc)))
       (λ h. let f = taken-none h in let g : x ≡ InputPastEnd = cc in rw g (none h))
       (less p (length input))

@@ -7,6 +7,7 @@ use native.Mathlib.Omega.{arith}
 use lib.Dec.{ltb}
 use lib.ListN.{take, drop}
 use Rattle.whole.specs.declared.errors.Error.the-variants.{Syntax, FormulaTooComplex}
+use Rattle.whole.proofs.Never.{never}
 use Rattle.words.specs.Places.{place}
 use Rattle.words.specs.declared.places.Place.{Place}
 use Rattle.words.specs.declared.symbols.Scanned.{Scanned}
@@ -42,10 +43,10 @@ judged-bad (reads p) e =
     absurd (omega arith)
 
 judged-deep : (x : LineReading) → judgedReading x ≡ TooDeep → judgedLine x ≡ faulty FormulaTooComplex
-judged-deep doesNotRead e = let z : _≡_ {A = ℕ} 0 1 = cc in absurd (omega arith)
+judged-deep doesNotRead e = never (cc)
 judged-deep (reads p) e =
     by-test (ltb 8 (deepestIn (statementsOf p))) (λ t. rw t)
-    (λ t. let f = rw t at e in let z : _≡_ {A = ℕ} 0 1 = cc in absurd (omega arith))
+    (λ t. let f = rw t at e in never (cc))
 
 record Opens (x : LineReading) : Type 0 where
   part : Part
@@ -53,10 +54,10 @@ record Opens (x : LineReading) : Type 0 where
   opens : judgedLine x ≡ opened part
 
 judged-reads : (x : LineReading) {typed : Bool} → judgedReading x ≡ Reads typed → Opens x
-judged-reads doesNotRead e = let z : _≡_ {A = ℕ} 0 1 = cc in absurd (omega arith)
+judged-reads doesNotRead e = never (cc)
 judged-reads (reads p) e =
     by-test (ltb 8 (deepestIn (statementsOf p)))
-    (λ t. let f = rw t at e in let z : _≡_ {A = ℕ} 0 1 = cc in absurd (omega arith))
+    (λ t. let f = rw t at e in never (cc))
     (λ t. record { part = p; is = refl; opens = rw t })
 
 -- ---- a line entered
@@ -133,7 +134,7 @@ module _ {text : List ℕ} {p : ℕ} (w : Reached text p) where
 module _ {text : List ℕ} (loads : loadOf text ≡ Fine) {q : Position} (w : Positioned text q) where
   -- the line is there
   pub onward-some : {P : Type 0} → lineAt text (q .line) ≡ None → P
-  onward-some e = let t = line-told (w .begins) loads in let z : _≡_ {A = ℕ} 0 1 = cc (t .is) in absurd (omega arith)
+  onward-some e = let t = line-told (w .begins) loads in never (cc (t .is))
 
   module _ {span : LineSpan} (e : lineAt text (q .line) ≡ Is span) where
     told : Told text (q .line .0) span

@@ -13,6 +13,7 @@ use Rattle.whole.specs.Bytes.{is, bytes, leading}
 use Rattle.whole.specs.Digits.{isDigit, leadingValue, blanksOf}
 use Rattle.whole.proofs.Numbers.{less}
 use Rattle.whole.proofs.Reading.{drop-next, leading-inside}
+use Rattle.whole.proofs.Never.{never}
 use Rattle.words.specs.Spellings.{sameBytes, meaning}
 use Rattle.words.specs.Classes.{capitalOf, isLetter, isHex, signs, signOf, pairs, pairOf, ofSign, classOf}
 use Rattle.words.specs.Vocabulary.{reserved, wordOf}
@@ -202,7 +203,7 @@ pair-none a = simp and-false
 paired-stays : (p one : SignFound) (i end : ℕ) → bareSign p ≡ true → bareSign one ≡ true → i + 1 ≤ end
     → ((p ≡ None → ⊥) → i + 2 ≤ end) → Stays end i (paired p one i)
 paired-stays (Is t) one i end b c h k =
-    let l = k (λ z. let y : _≡_ {A = ℕ} 0 1 = cc in omega arith) in
+    let l = k (λ z. never (cc)) in
     (omega arith, omega arith, kept-bare end i (i + 2) t b (omega arith))
 paired-stays None (Is t) i end b c h k = (omega arith, omega arith, kept-bare end i (i + 1) t c (omega arith))
 paired-stays None None i end b c h k = omega arith
@@ -305,8 +306,8 @@ token-ends line at =
       onward = λ l. l;
       past = λ r. absurd (false≢true r);
       last = λ e. refl;
-      name = λ n e. let z : _≡_ {A = ℕ} 0 1 = cc in absurd (omega arith);
-      text = λ q e. let z : _≡_ {A = ℕ} 0 1 = cc in absurd (omega arith);
+      name = λ n e. never (cc);
+      text = λ q e. never (cc);
     }))
     (less i (length line))
 

@@ -13,6 +13,7 @@ use types.Run.{OneOf, miss}
 use Rattle.whole.specs.Texts.{shown, hexadecimal, longestString}
 use Rattle.whole.specs.declared.errors.Error.the-variants.{IllegalFunctionCall}
 use Rattle.whole.specs.Bytes.{blank}
+use Rattle.whole.proofs.Never.{never}
 use Rattle.words.proofs.Choices.{by-test, both}
 use Rattle.words.specs.declared.names.Kind.the-variants as kind
 use Rattle.words.specs.declared.symbols.Function.{Function}
@@ -190,7 +191,7 @@ otherTexts = 0 ∷ 1 ∷ 8 ∷ 10 ∷ 11 ∷ 12 ∷ 13 ∷ 14 ∷ []
 
 -- no kind is both
 pub kinds-apart : kind.Whole ≡ kind.Text → ⊥
-kinds-apart e = let z : _≡_ {A = ℕ} 0 1 = cc in absurd (omega arith)
+kinds-apart e = never (cc)
 
 pub last-text : (f : Function) → gives f ≡ kind.Text → OneOf otherTexts (functionTag f) → f ≡ Hex
 last-text Len e h = absurd (kinds-apart e)

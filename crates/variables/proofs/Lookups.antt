@@ -14,6 +14,7 @@ use Rattle.variables.specs.Variables.{wordOf, bytesOf, stringBytes, most
 use Rattle.variables.specs.bridge.Memory.{stringsIn}
 use Rattle.variables.specs.Tables.{namesFrom, namesIn, numbersIn, slotFrom, slotIn, sumOf}
 use Rattle.variables.specs.declared.tables.Slot.the-variants as slot
+use Rattle.whole.proofs.Never.{never}
 
 -- ---- the names of a table
 
@@ -65,7 +66,7 @@ record Found (name : Telling) (ns : List Telling) (k i : ℕ) : Type 0 where
 
 found-from : (k : ℕ) (ns : List Telling) (name : Telling) (i : ℕ) → slotFrom k ns name ≡ slot.At i → Found name ns k i
 unfolding slotFrom
-found-from k [] name i e = let z : _≡_ {A = ℕ} 0 1 = cc in absurd (omega arith)
+found-from k [] name i e = never (cc)
 found-from k (n ∷ ns) name i e =
     by-test (alike n name)
     (λ t. let s : slot.At k ≡ slot.At i = rw t at e in let p : k ≡ i = cc in record { place = 0; first = here t; counted = omega arith })
@@ -105,7 +106,7 @@ missing-word k [] ws name e = refl
 missing-word k (n ∷ ns) [] name e = refl
 missing-word k (n ∷ ns) (w ∷ ws) name e =
     by-test (alike n name)
-    (λ t. let s : slot.At k ≡ slot.None = rw t at e in let z : _≡_ {A = ℕ} 0 1 = cc in absurd (omega arith))
+    (λ t. let s : slot.At k ≡ slot.None = rw t at e in never (cc))
     (λ t. rw t (missing-word (suc k) ns ws name (rw t at e)))
 
 -- a name with no entry reads as 0
@@ -155,7 +156,7 @@ missing-bytes k [] ls space name e = refl
 missing-bytes k (n ∷ ns) [] space name e = refl
 missing-bytes k (n ∷ ns) (l ∷ ls) space name e =
     by-test (alike n name)
-    (λ t. let s : slot.At k ≡ slot.None = rw t at e in let z : _≡_ {A = ℕ} 0 1 = cc in absurd (omega arith))
+    (λ t. let s : slot.At k ≡ slot.None = rw t at e in never (cc))
     (λ t. rw t (missing-bytes (suc k) ns ls (drop l space) name (rw t at e)))
 
 -- a name with no entry reads as empty

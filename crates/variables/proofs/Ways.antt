@@ -19,6 +19,7 @@ use Rattle.variables.specs.declared.tables.Slot.{Slot}
 use Rattle.variables.specs.declared.tables.Slot.the-variants as slot
 use Rattle.variables.specs.Variables.{mostVariables}
 use Rattle.variables.proofs.Lookups.{names-length, First, here, later, slot-first}
+use Rattle.whole.proofs.Never.{never}
 
 -- ---- names that are not among others
 
@@ -43,7 +44,7 @@ unfolding slotFrom
 missing-absent k [] b name e = none
 missing-absent k (n ∷ a) b name e =
     by-test (alike n name)
-    (λ t. let s : slot.At k ≡ slot.None = rw t at e in let z : _≡_ {A = ℕ} 0 1 = cc in absurd (omega arith))
+    (λ t. let s : slot.At k ≡ slot.None = rw t at e in never (cc))
     (λ t. also t (missing-absent (suc k) a b name (rw t at e)))
 
 -- ---- the entries in use, and those after them

@@ -2,8 +2,6 @@
 use mathlib.Core.Path.{_≡_, refl, sym}
 use mathlib.Core.Bool.{Bool, true, false, _||_, false≢true}
 use mathlib.Core.List.{List, [], _∷_, _++_}
-use Prim.Native.Nat.{ℕ}
-use native.Mathlib.Omega.{arith}
 use lib.Dec.{ltb}
 use Rattle.words.specs.declared.places.LineNumber.{LineNumber}
 use Rattle.words.proofs.Choices.{by-test, both}
@@ -19,6 +17,7 @@ use Rattle.checker.specs.declared.checking.Verdict.the-variants.{Passed}
 use Rattle.machine.specs.Machine.{Rest, nothing, part, Position, Record, loop, call, headOf, tailOf}
 use Rattle.runner.specs.Run.{Entered, over, faulty, opened, judgedLine, enter}
 use Rattle.promises.proofs.Checked.Operators.{Allowed}
+use Rattle.whole.proofs.Never.{never}
 
 -- neither of two
 neither : (x y : Bool) → x || y ≡ false → (x ≡ false) × (y ≡ false)
@@ -86,7 +85,7 @@ module _ (all : List Line) where
   -- a recipe that passes has no faulty line
   sound-later : (s : Soundness) (n : LineNumber) (later : Unit {0} → Verdict) → orElse s n later ≡ Passed → (s ≡ Sound) × (later tt ≡ Passed)
   sound-later Sound n later e = (refl, e)
-  sound-later (Fault error) n later e = let z : _≡_ {A = ℕ} 0 1 = cc in absurd (omega arith)
+  sound-later (Fault error) n later e = never (cc)
 
   pub passed-lines : (ls : List Line) → firstFault all ls ≡ Passed → LinesChecked ls
   unfolding firstFault
@@ -102,16 +101,16 @@ module _ (all : List Line) where
   EnteredChecked (opened p) = PartChecked p
 
   sound-reads : (r : LineReading) → faultIn all r ≡ Sound → EnteredChecked (judgedLine r)
-  sound-reads doesNotRead e = let z : _≡_ {A = ℕ} 0 1 = cc in absurd (omega arith)
+  sound-reads doesNotRead e = never (cc)
   sound-reads (reads p) e =
       let xs = statementsOf p in
       by-test (ltb 8 (deepestIn xs))
-      (λ d. let f = rw d at e in let z : _≡_ {A = ℕ} 0 1 = cc in absurd (omega arith))
+      (λ d. let f = rw d at e in never (cc))
       λ d. by-test (allTyped xs)
       (λ t. by-test (anyMissing all xs)
-      (λ n. let f = rw (d, t, n) at e in let z : _≡_ {A = ℕ} 0 1 = cc in absurd (omega arith))
+      (λ n. let f = rw (d, t, n) at e in never (cc))
       (λ n. rw d (all-checked xs t n)))
-      (λ t. let f = rw (d, t) at e in let z : _≡_ {A = ℕ} 0 1 = cc in absurd (omega arith))
+      (λ t. let f = rw (d, t) at e in never (cc))
 
   pub enter-checked : (ls : List Line) → LinesChecked ls → EnteredChecked (enter ls)
   unfolding enter

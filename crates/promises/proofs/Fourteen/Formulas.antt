@@ -44,7 +44,7 @@ use Rattle.operators.specs.Values.{
 use Rattle.promises.specs.Unfinished.{bytesHeld, stringsHeld, allBytes, Grown, LiveIsExact}
 use Rattle.promises.specs.StringSpace as asks
 use Rattle.promises.specs.StringSpace.{Ask, bytesIn, Exceeds, textsIn, behind, Asks, AsksAmong}
-use Rattle.promises.proofs.Never.{never}
+use Rattle.whole.proofs.Never.{never}
 use Rattle.promises.proofs.Fourteen.Rooms as rooms
 use Rattle.promises.proofs.Fourteen.Rooms.{
   Spares,

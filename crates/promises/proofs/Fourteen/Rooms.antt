@@ -45,7 +45,7 @@ use Rattle.strings.specs.Functions.{
 }
 use Rattle.operators.specs.Values.{wholeThen, isBefore, onTexts, joined, leftRight, sides, Taken, taken, stopped, result, valueOf, valuesOf}
 use Rattle.promises.specs.StringSpace.{Produces}
-use Rattle.promises.proofs.Never.{never}
+use Rattle.whole.proofs.Never.{never}
 
 -- ---- an answer of the arithmetic is never 14
 

@@ -40,7 +40,7 @@ use Rattle.runner.specs.declared.running.Outcome.the-variants.{Failed}
 use Rattle.promises.specs.Unfinished.{LiveIsExact}
 use Rattle.promises.specs.StringSpace as asks
 use Rattle.promises.specs.StringSpace.{Ask, Exceeds, StatementAsks, Begins, AsksTooMuch}
-use Rattle.promises.proofs.Never.{never}
+use Rattle.whole.proofs.Never.{never}
 use Rattle.promises.proofs.Limits.Keeping.{Keeps}
 use Rattle.promises.proofs.Limits.Bounds.{Stands, entering-stands, turn-stands, RunView, long, unloaded, runs, run-view}
 use Rattle.promises.proofs.Fourteen.Statements.{told, StatementOver, statement-tells, StatementFails, statement-fails}

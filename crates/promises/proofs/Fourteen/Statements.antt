@@ -84,7 +84,7 @@ use Rattle.turns.specs.Steps.{
 use Rattle.promises.specs.Unfinished.{LiveIsExact}
 use Rattle.promises.specs.StringSpace as asks
 use Rattle.promises.specs.StringSpace.{Ask, bytesIn, Exceeds, FormulaAsks, PrintAsks, StatementAsks}
-use Rattle.promises.proofs.Never.{never}
+use Rattle.whole.proofs.Never.{never}
 use Rattle.promises.proofs.Limits.Keeping.{cleared, begun}
 use Rattle.promises.proofs.Fourteen.Rooms.{Spares, applied-spares}
 use Rattle.promises.proofs.Fourteen.Formulas.{make-over, make-refused, formula-over, formula-fails}

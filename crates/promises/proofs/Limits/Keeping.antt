@@ -79,7 +79,7 @@ use Rattle.turns.specs.Steps.{
   lineOver,
   doStatement,
 }
-use Rattle.promises.proofs.Never.{never}
+use Rattle.whole.proofs.Never.{never}
 
 -- what holds of the machine that a statement leaves, wherever it leads
 abbrev pub Leaves : (Machine → Type 0) → Next → Type 0

@@ -35,7 +35,7 @@ use Rattle.runner.specs.Run.{
 use Rattle.runner.specs.declared.running.Outcome.{Outcome}
 use Rattle.runner.specs.declared.running.Outcome.the-variants.{Refused}
 use Rattle.promises.specs.Demands.{RefusedFor, longSpace, notLoaded}
-use Rattle.promises.proofs.Never.{never}
+use Rattle.whole.proofs.Never.{never}
 use Rattle.promises.proofs.Limits.Bounds.{RunView, long, unloaded, runs, run-view}
 use Rattle.variables.specs.Strings.{longestSpace}
 
