@@ -10,6 +10,7 @@ use space::copy_in;
 use variables::Numbers;
 use variables::Strings;
 use variables::Tables;
+use variables::wide;
 
 // Names, words, names, lengths and two counts: see `side_by_side`.
 pub type Block = [u8; 450];
@@ -26,12 +27,6 @@ const LENGTHS: usize = 384;
 const NUMBER_COUNT: usize = 448;
 
 const STRING_COUNT: usize = 449;
-
-fn wide(byte: u8) -> usize
-    ensures { λ r. ⌜ r ≡ byte ⌝ }
-{
-    byte as usize
-}
 
 fn wide_word(byte: u8) -> u16
     ensures { λ r. ⌜ (r ≡ byte) × (r < 256) ⌝ }

@@ -70,11 +70,11 @@ pub fn slot_of(names: &[u8; 128], name: Telling) -> Slot
     Slot::None
 }
 
-// A length as it is added up.
-pub fn wide(len: u8) -> usize
-    ensures { λ r. ⌜ (r ≡ len) × (r < 256) ⌝ }
+// A byte that counts something, as a number to reckon with.
+pub fn wide(byte: u8) -> usize
+    ensures { λ r. ⌜ (r ≡ byte) × (r < 256) ⌝ }
 {
-    len as usize
+    byte as usize
 }
 
 // How many bytes the strings before an entry have together.
