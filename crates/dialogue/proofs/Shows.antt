@@ -121,11 +121,11 @@ module _ {m : Machine} {f : Formula} {u : Scanned} {space room space′ room′ 
         leads = λ text rs input n same go. leads-worked settled v same (λ x o. written o (shownValue x) go);
       })
   shows-worked (Whole w t) v (a, b) =
-      shows-as (a ∙ ap (shownAs (printedAs (m .printer) (length room) (texts.printed w))) (v .goes)) b
-      (shows-bytes fit (texts.printed w) u (v .framed .long)
+      shows-as (a ∙ ap (shownAs (printedAs (m .printer) (length room) (texts.printedNumber w))) (v .goes)) b
+      (shows-bytes fit (texts.printedNumber w) u (v .framed .long)
       (λ text rs input n same go.
       leads-on (leads-worked settled v same (λ x o. written o (shownValue x) go))
-      (λ o s. leads-written s fit (texts.printed w) go)))
+      (λ o s. leads-written s fit (texts.printedNumber w) go)))
   shows-worked (Text len t) v (a, b) =
       let bytes = take len (drop (m .used) space′) in
       shows-as (a ∙ ap (shownAs (printedAs (m .printer) (length room) bytes)) (v .goes)) b

@@ -16,7 +16,7 @@ use Rattle.words.specs.declared.places.LineNumber.{LineNumber}
 use Rattle.words.proofs.Choices.{by-test, both}
 use Rattle.words.proofs.Runs.{run-passes}
 use Rattle.loader.specs.Lines.{Line, linesOf, numberOf}
-use Rattle.loader.specs.Loading.{isPlain, numbered, withNumber, judged, after, loadLines, loadOf, longestText, mostLines}
+use Rattle.loader.specs.Loading.{isPlain, numbered, withNumber, judged, byJudged, loadLines, loadOf, longestText, mostLines}
 use Rattle.loader.specs.declared.lines.NumberFound.{NumberFound}
 use Rattle.loader.specs.declared.lines.NumberFound.the-variants.{Is, None}
 use Rattle.loader.specs.declared.refusals.Refusal.{Refusal}
@@ -144,11 +144,11 @@ not-fine : {P : Type 0} {r : Refusal} {p : Place} → Refused r p ≡ Fine → P
 not-fine e = never (cc)
 
 -- where all is fine, so are the first line and what follows it
-fine-first : (s : List ℕ) (before floor start : ℕ) (next : ℕ → Loaded) → after (judged s before floor) start next ≡ Fine
+fine-first : (s : List ℕ) (before floor start : ℕ) (next : ℕ → Loaded) → byJudged (judged s before floor) start next ≡ Fine
     → (n : LineNumber) × Accepted s before floor n × (next (n .0 + 1) ≡ Fine)
 fine-first s before floor start next e = go (judged s before floor) refl e
   where
-    go : (j : Judged) → judged s before floor ≡ j → after j start next ≡ Fine
+    go : (j : Judged) → judged s before floor ≡ j → byJudged j start next ≡ Fine
         → (n : LineNumber) × Accepted s before floor n × (next (n .0 + 1) ≡ Fine)
     go (Good n) f g = (n, judged-good before floor s f, g)
     go (Bad r k) f g = not-fine g

@@ -48,13 +48,13 @@ judged bytes before floor =
     (withNumber (numberOf bytes) before floor))
 
 -- the first line that is bad decides; the next line's number must be above this one's
-abbrev pub after : Judged → ℕ → (ℕ → Loaded) → Loaded
-after (Good n) start next = next (n .0 + 1)
-after (Bad refusal offset) start next = Refused refusal (place (start + offset))
+abbrev pub byJudged : Judged → ℕ → (ℕ → Loaded) → Loaded
+byJudged (Good n) start next = next (n .0 + 1)
+byJudged (Bad refusal offset) start next = Refused refusal (place (start + offset))
 
 unfoldable pub loadLines : ℕ → ℕ → List Line → Loaded
 loadLines before floor [] = Fine
-loadLines before floor (l ∷ ls) = after (judged (l .bytes) before floor) (l .start) (λ above. loadLines (before + 1) above ls)
+loadLines before floor (l ∷ ls) = byJudged (judged (l .bytes) before floor) (l .start) (λ above. loadLines (before + 1) above ls)
 
 abbrev pub longestText : ℕ
 longestText = 16384

@@ -8,7 +8,7 @@ use lib.Dec.{ltb, leb, eqb}
 use lib.IntN.{ℤ, pos, negsuc}
 use lib.ListN.{length}
 use lib.Signed.{ltZ}
-use Rattle.whole.specs.Errors.{numberOf}
+use Rattle.whole.specs.Errors.{errorNumber}
 use Rattle.whole.specs.Whole.{fit, applied}
 use Rattle.whole.specs.declared.arithmetic.Answer.{Answer}
 use Rattle.whole.specs.declared.arithmetic.Answer.the-variants as answer
@@ -333,7 +333,7 @@ HasRoom n = lacksRoom n ≡ false
 -- a sum that is too large is 6
 abbrev AnswerHasRoom : Answer → Type 0
 AnswerHasRoom (answer.Whole w) = Unit {0}
-AnswerHasRoom (answer.Fault e) = eqb (numberOf e) 7 ≡ false
+AnswerHasRoom (answer.Fault e) = eqb (errorNumber e) 7 ≡ false
 
 fit-has-room : (z : ℤ) → AnswerHasRoom (fit z)
 unfolding fit

@@ -5,7 +5,7 @@ use Prim.Native.Nat.{ℕ, zero, suc, _+_, _-_}
 use lib.Dec.{ltb}
 use lib.ListN.{length, drop, replicate}
 use Rattle.whole.specs.Digits.{leadingDigits, leadingValue}
-use Rattle.whole.specs.Errors.{numberOf}
+use Rattle.whole.specs.Errors.{errorNumber}
 use Rattle.whole.specs.declared.errors.Error.{Error}
 use Rattle.whole.specs.declared.errors.Error.the-variants.{Syntax, FormulaTooComplex}
 use Rattle.loader.specs.Lines.{Line, linesOf}
@@ -118,7 +118,7 @@ abbrev pub numberIn : Outcome → ℕ
 numberIn Ended = 0
 numberIn (Stopped l) = 0
 numberIn (Out l) = 0
-numberIn (Failed e l) = numberOf e
+numberIn (Failed e l) = errorNumber e
 numberIn (Refused r p) = refusalNumber r
 
 abbrev pub lineIn : Outcome → ℕ

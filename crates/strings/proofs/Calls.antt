@@ -10,7 +10,7 @@ use lib.Dec.{leb}
 use lib.ListN.{length, take, drop, getD, replicate, length-drop}
 use lib.Seq.{length-take-le, drop-cons, drop-drop}
 use types.Run.{OneOf, miss}
-use Rattle.whole.specs.Texts.{shown, hexadecimal, longestString}
+use Rattle.whole.specs.Texts.{signedNumeral, hexadecimal, longestString}
 use Rattle.whole.specs.declared.errors.Error.the-variants.{IllegalFunctionCall}
 use Rattle.whole.specs.Bytes.{blank}
 use Rattle.whole.proofs.Never.{never}
@@ -137,7 +137,7 @@ module _ (before : List ℕ) (used : ℕ) (g : Given) (p : Placed before used g)
     pub space-made : {r : Worked} {after : List ℕ} → Fills n blank r after → Calls Space r after
     space-made m = made-as (λ room. rw first-word) m
 
-    pub str-made : {r : Worked} {after : List ℕ} → MadeOf (produced (shown n)) before used g ahead r after → Calls Str r after
+    pub str-made : {r : Worked} {after : List ℕ} → MadeOf (produced (signedNumeral n)) before used g ahead r after → Calls Str r after
     str-made m = made-as (λ room. rw first-word) m
 
     pub hex-made : {r : Worked} {after : List ℕ} → MadeOf (produced (hexadecimal n)) before used g ahead r after → Calls Hex r after

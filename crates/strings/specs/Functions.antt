@@ -7,7 +7,7 @@ use lib.Dec.{leb, ltb, eqb}
 use lib.IntN.{pos}
 use lib.ListN.{length, take, drop, getD, replicate}
 use Rattle.whole.specs.Digits.{valOf}
-use Rattle.whole.specs.Texts.{shown, hexadecimal, longestString}
+use Rattle.whole.specs.Texts.{signedNumeral, hexadecimal, longestString}
 use Rattle.whole.specs.Whole.{fit, magnitude, signum}
 use Rattle.whole.specs.declared.arithmetic.Answer.{Answer}
 use Rattle.whole.specs.declared.arithmetic.Answer.the-variants.{Whole, Fault}
@@ -127,7 +127,7 @@ called String vs room =
 called Instr vs room =
     ranged (within 1 (instrStart vs)) room
     (answered (Whole (placeOf (instrStart vs) (bytes vs (instrTexts vs)) (bytes vs (suc (instrTexts vs))))) vs room)
-called Str vs room = produced (shown (word vs 0)) vs room
+called Str vs room = produced (signedNumeral (word vs 0)) vs room
 called Hex vs room = produced (hexadecimal (word vs 0)) vs room
 called Val vs room = answered (valOf (bytes vs 0)) vs room
 called Abs vs room = answered (magnitude (word vs 0)) vs room

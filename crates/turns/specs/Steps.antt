@@ -110,7 +110,7 @@ written m bytes go = byPrinted (write m bytes)
     byPrinted (printed n) = go n
 
 abbrev pub shownValue : Value → List ℕ
-shownValue (whole w) = texts.printed w
+shownValue (whole w) = texts.printedNumber w
 shownValue (text b) = b
 
 -- without a final `,` or `;` it ends with bytes 13, 10

@@ -13,7 +13,7 @@ use lib.ListN.{length, replicate, length-append, length-map, replicate-append-re
 use lib.Seq.{set-append-seam, append-snoc}
 use Rattle.whole.specs.declared.texts.Text.{Text}
 use Rattle.whole.specs.Bytes.{blank}
-use Rattle.whole.specs.Texts.{longestString, held, withByte, places, trimmed, digitByte, numeral, shown}
+use Rattle.whole.specs.Texts.{longestString, held, withByte, places, trimmed, digitByte, numeral, signedNumeral}
 use Rattle.whole.specs.Whole.{num}
 use Rattle.whole.proofs.Numbers.{less, num-low, num-high}
 
@@ -131,14 +131,14 @@ module _ (base : ℕ) where
 
 -- ---- STR$, of a word that holds a number from 0 on, and of one that holds one below
 
-pub shown-low : (w : ℕ) → w < 32768 → shown w ≡ blank ∷ numeral 10 5 w
-unfolding shown
+pub shown-low : (w : ℕ) → w < 32768 → signedNumeral w ≡ blank ∷ numeral 10 5 w
+unfolding signedNumeral
 shown-low w h = rw (num-low w h)
 
-pub shown-high : (w : ℕ) → 32768 ≤ w → w < 65536 → shown w ≡ 45 ∷ numeral 10 5 (65535 - w + 1)
-unfolding shown
+pub shown-high : (w : ℕ) → 32768 ≤ w → w < 65536 → signedNumeral w ≡ 45 ∷ numeral 10 5 (65535 - w + 1)
+unfolding signedNumeral
 shown-high w l h = rw (num-high w l h, add-one (65535 - w))
 
-pub shown-length : (w : ℕ) → length (shown w) ≤ 6
-unfolding shown
+pub shown-length : (w : ℕ) → length (signedNumeral w) ≤ 6
+unfolding signedNumeral
 shown-length w = suc-le-suc (numeral-length 10 5 (natAbs (num w)))

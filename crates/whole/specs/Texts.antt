@@ -52,12 +52,12 @@ signByte (pos n) = blank
 signByte (negsuc n) = code "-"
 
 -- STR$: a blank or minus, then digits, of which a whole number has at most five
-unfoldable pub shown : ℕ → List ℕ
-shown w = signByte (num w) ∷ numeral 10 5 (natAbs (num w))
+unfoldable pub signedNumeral : ℕ → List ℕ
+signedNumeral w = signByte (num w) ∷ numeral 10 5 (natAbs (num w))
 
 -- PRINT: a blank or minus, its digits, a blank
-abbrev pub printed : ℕ → List ℕ
-printed w = shown w ++ (blank ∷ [])
+abbrev pub printedNumber : ℕ → List ℕ
+printedNumber w = signedNumeral w ++ (blank ∷ [])
 
 -- HEX$: of the 16 bits; capitals, no leading zeros, 0 for 0
 abbrev pub hexadecimal : ℕ → List ℕ

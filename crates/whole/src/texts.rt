@@ -3,7 +3,7 @@ ghost use mathlib.Core.Path.{_≡_};
 ghost use mathlib.Core.List.{List, [], _++_};
 ghost use Prim.Native.Nat.{ℕ, suc, _+_, _^_, _≤_, _<_};
 ghost use lib.ListN.{length};
-ghost use Rattle.whole.specs.Texts.{longestString, held, withByte, digitByte, numeral, shown, printed, hexadecimal};
+ghost use Rattle.whole.specs.Texts.{longestString, held, withByte, digitByte, numeral, signedNumeral, printedNumber, hexadecimal};
 
 // The bytes of a text stand first, zeros after them.
 pub struct Text {
@@ -73,7 +73,7 @@ fn put_numeral(text: Text, base: u16, value: u16) -> Text
 
 // A blank or a minus, then the digits: what STR$ gives.
 pub fn str_text(word: u16) -> Text
-    ensures { λ r. ⌜ r ≡ held (shown word) ⌝ }
+    ensures { λ r. ⌜ r ≡ held (signedNumeral word) ⌝ }
 {
     let empty = Text::empty();
     if word < 32768 {
@@ -87,10 +87,10 @@ pub fn str_text(word: u16) -> Text
 
 // STR$'s text and a blank: what PRINT shows.
 pub fn print_text(word: u16) -> Text
-    ensures { λ r. ⌜ r ≡ held (printed word) ⌝ }
+    ensures { λ r. ⌜ r ≡ held (printedNumber word) ⌝ }
 {
-    let shown = str_text(word);
-    shown.put(b' ')
+    let signed = str_text(word);
+    signed.put(b' ')
 }
 
 // The 16 bits in capitals, without leading zeros: what HEX$ gives.

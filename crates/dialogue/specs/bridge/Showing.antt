@@ -46,7 +46,7 @@ shownAs p t = cond (p .ok) (answer.On (p .printer) t) (answer.Fault OutputFull)
 abbrev pub ShowsWorked : Worked → ℕ → Printer → List ℕ → List ℕ → Shown → List ℕ → Type 0
 ShowsWorked (worked.Fault e) used p space room r room′ = (r ≡ answer.Fault e) × (room′ ≡ room)
 ShowsWorked (worked.Whole w t) used p space room r room′ =
-    (r ≡ shownAs (printedAs p (length room) (texts.printed w)) t) × (room′ ≡ copied room (p .written) (texts.printed w))
+    (r ≡ shownAs (printedAs p (length room) (texts.printedNumber w)) t) × (room′ ≡ copied room (p .written) (texts.printedNumber w))
 ShowsWorked (worked.Text len t) used p space room r room′ =
     (r ≡ shownAs (printedAs p (length room) (take len (drop used space))) t)
     × (room′ ≡ copied room (p .written) (take len (drop used space)))

@@ -11,7 +11,7 @@ use lib.Signed.{ltZ, leZ, quotZ, remZ}
 use lib.ListN.{length, take, drop, getD, replicate}
 use Rattle.whole.specs.Bytes.{is, blank}
 use Rattle.whole.specs.Digits.{leadingValue, signedValue, valOf}
-use Rattle.whole.specs.Texts.{shown, hexadecimal, longestString}
+use Rattle.whole.specs.Texts.{signedNumeral, hexadecimal, longestString}
 use Rattle.whole.specs.Whole.{num, fit, unlessZero, say, applied, negated, magnitude, signum}
 use Rattle.whole.specs.declared.arithmetic.Answer.{Answer}
 use Rattle.whole.specs.declared.arithmetic.Answer.the-variants.{Whole, Fault}
@@ -142,7 +142,7 @@ module _ (vs : List Value) where
       by-test (within 1 (instrStart vs))
       (λ e. whole-view _ (placeOf (instrStart vs) (bytes vs (instrTexts vs)) (bytes vs (suc (instrTexts vs)))) (λ room. rw e))
       (λ e. refuses (λ room. rw e))
-  call-view function.Str = makes (shown (word vs 0)) (λ room. refl)
+  call-view function.Str = makes (signedNumeral (word vs 0)) (λ room. refl)
   call-view function.Hex = makes (hexadecimal (word vs 0)) (λ room. refl)
   call-view function.Val = answer-view _ (valOf (bytes vs 0)) (signed-spares _) (λ room. refl)
   call-view function.Abs = answer-view _ (magnitude (word vs 0)) (fit-spares (pos (natAbs (num (word vs 0))))) (λ room. refl)

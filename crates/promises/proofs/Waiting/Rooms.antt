@@ -8,7 +8,7 @@ use lib.Dec.{leb, ltb}
 use lib.IntN.{pos}
 use lib.ListN.{length, take, drop, getD, replicate}
 use Rattle.whole.specs.Digits.{valOf}
-use Rattle.whole.specs.Texts.{shown, hexadecimal, longestString}
+use Rattle.whole.specs.Texts.{signedNumeral, hexadecimal, longestString}
 use Rattle.whole.specs.Whole.{fit, magnitude, signum}
 use Rattle.whole.specs.declared.arithmetic.Answer.{Answer}
 use Rattle.whole.specs.declared.arithmetic.Answer.the-variants.{Whole, Fault}
@@ -102,7 +102,7 @@ module _ (top : ℕ) where
       called-good Instr =
           ranged-good (within 1 (instrStart vs)) _
           (answered-good (Whole (placeOf (instrStart vs) (bytes vs (instrTexts vs)) (bytes vs (suc (instrTexts vs))))))
-      called-good Str = produced-good (shown (word vs 0))
+      called-good Str = produced-good (signedNumeral (word vs 0))
       called-good Hex = produced-good (hexadecimal (word vs 0))
       called-good Val = answered-good (valOf (bytes vs 0))
       called-good Abs = answered-good (magnitude (word vs 0))
