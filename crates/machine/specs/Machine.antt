@@ -133,17 +133,18 @@ commaBlanks m = replicate (14 - m .column % 14) blank
 
 -- ---- loops
 
--- an older loop of the variable above the nearest GOSUB is dropped with all above it
+-- what a search down the records comes to: none, or a loop's limit, step, place and variable, and the records below it
 pub data Search : Type 0 where
   missing : Search
   found : ℕ → ℕ → Position → Telling → List Record → Search
 
--- the topmost loop that passes the test, above the nearest GOSUB, and the records below it
+-- the topmost loop that passes the test, above the nearest GOSUB
 unfoldable pub sought : (Telling → Bool) → List Record → Search
 sought test [] = missing
 sought test (call p ∷ rs) = missing
 sought test (loop v limit step p ∷ rs) = cond (test v) (found limit step p v rs) (sought test rs)
 
+-- an older loop of the variable above the nearest GOSUB is dropped with all above it
 abbrev pub below : List Record → Search → List Record
 below rs missing = rs
 below rs (found limit step p v under) = under

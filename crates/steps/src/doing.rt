@@ -30,7 +30,7 @@ use words::Place;
 use words::Scanned;
 use words::Word;
 
-// After a remark and an empty statement the run goes on at what follows.
+// Does the statement by the word that leads it; after a remark and an empty one the run goes on at what follows.
 pub fn do_statement(
     text: &[u8],
     line: &[u8],

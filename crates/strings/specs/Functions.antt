@@ -74,7 +74,7 @@ ranged right room result = cond right result (fault IllegalFunctionCall room)
 
 -- ---- INSTR: the first place at or after i where y stands in x, counted from 1, or 0
 
--- how many bytes of s stand before y, if it stands there
+-- whether s begins with y
 unfoldable pub startsWith : List ℕ → List ℕ → Bool
 startsWith [] s = true
 startsWith (c ∷ y) [] = false
