@@ -21,6 +21,7 @@ use Rattle.variables.specs.Tables.{sumOf}
 use Rattle.variables.specs.declared.tables.Slot.{Slot}
 use Rattle.variables.specs.declared.tables.Slot.the-variants as slot
 use Rattle.variables.specs.declared.tables.Tables.{Tables}
+use Rattle.variables.specs.Variables.{mostVariables}
 use Rattle.asking.specs.Asking.{stringAsked, asked, askOf}
 use Rattle.asking.specs.declared.questions.Asked.{Asked}
 use Rattle.asking.specs.declared.questions.Asked.the-variants.{Text, Refused}
@@ -32,9 +33,9 @@ module _ (lengths : List ℕ) (space : ℕ) where
   pub string-unset : {x : Slot} → x ≡ slot.None → Text (record { 0 = 0 }) 0 ≡ stringAsked x lengths space
   string-unset e = rw e
 
-  module _ {x : Slot} (i from len : ℕ) (e : x ≡ slot.At i) (h : i < 64) (f : from ≡ sumOf (take (min i 64) lengths)) (l : len ≡ getD lengths i 0) where
+  module _ {x : Slot} (i from len : ℕ) (e : x ≡ slot.At i) (h : i < mostVariables) (f : from ≡ sumOf (take (min i mostVariables) lengths)) (l : len ≡ getD lengths i 0) where
     here : from ≡ sumOf (take i lengths)
-    here = let m : min i 64 ≡ i = omega arith in f ∙ ap (λ n. sumOf (take n lengths)) m
+    here = let m : min i mostVariables ≡ i = omega arith in f ∙ ap (λ n. sumOf (take n lengths)) m
 
     -- its bytes end after the space does,
     pub string-outside : space < from + len → Refused ≡ stringAsked x lengths space

@@ -12,6 +12,7 @@ use variables::Strings;
 use variables::Tables;
 use variables::offset_of;
 use variables::slot_of;
+use variables::wide;
 use words::Kind;
 use words::Place;
 use words::Telling;
@@ -35,13 +36,6 @@ fn number_asked(numbers: Numbers, name: Telling) -> Asked
         Slot::None => Asked::Whole(0),
         Slot::At(slot) => Asked::Whole(words[slot]),
     }
-}
-
-// A length as a part of the space has it.
-fn wide(len: u8) -> usize
-    ensures { λ r. ⌜ r ≡ len ⌝ }
-{
-    len as usize
 }
 
 // An unset string is empty; the space handed in may end before another's bytes.

@@ -8,6 +8,7 @@ use lib.Seq.{length-take-le}
 use Rattle.space.specs.Moves.{copied, overlaid}
 use Rattle.space.proofs.Frames.{copied-lies}
 use Rattle.space.proofs.Overlaid.{overlaid-length, overlaid-after}
+use Rattle.variables.specs.Variables.{mostVariables}
 
 -- bytes copied over as many others
 pub copied-whole : (space bytes : List ℕ) → length bytes ≡ length space → copied space 0 bytes ≡ bytes
@@ -32,7 +33,7 @@ copied-after space a b at e h =
 
 module _ (space a b s l c : List ℕ) (whole : length space ≡ 450) where
   -- five parts that fill a block
-  pub laid-out : length a ≡ 128 → length b ≡ 128 → length s ≡ 128 → length l ≡ 64 → length c ≡ 2
+  pub laid-out : length a ≡ 128 → length b ≡ 128 → length s ≡ 128 → length l ≡ mostVariables → length c ≡ 2
       → copied (copied (copied (copied (copied space 0 a) 128 b) 256 s) 384 l) 448 c ≡ a ++ (b ++ (s ++ (l ++ c)))
   laid-out ea eb es el ec =
       let e2 : length (a ++ b) ≡ 256 = simp length-append (omega arith) in

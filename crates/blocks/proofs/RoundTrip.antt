@@ -7,6 +7,7 @@ use native.Mathlib.Omega.{arith}
 use lib.ListN.{length, getD, take, drop}
 use lib.Seq.{take-at, drop-at, drop-drop, getD-drop}
 use Rattle.variables.specs.declared.tables.Tables.{Tables}
+use Rattle.variables.specs.Variables.{mostVariables}
 use Rattle.blocks.specs.Blocks.{wordsFrom, wordBytes, tablesIn, blockOf, Held}
 use Rattle.blocks.proofs.Words.{word-bytes-length, words-back}
 
@@ -35,24 +36,24 @@ module _ (t : Tables) (held : Held t) where
   from-lengths = behind block (t .strings .names) _ 256 128 from-strings (held .stringNames)
 
   from-counts : drop 448 block ≡ counts
-  from-counts = behind block (t .strings .lengths) _ 384 64 from-lengths (held .lengths)
+  from-counts = behind block (t .strings .lengths) _ 384 mostVariables from-lengths (held .lengths)
 
   names-back : take 128 block ≡ t .numbers .names
   unfolding blockOf
   names-back = take-at (t .numbers .names) _ 128 (held .numberNames)
 
-  all-words-back : wordsFrom 64 (take 128 (drop 128 block)) ≡ t .numbers .words
+  all-words-back : wordsFrom mostVariables (take 128 (drop 128 block)) ≡ t .numbers .words
   all-words-back =
-      ap (λ l. wordsFrom 64 (take 128 l)) from-words
-      ∙ ap (wordsFrom 64) (take-at (wordBytes (t .numbers .words)) _ 128 words)
+      ap (λ l. wordsFrom mostVariables (take 128 l)) from-words
+      ∙ ap (wordsFrom mostVariables) (take-at (wordBytes (t .numbers .words)) _ 128 words)
       ∙ ap (λ n. wordsFrom n (wordBytes (t .numbers .words))) (sym (held .words))
       ∙ words-back (t .numbers .words)
 
   string-names-back : take 128 (drop 256 block) ≡ t .strings .names
   string-names-back = ap (take 128) from-strings ∙ take-at (t .strings .names) _ 128 (held .stringNames)
 
-  lengths-back : take 64 (drop 384 block) ≡ t .strings .lengths
-  lengths-back = ap (take 64) from-lengths ∙ take-at (t .strings .lengths) _ 64 (held .lengths)
+  lengths-back : take mostVariables (drop 384 block) ≡ t .strings .lengths
+  lengths-back = ap (take mostVariables) from-lengths ∙ take-at (t .strings .lengths) _ mostVariables (held .lengths)
 
   number-count-back : getD block 448 0 ≡ t .numbers .count
   number-count-back = sym (getD-drop 448 block 0 0) ∙ ap (λ l. getD l 0 0) from-counts ∙ mod-eq-of-lt (held .fewNumbers)

@@ -6,6 +6,7 @@ use mathlib.Core.List.{List, [], _∷_, _++_}
 use Prim.Native.Nat.{ℕ, zero, suc, _+_, _*_, _/_, _%_, _<_}
 use lib.ListN.{length, getD, take, drop}
 use Rattle.variables.specs.declared.tables.Tables.{Tables}
+use Rattle.variables.specs.Variables.{mostVariables}
 
 -- so many words of two bytes each
 unfoldable pub wordsFrom : ℕ → List ℕ → List ℕ
@@ -15,8 +16,8 @@ wordsFrom (suc n) bytes = (getD bytes 0 0 + 256 * getD bytes 1 0) ∷ wordsFrom 
 -- the tables that a block means
 abbrev pub tablesIn : List ℕ → Tables
 tablesIn block = record {
-  numbers = record { names = take 128 block; words = wordsFrom 64 (take 128 (drop 128 block)); count = getD block 448 0 };
-  strings = record { names = take 128 (drop 256 block); lengths = take 64 (drop 384 block); count = getD block 449 0 };
+  numbers = record { names = take 128 block; words = wordsFrom mostVariables (take 128 (drop 128 block)); count = getD block 448 0 };
+  strings = record { names = take 128 (drop 256 block); lengths = take mostVariables (drop 384 block); count = getD block 449 0 };
 }
 
 -- the bytes of words
@@ -37,8 +38,8 @@ blockOf t =
 -- again they are the same (`round-trip`, proved)
 pub record Held (t : Tables) : Type 0 where
   pub numberNames : length (t .numbers .names) ≡ 128
-  pub words : length (t .numbers .words) ≡ 64
+  pub words : length (t .numbers .words) ≡ mostVariables
   pub fewNumbers : t .numbers .count < 256
   pub stringNames : length (t .strings .names) ≡ 128
-  pub lengths : length (t .strings .lengths) ≡ 64
+  pub lengths : length (t .strings .lengths) ≡ mostVariables
   pub fewStrings : t .strings .count < 256

@@ -4,11 +4,13 @@ ghost use mathlib.Core.List.{_++_};
 ghost use Prim.Native.Nat.{_+_, _*_, _/_, _%_, _≤_, _<_};
 ghost use lib.ListN.{length, take, drop};
 ghost use Rattle.blocks.specs.Blocks.{wordsFrom, wordBytes, tablesIn, blockOf};
+ghost use Rattle.variables.specs.Variables.{mostVariables};
 use space::Offset;
 use space::copy_in;
 use variables::Numbers;
 use variables::Strings;
 use variables::Tables;
+use variables::wide;
 
 // Names, words, names, lengths and two counts: see `side_by_side`.
 pub type Block = [u8; 450];
@@ -25,12 +27,6 @@ const LENGTHS: usize = 384;
 const NUMBER_COUNT: usize = 448;
 
 const STRING_COUNT: usize = 449;
-
-fn wide(byte: u8) -> usize
-    ensures { λ r. ⌜ r ≡ byte ⌝ }
-{
-    byte as usize
-}
 
 fn wide_word(byte: u8) -> u16
     ensures { λ r. ⌜ (r ≡ byte) × (r < 256) ⌝ }
@@ -75,24 +71,24 @@ fn bytes_at(block: &[u8], from: usize) -> [u8; 128]
     bytes
 }
 
-// 64 bytes of a block: the lengths.
-fn lengths_at(block: &[u8], from: usize) -> [u8; 64]
-    requires { ⌜ from + 64 ≤ length (now block) ⌝ }
-    ensures { λ r. ⌜ r ≡ take 64 (drop from (now (block .entry))) ⌝ }
+// The lengths in a block, one a variable.
+fn lengths_at(block: &[u8], from: usize) -> [u8; Tables::MOST]
+    requires { ⌜ from + mostVariables ≤ length (now block) ⌝ }
+    ensures { λ r. ⌜ r ≡ take mostVariables (drop from (now (block .entry))) ⌝ }
 {
-    let mut lengths = [0; 64];
-    let end = from + 64;
+    let mut lengths = [0; Tables::MOST];
+    let end = from + Tables::MOST;
     copy_in(&mut lengths, Offset(0), &block[from..end]);
     lengths
 }
 
-// 64 words from their bytes.
-fn words_of(bytes: [u8; 128]) -> [u16; 64]
-    ensures { λ r. ⌜ r ≡ wordsFrom 64 bytes ⌝ }
+// The words from their bytes.
+fn words_of(bytes: [u8; 128]) -> [u16; Tables::MOST]
+    ensures { λ r. ⌜ r ≡ wordsFrom mostVariables bytes ⌝ }
 {
-    let mut words = [0; 64];
+    let mut words = [0; Tables::MOST];
     let mut i = 0;
-    while i < 64 {
+    while i < Tables::MOST {
         let at = 2 * i;
         words[i] = word_of(bytes[at], bytes[at + 1]);
         i += 1;
@@ -100,13 +96,13 @@ fn words_of(bytes: [u8; 128]) -> [u16; 64]
     words
 }
 
-// The bytes of 64 words.
-fn bytes_of(words: [u16; 64]) -> [u8; 128]
+// The bytes of the words.
+fn bytes_of(words: [u16; Tables::MOST]) -> [u8; 128]
     ensures { λ r. ⌜ r ≡ wordBytes words ⌝ }
 {
     let mut bytes = [0; 128];
     let mut i = 0;
-    while i < 64 {
+    while i < Tables::MOST {
         let at = 2 * i;
         let word = words[i];
         bytes[at] = low_byte(word);
@@ -142,7 +138,7 @@ fn side_by_side(
     number_names: &[u8; 128],
     words: &[u8; 128],
     string_names: &[u8; 128],
-    lengths: &[u8; 64],
+    lengths: &[u8; Tables::MOST],
     counts: &[u8; 2],
 ) -> Block
     ensures { λ r. ⌜

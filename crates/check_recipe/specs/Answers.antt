@@ -2,7 +2,7 @@
 use mathlib.Core.List.{List, [], _∷_}
 use Prim.Native.Nat.{ℕ}
 use Rattle.whole.specs.Bytes.{bytes}
-use Rattle.whole.specs.Errors.{numberOf}
+use Rattle.whole.specs.Errors.{errorNumber}
 use Rattle.loader.specs.Refusals.{refusalNumber}
 use Rattle.console.specs.Lines.{line}
 use Rattle.checker.specs.declared.checking.Verdict.{Verdict}
@@ -11,4 +11,4 @@ use Rattle.checker.specs.declared.checking.Verdict.the-variants.{Passed, Refuse
 abbrev pub lineOf : Verdict → List ℕ
 lineOf Passed = line (bytes "passed") []
 lineOf (Refused r p) = line (bytes "refused") (refusalNumber r ∷ p .0 ∷ [])
-lineOf (Faulty e l) = line (bytes "refused") (numberOf e ∷ l .0 ∷ [])
+lineOf (Faulty e l) = line (bytes "refused") (errorNumber e ∷ l .0 ∷ [])

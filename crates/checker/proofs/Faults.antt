@@ -6,6 +6,7 @@ use Prim.Native.Nat.{ℕ, _+_, _-_, _≤_, _<_}
 use native.Mathlib.Omega.{arith}
 use lib.ListN.{length, take, drop, length-drop}
 use lib.Seq.{take-add, drop-at, drop-drop, length-take-le}
+use Rattle.whole.proofs.Never.{never}
 use Rattle.whole.specs.Digits.{leadingDigits, leadingValue}
 use Rattle.whole.specs.declared.errors.Error.{Error}
 use Rattle.whole.specs.declared.errors.Error.the-variants.{Syntax, FormulaTooComplex, TypeMismatch, UndefinedLine}
@@ -48,8 +49,8 @@ module _ (all : List Line) where
   -- whether one is missing counts where the line reads
   pub fault-read : (g : Judgement) {typed lacks : Bool} → judged.Reads typed ≡ judgedAs g
       → ((part : Part) → g ≡ holds part → lacks ≡ anyMissing all (statementsOf part)) → faultBy (judged.Reads typed) lacks ≡ faultIn all g
-  fault-read unreadable e h = let z : _≡_ {A = ℕ} 0 1 = cc in absurd (omega arith)
-  fault-read tooDeep e h = let z : _≡_ {A = ℕ} 0 1 = cc in absurd (omega arith)
+  fault-read unreadable e h = never (cc)
+  fault-read tooDeep e h = never (cc)
   fault-read (holds part) e h = rw (h part refl) (fault-by (holds part) e)
 
 -- ---- the lines of a recipe
@@ -83,11 +84,11 @@ pub record Reached (text : List ℕ) (p : ℕ) (span : LineSpan) : Type 0 where
 -- where all lines are sound, none is found only past the last
 pub none-left : (ls : List Line) → Rising 0 ls → None ≡ firstOf ls → ls ≡ []
 none-left [] r e = refl
-none-left (l ∷ ls) r e = let f = rw (r .0 .is) at e in let z : _≡_ {A = ℕ} 0 1 = cc in absurd (omega arith)
+none-left (l ∷ ls) r e = let f = rw (r .0 .is) at e in never (cc)
 
 -- and one that is found is at its place
 reached-by : (text : List ℕ) (p : ℕ) (ls : List Line) {span : LineSpan} → linesAt text p ≡ ls → Rising 0 ls → Is span ≡ firstOf ls → Reached text p span
-reached-by text p [] q r e = let z : _≡_ {A = ℕ} 0 1 = cc in absurd (omega arith)
+reached-by text p [] q r e = never (cc)
 reached-by text p (l ∷ ls) {span} q r e =
     let k = cut text p q in
     let n = length (leadingDigits (l .bytes)) in

@@ -4,6 +4,7 @@ use mathlib.Core.Bool.{Bool, true, false, not, _||_, false≢true}
 use mathlib.Core.List.{List, [], _∷_, _++_}
 use Prim.Native.Nat.{ℕ, _+_}
 use native.Mathlib.Omega.{arith}
+use Rattle.whole.proofs.Never.{never}
 use Rattle.words.specs.declared.symbols.Scanned.{Scanned}
 use Rattle.words.specs.declared.places.LineNumber.{LineNumber}
 use Rattle.words.proofs.Choices.{by-test}
@@ -71,7 +72,7 @@ module _ (all : List Line) where
 
   read-begins : (line : List ℕ) (p : ℕ) {own : Part} {end : Scanned} → partOf line true p ≡ goodPart own end → begunAt line true p ≡ bad → ⊥
   read-begins line p e b =
-      let f = sym (unrolled line true p) ∙ e in let g = rw b at f in let z : _≡_ {A = ℕ} 0 1 = cc in omega arith
+      let f = sym (unrolled line true p) ∙ e in let g = rw b at f in never (cc)
 
   -- from the next statement on
   abbrev pub Later : List ℕ → Start → Bool → Type 0

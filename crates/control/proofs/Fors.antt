@@ -4,6 +4,7 @@ use mathlib.Core.Bool.{Bool, true, false}
 use mathlib.Core.List.{List}
 use Prim.Native.Nat.{ℕ, _≤_}
 use native.Mathlib.Omega.{arith}
+use Rattle.whole.proofs.Never.{never}
 use Rattle.whole.specs.declared.errors.Error.the-variants.{OutOfMemory, TypeMismatch}
 use Rattle.words.specs.declared.names.Kind.the-variants as kind
 use Rattle.words.specs.declared.names.Name.{Name}
@@ -54,12 +55,12 @@ record Worth (x : Reading) (go : Formula → Scanned → Begun) (y : Statement) 
   goes : go of at ≡ done y u
 
 worth : (x : Reading) (go : Formula → Scanned → Begun) {y : Statement} {u : Scanned} → onFormula x go ≡ done y u → Worth x go y u
-worth formulas.bad go e = let z : _≡_ {A = ℕ} 0 1 = cc in absurd (omega arith)
+worth formulas.bad go e = never (cc)
 worth (formulas.good f t) go e = record { of = f; at = t; is = refl; goes = e }
 
 so : (test : Bool) (go : Unit {0} → Begun) {y : Statement} {u : Scanned} → choose test go (λ _. bad) ≡ done y u → go tt ≡ done y u
 so true go e = e
-so false go e = let z : _≡_ {A = ℕ} 0 1 = cc in absurd (omega arith)
+so false go e = never (cc)
 
 -- where its formulas begin and end
 pub record ForRead (s : List ℕ) (t : Scanned) (a b c : Formula) (u : Scanned) : Type 0 where

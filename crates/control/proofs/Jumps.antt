@@ -30,6 +30,7 @@ use Rattle.machine.specs.declared.records.Sought.{Sought}
 use Rattle.machine.proofs.Stacking.{is-call, call-back, call-held, records-length, records-past, records-push, each-push}
 use Rattle.machine.proofs.Searching.{found-call, record-found, record-missing}
 use Rattle.machine.proofs.Standing.{found-begins, found-none}
+use Rattle.machine.specs.Machine.{mostRecords}
 use Rattle.turns.specs.Steps as step
 use Rattle.turns.specs.Steps.{goesOn, enters, toLine, pushed, returned, doStatement}
 use Rattle.turns.specs.bridge.Turns.{turnedTo, Comes, Turns, anyRecords, Told, FoundBelow, withDepth}

@@ -10,6 +10,7 @@ use Rattle.words.specs.declared.places.LineNumber.{LineNumber}
 use Rattle.words.specs.declared.places.Place.{Place}
 use Rattle.words.specs.declared.symbols.Scanned.{Scanned}
 use Rattle.words.specs.declared.symbols.Token.the-variants.{Named}
+use Rattle.words.specs.Places.{longestLine}
 use Rattle.grammar.specs.Trees as tree
 use Rattle.grammar.specs.Formulas.{after}
 use Rattle.grammar.specs.bridge.Answers.{lineOf}
@@ -45,7 +46,7 @@ pub next-whole : {text : List ℕ} {m : Machine} {input space room : List ℕ} {
 next-whole at v after e t = simp e t
 
 -- a FOR that reads has what it needs
-pub for-counts : (s : List ℕ) → length s ≤ 255 → (w : Scanned) (name : Name) → Begins (forAt s (variableOf s name) (after s w)) → Counts s name (after s w)
+pub for-counts : (s : List ℕ) → length s ≤ longestLine → (w : Scanned) (name : Name) → Begins (forAt s (variableOf s name) (after s w)) → Counts s name (after s w)
 for-counts s short w name =
     by-for (λ b. Begins b → Counts s name (after s w)) (λ x. absurd x) s (after s w) (variableOf s name)
     (λ a b c u e _. record { short = short; scans = record { from = w .next; is = refl }; start = a; limit = b; step = c; end = u; is = e })

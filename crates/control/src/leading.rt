@@ -7,6 +7,7 @@ ghost use Rattle.turns.specs.bridge.Turns.{FoundBelow};
 ghost use Rattle.words.specs.declared.symbols.Word.the-variants as led;
 ghost use Rattle.statements.specs.Statements.{byWord};
 ghost use Rattle.turns.specs.bridge.Doing.{Begins, Does};
+ghost use Rattle.words.specs.Places.{longestLine};
 use crate::jumping::gosub;
 use crate::jumping::goto;
 use crate::looping::for_loop;
@@ -34,7 +35,7 @@ pub fn count(
     found: Found,
     space: &mut [u8],
 ) -> Turned
-    requires { ⌜ Begins (byWord (now line) led.For target) × ((length (now line) ≤ 255) × (Settled machine (now space) × FoundBelow (machine .depth) found)) ⌝ }
+    requires { ⌜ Begins (byWord (now line) led.For target) × ((length (now line) ≤ longestLine) × (Settled machine (now space) × FoundBelow (machine .depth) found)) ⌝ }
     ensures { λ r. ⌜
         ((text input room : List ℕ) (at : ℕ) (entry : Record) → Sound machine input (now (space .entry)) room
         → Does text (now (line .entry)) here at machine found entry input (now (space .entry)) room r (now (space .exit)) room (byWord (now (line .entry)) led.For target))

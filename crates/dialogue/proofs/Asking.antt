@@ -11,6 +11,8 @@ use lib.ListN.{length, take, drop, length-drop, drop-of-length-le}
 use lib.Seq.{drop-drop, length-take-le}
 use Rattle.whole.specs.declared.errors.Error.{Error}
 use Rattle.whole.specs.declared.errors.Error.the-variants.{OutOfStringSpace, TypeMismatch, LineBufferOverflow, InputPastEnd, OutputFull}
+use Rattle.whole.specs.Texts.{longestString}
+use Rattle.whole.proofs.Never.{never}
 use Rattle.words.specs.declared.names.Kind.the-variants as kind
 use Rattle.words.specs.declared.names.Name.{Name}
 use Rattle.words.specs.declared.names.Telling.{Telling}
@@ -36,7 +38,7 @@ use Rattle.variables.specs.Strings.{Room, make, fault, value, text, withString}
 use Rattle.variables.specs.bridge.Memory.{Held, spaceStored}
 use Rattle.formulas.specs.bridge.Memory.{Scans}
 use Rattle.machine.specs.Machine as spec
-use Rattle.machine.specs.Machine.{roomOf, withInput, noting}
+use Rattle.machine.specs.Machine.{roomOf, withInput, noting, longestInputLine}
 use Rattle.machine.specs.bridge.Holding.{positionOf, Positioned, printedAs, Settled, Sound, Same}
 use Rattle.machine.specs.bridge.Taking.{takenAt}
 use Rattle.machine.specs.declared.state.Machine.{Machine}
@@ -116,18 +118,18 @@ module _ (input : List ℕ) (p : ℕ) {e : Extent} (h : p < length input) (k : R
       ap (λ x. inputLine x n v go) i ∙ some-taken (drop p input) n v go (rw (length-drop p input) (omega arith)) ∙ ap (λ t. lineTaken n v t go) (k .is)
 
   -- too long,
-  taken-long : 254 < e .end - p → (n : spec.Machine) → n .input ≡ drop p input → takesLine v after n ≡ fails LineBufferOverflow n
-  taken-long b n i = takes n i ∙ rw (lt-ltb 254 (length (take (e .end - p) (drop p input))) (rw (k .size) b))
+  taken-long : longestInputLine < e .end - p → (n : spec.Machine) → n .input ≡ drop p input → takesLine v after n ≡ fails LineBufferOverflow n
+  taken-long b n i = takes n i ∙ rw (lt-ltb longestInputLine (length (take (e .end - p) (drop p input))) (rw (k .size) b))
 
   -- or not
-  taken-short : e .end - p ≤ 254 → (n : spec.Machine) → n .input ≡ drop p input → n .taken ≡ p
+  taken-short : e .end - p ≤ longestInputLine → (n : spec.Machine) → n .input ≡ drop p input → n .taken ≡ p
       → takesLine v after n ≡ fillsIn v (take (e .end - p) (drop p input)) after (withInput n (drop (e .next) input) (e .next))
   taken-short b n i t =
       let l = ap length i ∙ length-drop p input in
       let c : n .taken + (length (n .input) - length (drop (e .next) input)) ≡ e .next =
       rw (length-drop (e .next) input) (omega (arith, k .low, k .mid, k .inside)) in
       takes n i
-      ∙ rw (le-ltb 254 (length (take (e .end - p) (drop p input))) (rw (k .size) b))
+      ∙ rw (le-ltb longestInputLine (length (take (e .end - p) (drop p input))) (rw (k .size) b))
       (ap (λ c. fillsIn v (take (e .end - p) (drop p input)) after (withInput n (drop (e .next) input) c)) c)
 
 -- the machine with another count of what was taken
@@ -168,14 +170,14 @@ module _ (text : List ℕ) {m : Machine} {input space room : List ℕ} (sound : 
 
   module _ {e : Extent} (h : m .taken < length input) (k : Reach input (m .taken) e) where
     -- the line is too long
-    takes-long : 254 < e .end - m .taken
+    takes-long : longestInputLine < e .end - m .taken
         → Turns text m input space room anyRecords (takesLine v after) (turnedTo m (next.Fails LineBufferOverflow)) space room
     takes-long b =
         turns-fails (leaves-unprinted sound refl refl refl)
         (λ rs l t n s. record { machine = n; is = taken-long input (m .taken) h k v after b n (s .left); same = s })
 
     -- it is taken
-    takes-short : e .end - m .taken ≤ 254 → {r : Turned} {space′ : List ℕ}
+    takes-short : e .end - m .taken ≤ longestInputLine → {r : Turned} {space′ : List ℕ}
         → (Sound (withTaken m (e .next)) input space room
         → Turns text (withTaken m (e .next)) input space room anyRecords (fillsIn v (take (e .end - m .taken) (drop (m .taken) input)) after) r space′ room)
         → Turns text m input space room anyRecords (takesLine v after) r space′ room
@@ -317,7 +319,7 @@ no-text t go other o =
 text-of : (s b : List ℕ) (t : Scanned) {prompt : List ℕ} {v : Variable} {u : Scanned} → targetAt s b t ≡ done (lineInput prompt v) u → prompt ≡ b
 text-of s b t {prompt} {v} {u} =
     by-name (λ x. x ≡ done (lineInput prompt v) u → prompt ≡ b) (t .token) _ _ (λ w f n e. cc)
-    (λ f e. let z : _≡_ {A = ℕ} 0 1 = cc in absurd (omega arith))
+    (λ f e. never (cc))
 
 -- the variable is the one that the token names, and what follows it follows the statement
 pub target-is : (s b : List ℕ) (t : Scanned) {name : Name} {v : Variable} {u : Scanned} → t .token ≡ Named name
@@ -328,7 +330,7 @@ pub not-target : (s b : List ℕ) (t : Scanned) {v : Variable} {u : Scanned} →
     → targetAt s b t ≡ done (lineInput b v) u → ⊥
 not-target s b t o e =
     let h = rw (no-name (t .token) (λ v. done (lineInput b (variableOf s v)) (after s t)) bad o) at e in
-    let z : _≡_ {A = ℕ} 0 1 = cc in omega arith
+    never (cc)
 
 module _ (s : List ℕ) (t : Scanned) {prompt : List ℕ} {v : Variable} {u : Scanned} (e : inputAt s t ≡ done (lineInput prompt v) u) where
   -- a quoted text comes first,
@@ -339,7 +341,7 @@ module _ (s : List ℕ) (t : Scanned) {prompt : List ℕ} {v : Variable} {u : Sc
       let h = rw w at e in
       by-test (isSymbol Semicolon (after s t .token))
       (λ c. let k = rw c at h in let p = text-of s (quotedBytes s q) (after s (after s t)) k in (rw p at k, p))
-      (λ c. let k = rw c at h in let z : _≡_ {A = ℕ} 0 1 = cc in absurd (omega arith))
+      (λ c. let k = rw c at h in never (cc))
 
   -- or none
   pub input-bare : OneOf noTexts (tokenTag (t .token)) → (targetAt s [] t ≡ done (lineInput [] v) u) × (prompt ≡ [])
@@ -357,6 +359,6 @@ quoted-part s a n = let e : a + n - a ≡ n = omega arith in rw e
 
 -- what storing the line begins with
 pub fills-storable : {m : Machine} {space space′ : List ℕ} (b : List ℕ) → Settled m space → space′ ≡ copied space (m .used) b
-    → m .used + length b ≤ length space → length b ≤ 254 → Settled m space′ × ((m .used + length b ≤ length space′) × (length b ≤ 255))
+    → m .used + length b ≤ length space → length b ≤ longestInputLine → Settled m space′ × ((m .used + length b ≤ length space′) × (length b ≤ longestString))
 fills-storable {m} {space} b s e f h =
     let l = copied-length space (m .used) b in rw e (settled-kept l s, (rw l f, omega arith))

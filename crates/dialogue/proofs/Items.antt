@@ -31,6 +31,7 @@ use Rattle.words.specs.declared.symbols.Token.the-variants.{
 }
 use Rattle.words.specs.declared.symbols.Scanned.{Scanned}
 use Rattle.words.proofs.Choices.{by-test}
+use Rattle.words.specs.Places.{longestLine}
 use Rattle.grammar.specs.Tests.{isSymbol, endsStatement}
 use Rattle.grammar.specs.Trees.{Item, comma, semicolon, shown}
 use Rattle.grammar.specs.Formulas.{after}
@@ -101,7 +102,7 @@ module _ (line : List ℕ) (t : Scanned) {all : List Item} {end : Scanned} (e : 
 
   module _ (goes-on : endsStatement (t .token) ≡ false) where
     -- what is no separator begins a formula
-    pub formed-item : length line ≤ 255 → Fresh line t → isSeparator (t .token) ≡ false → Formed line t
+    pub formed-item : length line ≤ longestLine → Fresh line t → isSeparator (t .token) ≡ false → Formed line t
     formed-item short fresh h =
         let n = neither (isSymbol Comma (t .token)) (isSymbol Semicolon (t .token)) h in
         let v = show-view line t e (n .0) (n .1) goes-on in

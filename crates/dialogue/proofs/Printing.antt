@@ -8,7 +8,7 @@ use native.Mathlib.Omega.{arith}
 use lib.ListN.{length, take, drop, replicate}
 use lib.Seq.{take-append-seam, drop-drop}
 use borrow.Author.Tests.{lt-leb}
-use Rattle.whole.specs.Texts.{held}
+use Rattle.whole.specs.Texts.{held, longestString}
 use Rattle.whole.specs.declared.texts.Text.{Text}
 use Rattle.whole.specs.declared.errors.Error.the-variants.{OutputFull}
 use Rattle.words.proofs.Choices.{by-test}
@@ -30,7 +30,7 @@ use Rattle.turns.proofs.Keeping.{settled-kept}
 -- a text's bytes are the first ones of its buffer
 pub held-front : {t : Text} (l : List ℕ) → t ≡ held l → take (t .len) (t .bytes) ≡ l
 unfolding held
-held-front l e = rw e (take-append-seam l (replicate (255 - length l) 0))
+held-front l e = rw e (take-append-seam l (replicate (longestString - length l) 0))
 
 -- what is done next, by whether there was room
 abbrev pub printedMet : Bool → (spec.Machine → step.Next) → spec.Machine → step.Next

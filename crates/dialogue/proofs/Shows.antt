@@ -8,6 +8,7 @@ use native.Mathlib.Nat.{le-refl}
 use borrow.Author.Tests.{le-leb, lt-leb}
 use Rattle.whole.specs.Texts as texts
 use Rattle.whole.specs.declared.errors.Error.the-variants.{OutputFull}
+use Rattle.whole.specs.Bytes.{blank}
 use Rattle.words.specs.declared.places.Place.{Place}
 use Rattle.words.specs.declared.symbols.Scanned.{Scanned}
 use Rattle.words.specs.declared.symbols.Sign.the-variants.{Comma}
@@ -75,16 +76,16 @@ module _ {m : Machine} {i : Item} {space room space′ : List ℕ} (fit : Fittin
 
 module _ {m : Machine} {space room : List ℕ} (fit : Fitting (m .printer) room) (u : Scanned) where
   pub shows-comma : Shows m comma u space room
-      (shownAs (printedAs (m .printer) (length room) (replicate (14 - m .printer .column % 14) 32)) u)
-      space (copied room (m .printer .written) (replicate (14 - m .printer .column % 14) 32))
+      (shownAs (printedAs (m .printer) (length room) (replicate (14 - m .printer .column % 14) blank)) u)
+      space (copied room (m .printer .written) (replicate (14 - m .printer .column % 14) blank))
   shows-comma =
-      shows-bytes fit (replicate (14 - m .printer .column % 14) 32) u refl
+      shows-bytes fit (replicate (14 - m .printer .column % 14) blank) u refl
       (λ text rs input n same go.
-      let blanks = replicate (14 - m .printer .column % 14) 32 in
+      let blanks = replicate (14 - m .printer .column % 14) blank in
       let r = printedAs (m .printer) (length room) blanks in
       subst
       (λ k. Leads text rs (withPrinter m (r .printer)) input space (copied room (m .printer .written) blanks)
-      (written n (replicate (14 - k % 14) 32) go) (printedMet (r .ok) go))
+      (written n (replicate (14 - k % 14) blank) go) (printedMet (r .ok) go))
       (sym (same .column)) (leads-written same fit blanks go))
 
   pub shows-semicolon : Shows m semicolon u space room (answer.On (m .printer) u) space room
@@ -120,11 +121,11 @@ module _ {m : Machine} {f : Formula} {u : Scanned} {space room space′ room′ 
         leads = λ text rs input n same go. leads-worked settled v same (λ x o. written o (shownValue x) go);
       })
   shows-worked (Whole w t) v (a, b) =
-      shows-as (a ∙ ap (shownAs (printedAs (m .printer) (length room) (texts.printed w))) (v .goes)) b
-      (shows-bytes fit (texts.printed w) u (v .framed .long)
+      shows-as (a ∙ ap (shownAs (printedAs (m .printer) (length room) (texts.printedNumber w))) (v .goes)) b
+      (shows-bytes fit (texts.printedNumber w) u (v .framed .long)
       (λ text rs input n same go.
       leads-on (leads-worked settled v same (λ x o. written o (shownValue x) go))
-      (λ o s. leads-written s fit (texts.printed w) go)))
+      (λ o s. leads-written s fit (texts.printedNumber w) go)))
   shows-worked (Text len t) v (a, b) =
       let bytes = take len (drop (m .used) space′) in
       shows-as (a ∙ ap (shownAs (printedAs (m .printer) (length room) bytes)) (v .goes)) b

@@ -8,6 +8,7 @@ ghost use Rattle.grammar.specs.Trees.{Variable};
 ghost use Rattle.grammar.specs.Formulas.{after};
 ghost use Rattle.statements.specs.Statements.{done, variableOf, targetAt, inputAt};
 ghost use Rattle.machine.specs.bridge.Holding.{positionOf, Positioned, Settled, Sound};
+ghost use Rattle.machine.specs.Machine.{longestInputLine};
 ghost use Rattle.turns.specs.Steps.{doStatement};
 ghost use Rattle.turns.specs.bridge.Turns.{afterOf, Turns, anyRecords};
 ghost use Rattle.dialogue.specs.bridge.Asking.{Asks, takesLine, fillsIn};
@@ -41,7 +42,7 @@ fn fill(
     bytes: &[u8],
     space: &mut [u8],
 ) -> Turned
-    requires { ⌜ Settled machine (now space) × (length (now bytes) ≤ 254) ⌝ }
+    requires { ⌜ Settled machine (now space) × (length (now bytes) ≤ longestInputLine) ⌝ }
     ensures { λ r. ⌜
         ((text input room : List ℕ) → Sound machine input (now (space .entry)) room → Positioned text (afterOf here ahead)
         → Turns text machine input (now (space .entry)) room anyRecords

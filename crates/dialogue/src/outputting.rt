@@ -46,7 +46,7 @@ pub(crate) fn with_printer(machine: Machine, printer: Printer) -> Machine
 
 fn print_number(printer: Printer, room: &mut [u8], word: u16) -> Printed
     requires { ⌜ Fitting printer (now room) ⌝ }
-    ensures { λ r. ⌜ Writes printer (now (room .entry)) (texts.printed word) r (now (room .exit)) ⌝ }
+    ensures { λ r. ⌜ Writes printer (now (room .entry)) (texts.printedNumber word) r (now (room .exit)) ⌝ }
 {
     let text = print_text(word);
     let bytes = text.bytes;

@@ -2,12 +2,13 @@
 use mathlib.Core.Path.{_≡_, refl, sym, _∙_}
 use mathlib.Core.Bool.{true, false}
 use mathlib.Core.List.{List, [], _∷_, _++_}
-use Prim.Native.Nat.{ℕ, suc, _+_, max}
+use Prim.Native.Nat.{ℕ, suc, max}
 use native.Mathlib.Omega.{arith}
 use borrow.Author.Tests.{leb-true, leb-false}
 use lib.Dec.{leb}
 use lib.ListN.{length, length-append}
 use Rattle.whole.specs.declared.arithmetic.Operator.{Operator}
+use Rattle.whole.proofs.Never.{never}
 use Rattle.words.specs.declared.symbols.Function.{Function}
 use Rattle.words.specs.declared.symbols.Scanned.{Scanned}
 use Rattle.words.specs.declared.symbols.Sign.the-variants.{Close}
@@ -16,7 +17,7 @@ use Rattle.grammar.specs.Tests.{isSymbol}
 use Rattle.grammar.specs.Trees.{Formula, minus, complement, twoSided, Arguments, none, also}
 use Rattle.grammar.specs.Functions.{takes}
 use Rattle.grammar.specs.Formulas.{Reading, bad, good, mapped, after, closed, countOf}
-use Rattle.expressions.specs.Types.{callSort, sortOf, sortsOf, depthOf, deepestOf}
+use Rattle.expressions.specs.Types.{callSort, sortOf, sortsOf, depthOf, deepestOf, deepestNesting}
 use Rattle.expressions.specs.bridge.Answers.{sortsBy, fitOf, cappedDepth, deeper, answerOf, frontedRead, joinedRead, closedRead, Kept, listedAt}
 use Rattle.expressions.specs.declared.calls.Fit.the-variants.{Gives, NoForm}
 use Rattle.expressions.specs.declared.calls.Sorts.{Sorts}
@@ -34,7 +35,7 @@ pub record Answered (x : Reading) (u : Scanned) (k : Sort) (d : ℕ) : Type 0 wh
   pub deep : d ≡ cappedDepth (depthOf f)
 
 pub answered : (x : Reading) {a : FormulaRead} {u : Scanned} {k : Sort} {d : ℕ} → a ≡ answerOf x → a ≡ Good u k d → Answered x u k d
-answered bad e g = let z : _≡_ {A = ℕ} 0 1 = cc in absurd (omega arith)
+answered bad e g = never (cc)
 answered (good f v) e g = record { f = f; is = cc; sort = cc; deep = cc }
 
 pub not-read : (x : Reading) {a : FormulaRead} → a ≡ answerOf x → a ≡ Bad → x ≡ bad
@@ -45,9 +46,9 @@ not-read (good f v) e g = cc
 
 capped-suc : (d : ℕ) → deeper (cappedDepth d) ≡ cappedDepth (suc d)
 capped-suc d =
-    by-test (leb (cappedDepth d) 8)
-    (λ e. rw e (omega (arith, leb-true (cappedDepth d) 8 e)))
-    (λ e. rw e (omega (arith, leb-false (cappedDepth d) 8 e)))
+    by-test (leb (cappedDepth d) deepestNesting)
+    (λ e. rw e (omega (arith, leb-true (cappedDepth d) deepestNesting e)))
+    (λ e. rw e (omega (arith, leb-false (cappedDepth d) deepestNesting e)))
 
 pub capped-max : (a b : ℕ) → cappedDepth (max a b) ≡ max (cappedDepth a) (cappedDepth b)
 capped-max a b = omega arith
@@ -111,7 +112,7 @@ fit-gives : (f : Function) (l : List Sort) (k : Sort) → Gives k ≡ fitOf f l 
 fit-gives f l k e =
     by-test (takes f (length l))
     (λ t. let h = rw t at e in record { taken = t; sort = cc })
-    (λ t. let h = rw t at e in let z : _≡_ {A = ℕ} 0 1 = cc in absurd (omega arith))
+    (λ t. let h = rw t at e in never (cc))
 
 module _ (s : List ℕ) (f : Function) (a : Arguments) (u : Scanned) where
   pub listed-open : false ≡ isSymbol Close (u .token) → Bad ≡ answerOf (listedAt s f a u)

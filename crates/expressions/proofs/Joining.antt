@@ -23,7 +23,7 @@ use Rattle.whole.specs.declared.arithmetic.Operator.the-variants.{
   Eqv,
   Imp,
 }
-use Rattle.expressions.specs.Types.{alike, compared, wholeOnly, joinedSort}
+use Rattle.expressions.specs.Types.{commonSort, compared, wholeOnly, joinedSort}
 use Rattle.expressions.specs.declared.sorts.Sort.{Sort}
 
 abbrev operatorTag : Operator → ℕ
@@ -32,7 +32,7 @@ operatorTag op = tagOf Rattle.whole.proofs.arithmetic.Operator.the-type op
 abbrev comparisons : List ℕ
 comparisons = 5 ∷ 6 ∷ 7 ∷ 8 ∷ 9 ∷ 10 ∷ []
 
-pub comparison-joins : (op : Operator) (a b : Sort) → OneOf comparisons (operatorTag op) → joinedSort op a b ≡ compared (alike a b)
+pub comparison-joins : (op : Operator) (a b : Sort) → OneOf comparisons (operatorTag op) → joinedSort op a b ≡ compared (commonSort a b)
 comparison-joins Multiply a b h = absurd (miss comparisons 0 tt h)
 comparison-joins Divide a b h = absurd (miss comparisons 1 tt h)
 comparison-joins Modulo a b h = absurd (miss comparisons 2 tt h)
@@ -53,7 +53,7 @@ comparison-joins Imp a b h = absurd (miss comparisons 15 tt h)
 abbrev others : List ℕ
 others = 0 ∷ 1 ∷ 2 ∷ 4 ∷ 11 ∷ 12 ∷ 13 ∷ 14 ∷ 15 ∷ []
 
-pub other-joins : (op : Operator) (a b : Sort) → OneOf others (operatorTag op) → joinedSort op a b ≡ wholeOnly (alike a b)
+pub other-joins : (op : Operator) (a b : Sort) → OneOf others (operatorTag op) → joinedSort op a b ≡ wholeOnly (commonSort a b)
 other-joins Multiply a b h = refl
 other-joins Divide a b h = refl
 other-joins Modulo a b h = refl

@@ -9,6 +9,7 @@ use native.Mathlib.Omega.{arith}
 use borrow.Author.Tests.{leb-true, leb-false}
 use lib.Dec.{leb}
 use Rattle.whole.specs.declared.arithmetic.Operator.{Operator}
+use Rattle.whole.proofs.Never.{never}
 use Rattle.words.specs.declared.places.Place.{Place}
 use Rattle.words.specs.declared.symbols.Function.{Function}
 use Rattle.words.specs.declared.symbols.Scanned.{Scanned}
@@ -71,7 +72,7 @@ looser : (k : ℕ) (o : OperatorFound) (op : Operator) → tightEnough k o ≡ N
 looser k o op e f =
     let g : tightEnough k (Is op) ≡ None = rw f at e in
     by-test (leb k (levelOf op))
-    (λ t. let h = rw t at g in let z : _≡_ {A = ℕ} 0 1 = cc in absurd (omega arith))
+    (λ t. let h = rw t at g in never (cc))
     (λ t. leb-false k (levelOf op) t)
 
 -- where one follows, it is of that level
@@ -79,8 +80,8 @@ tight : (k : ℕ) (o : OperatorFound) (op : Operator) → tightEnough k o ≡ Is
 tight k (Is p) op e =
     by-test (leb k (levelOf p))
     (λ t. let h = rw t at e in let q : p ≡ op = cc in (h, rw (← q) (leb-true k (levelOf p) t)))
-    (λ t. let h = rw t at e in let z : _≡_ {A = ℕ} 0 1 = cc in absurd (omega arith))
-tight k None op e = let z : _≡_ {A = ℕ} 0 1 = cc in absurd (omega arith)
+    (λ t. let h = rw t at e in never (cc))
+tight k None op e = never (cc)
 
 -- ---- a formula of a level was read, and none of its operators follows
 abbrev Full : ℕ → Reading → Type 0

@@ -3,15 +3,15 @@ use mathlib.Core.Path.{_≡_, refl, sym, _∙_}
 use mathlib.Core.Bool.{Bool, true, false}
 use mathlib.Core.List.{List}
 use Prim.Native.Nat.{ℕ}
-use native.Mathlib.Omega.{arith}
 use Rattle.whole.specs.declared.arithmetic.Operator.{Operator}
+use Rattle.whole.proofs.Never.{never}
 use Rattle.words.specs.declared.symbols.Function.{Function}
 use Rattle.words.specs.declared.symbols.Scanned.{Scanned}
 use Rattle.words.specs.declared.symbols.Sign.the-variants.{Open, Close, Comma, Minus}
 use Rattle.words.specs.declared.symbols.Token.the-variants.{Not, Call, Symbol}
 use Rattle.words.proofs.Choices.{by-test}
 use Rattle.grammar.specs.Tests.{choose, isSymbol}
-use Rattle.grammar.specs.Trees.{Formula, inside, minus, complement, twoSided, call, Arguments, none, also, last, more}
+use Rattle.grammar.specs.Trees.{Formula, inside, minus, complement, twoSided, call, Arguments, none, also}
 use Rattle.grammar.specs.Functions.{takes}
 use Rattle.grammar.specs.Formulas as formulas
 use Rattle.grammar.specs.Formulas.{notLevel, tightest, rightLevel, minusStands, notStands, tightOperator, Reading, good, mapped, after, closed, countOf, called}
@@ -25,7 +25,7 @@ use Rattle.expressions.proofs.Fuel.{operand-is, formula-unrolled, climb
 so : (test : Bool) (go : Unit {0} → Reading) {f : Formula} {u : Scanned} → choose test go (λ _. formulas.bad) ≡ good f u
     → (test ≡ true) × (go tt ≡ good f u)
 so true go e = (refl, e)
-so false go e = let z : _≡_ {A = ℕ} 0 1 = cc in absurd (omega arith)
+so false go e = never (cc)
 
 -- a formula of one formula
 pub record Made (make : Formula → Formula) (x : Reading) (f : Formula) (u : Scanned) : Type 0 where
@@ -34,7 +34,7 @@ pub record Made (make : Formula → Formula) (x : Reading) (f : Formula) (u : Sc
   pub from : x ≡ good of u
 
 pub made : (make : Formula → Formula) (x : Reading) {f : Formula} {u : Scanned} → mapped make x ≡ good f u → Made make x f u
-made make formulas.bad e = let z : _≡_ {A = ℕ} 0 1 = cc in absurd (omega arith)
+made make formulas.bad e = never (cc)
 made make (formulas.good g v) e = record { of = g; is = cc; from = cc }
 
 -- a formula in parentheses
@@ -47,11 +47,11 @@ pub record Closed (s : List ℕ) (x : Reading) (f : Formula) (u : Scanned) : Typ
   pub next : u ≡ after s at
 
 pub closed-view : (s : List ℕ) (x : Reading) {f : Formula} {u : Scanned} → closed s x ≡ good f u → Closed s x f u
-closed-view s formulas.bad e = let z : _≡_ {A = ℕ} 0 1 = cc in absurd (omega arith)
+closed-view s formulas.bad e = never (cc)
 closed-view s (formulas.good g v) e =
     by-test (isSymbol Close (v .token))
     (λ c. let h = rw c at e in record { of = g; at = v; is = cc; from = refl; close = c; next = cc })
-    (λ c. let h = rw c at e in let z : _≡_ {A = ℕ} 0 1 = cc in absurd (omega arith))
+    (λ c. let h = rw c at e in never (cc))
 
 -- a function with its arguments
 pub record Applied (f : Function) (a : Arguments) (t : Scanned) (g : Formula) (u : Scanned) : Type 0 where
@@ -63,7 +63,7 @@ pub applied-view : (f : Function) (a : Arguments) (t : Scanned) {g : Formula} {u
 applied-view f a t e =
     by-test (takes f (countOf a))
     (λ c. let h = rw c at e in record { takes-them = c; is = cc; next = cc })
-    (λ c. let h = rw c at e in let z : _≡_ {A = ℕ} 0 1 = cc in absurd (omega arith))
+    (λ c. let h = rw c at e in never (cc))
 
 -- ---- the same, of formulas that read
 
@@ -76,7 +76,7 @@ module _ (s : List ℕ) where
     pub climbs : climbOf s level (good of at) ≡ good f u
 
   pub climb-view : (level : ℕ) (x : Reading) {f : Formula} {u : Scanned} → climbOf s level x ≡ good f u → Climbed level x f u
-  climb-view level formulas.bad e = let h = climb-bad s level in let z : _≡_ {A = ℕ} 0 1 = cc in absurd (omega arith)
+  climb-view level formulas.bad e = let h = climb-bad s level in never (cc)
   climb-view level (formulas.good g v) e = record { of = g; at = v; from = refl; climbs = e }
 
   pub formula-view : (level : ℕ) (t : Scanned) {f : Formula} {u : Scanned} → formulaIn s level t ≡ good f u
@@ -104,7 +104,7 @@ module _ (s : List ℕ) where
 
   pub list-view : (f : Function) (a : Arguments) (x : Reading) {g : Formula} {u : Scanned} → argumentsOf s f a x ≡ good g u
       → Listed f a x g u
-  list-view f a formulas.bad e = let h = arguments-bad s f a in let z : _≡_ {A = ℕ} 0 1 = cc in absurd (omega arith)
+  list-view f a formulas.bad e = let h = arguments-bad s f a in never (cc)
   list-view f a (formulas.good x v) e = record { of = x; at = v; from = refl; lists = e }
 
   pub list-goes : (f : Function) (a : Arguments) (x : Formula) (t : Scanned) {g : Formula} {u : Scanned}
@@ -123,7 +123,7 @@ module _ (s : List ℕ) where
       let h = rw (arguments-unrolled s f a x t, o) at e in
       by-test (isSymbol Close (t .token))
       (λ c. record { close = c; applied = applied-view f (also a x) (after s t) (rw c at h) })
-      (λ c. let j = rw c at h in let z : _≡_ {A = ℕ} 0 1 = cc in absurd (omega arith))
+      (λ c. let j = rw c at h in never (cc))
 
   -- ---- an operand, by its first token
 

@@ -6,6 +6,7 @@ use Prim.Native.Nat.{ℕ, _+_, _*_, _≤_, _<_}
 use native.Mathlib.Omega.{arith}
 use lib.ListN.{length}
 use Rattle.whole.specs.declared.arithmetic.Operator.{Operator}
+use Rattle.whole.proofs.Never.{never}
 use Rattle.words.specs.declared.places.Place.{Place}
 use Rattle.words.specs.declared.symbols.Scanned.{Scanned}
 use Rattle.words.specs.declared.symbols.Sign.{Sign}
@@ -59,8 +60,8 @@ keyword-reads x t e = reads-if (λ t. isKeyword x t ≡ true) (λ h. false≢tru
 pub operator-reads : (level : ℕ) (t : Token) {op : Operator} → tightOperator level t ≡ Is op → reads t ≡ true
 operator-reads level t {op} e =
     reads-if (λ t. tightOperator level t ≡ Is op)
-    (λ h. let z : _≡_ {A = ℕ} 0 1 = cc in omega arith)
-    (λ h. let z : _≡_ {A = ℕ} 0 1 = cc in omega arith)
+    (λ h. never (cc))
+    (λ h. never (cc))
     t e
 
 -- ---- weights

@@ -48,14 +48,14 @@ wholeOnly Text = Wrong
 wholeOnly Wrong = Wrong
 
 -- both sides of one type, which is given
-abbrev pub alike : Sort → Sort → Sort
-alike Whole Whole = Whole
-alike Whole Text = Wrong
-alike Whole Wrong = Wrong
-alike Text Whole = Wrong
-alike Text Text = Text
-alike Text Wrong = Wrong
-alike Wrong b = Wrong
+abbrev pub commonSort : Sort → Sort → Sort
+commonSort Whole Whole = Whole
+commonSort Whole Text = Wrong
+commonSort Whole Wrong = Wrong
+commonSort Text Whole = Wrong
+commonSort Text Text = Text
+commonSort Text Wrong = Wrong
+commonSort Wrong b = Wrong
 
 -- both sides of one type; a whole number is given
 abbrev pub compared : Sort → Sort
@@ -64,22 +64,22 @@ compared Text = Whole
 compared Wrong = Wrong
 
 abbrev pub joinedSort : Operator → Sort → Sort → Sort
-joinedSort operator.Add a b = alike a b
-joinedSort operator.Equal a b = compared (alike a b)
-joinedSort operator.Unequal a b = compared (alike a b)
-joinedSort operator.Less a b = compared (alike a b)
-joinedSort operator.Greater a b = compared (alike a b)
-joinedSort operator.AtMost a b = compared (alike a b)
-joinedSort operator.AtLeast a b = compared (alike a b)
-joinedSort operator.Multiply a b = wholeOnly (alike a b)
-joinedSort operator.Divide a b = wholeOnly (alike a b)
-joinedSort operator.Modulo a b = wholeOnly (alike a b)
-joinedSort operator.Subtract a b = wholeOnly (alike a b)
-joinedSort operator.And a b = wholeOnly (alike a b)
-joinedSort operator.Or a b = wholeOnly (alike a b)
-joinedSort operator.Xor a b = wholeOnly (alike a b)
-joinedSort operator.Eqv a b = wholeOnly (alike a b)
-joinedSort operator.Imp a b = wholeOnly (alike a b)
+joinedSort operator.Add a b = commonSort a b
+joinedSort operator.Equal a b = compared (commonSort a b)
+joinedSort operator.Unequal a b = compared (commonSort a b)
+joinedSort operator.Less a b = compared (commonSort a b)
+joinedSort operator.Greater a b = compared (commonSort a b)
+joinedSort operator.AtMost a b = compared (commonSort a b)
+joinedSort operator.AtLeast a b = compared (commonSort a b)
+joinedSort operator.Multiply a b = wholeOnly (commonSort a b)
+joinedSort operator.Divide a b = wholeOnly (commonSort a b)
+joinedSort operator.Modulo a b = wholeOnly (commonSort a b)
+joinedSort operator.Subtract a b = wholeOnly (commonSort a b)
+joinedSort operator.And a b = wholeOnly (commonSort a b)
+joinedSort operator.Or a b = wholeOnly (commonSort a b)
+joinedSort operator.Xor a b = wholeOnly (commonSort a b)
+joinedSort operator.Eqv a b = wholeOnly (commonSort a b)
+joinedSort operator.Imp a b = wholeOnly (commonSort a b)
 
 -- whether an argument is what is wanted
 abbrev pub meets : Want → Sort → Bool
@@ -121,7 +121,10 @@ unfoldable mutual
   sortsOf none = []
   sortsOf (also a f) = sortsOf a ++ (sortOf f ∷ [])
 
--- ---- how deep parentheses nest, a function's own included
+-- ---- how deep parentheses nest, a function's own included: at most 8
+
+abbrev pub deepestNesting : ℕ
+deepestNesting = 8
 
 unfoldable mutual
   pub depthOf : Formula → ℕ

@@ -8,9 +8,7 @@ use crate::sorts::of_kind;
 use grammar::Want;
 use grammar::Wanted;
 use grammar::gives;
-use grammar::wants_one;
-use grammar::wants_three;
-use grammar::wants_two;
+use grammar::wants;
 use words::Function;
 
 // The types of the arguments that were read; more than three are as good as four.
@@ -78,19 +76,19 @@ pub fn call_fit(function: Function, sorts: Sorts) -> Fit
     match sorts {
         Sorts::Zero => Fit::NoForm,
         Sorts::One(a) => {
-            let Wanted::One(v) = wants_one(function) else {
+            let Wanted::One(v) = wants(function, 1) else {
                 return Fit::NoForm;
             };
             call_sort(function, meets(v, a))
         }
         Sorts::Two(a, b) => {
-            let Wanted::Two(v, w) = wants_two(function) else {
+            let Wanted::Two(v, w) = wants(function, 2) else {
                 return Fit::NoForm;
             };
             call_sort(function, meets(v, a) && meets(w, b))
         }
         Sorts::Three(a, b, c) => {
-            let Wanted::Three(v, w, x) = wants_three(function) else {
+            let Wanted::Three(v, w, x) = wants(function, 3) else {
                 return Fit::NoForm;
             };
             call_sort(function, meets(v, a) && meets(w, b) && meets(x, c))

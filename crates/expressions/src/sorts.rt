@@ -1,6 +1,6 @@
 // The type of a formula, and what operators make of types.
 ghost use mathlib.Core.Path.{_≡_};
-ghost use Rattle.expressions.specs.Types.{ofKind, wholeOnly, alike, compared, joinedSort};
+ghost use Rattle.expressions.specs.Types.{ofKind, wholeOnly, commonSort, compared, joinedSort};
 ghost use Rattle.expressions.specs.Types.{isWhole, isSome, isOf};
 use whole::Operator;
 use words::Kind;
@@ -33,8 +33,8 @@ pub fn whole_only(sort: Sort) -> Sort
 }
 
 // Both sides of one type, which is given.
-fn alike(left: Sort, right: Sort) -> Sort
-    ensures { λ r. ⌜ r ≡ alike left right ⌝ }
+fn common_sort(left: Sort, right: Sort) -> Sort
+    ensures { λ r. ⌜ r ≡ commonSort left right ⌝ }
 {
     match left {
         Sort::Whole => whole_only(right),
@@ -62,7 +62,7 @@ fn compared(sort: Sort) -> Sort
 pub fn joined_sort(operator: Operator, left: Sort, right: Sort) -> Sort
     ensures { λ r. ⌜ r ≡ joinedSort operator left right ⌝ }
 {
-    let both = alike(left, right);
+    let both = common_sort(left, right);
     match operator {
         Operator::Add => both,
         Operator::Equal

@@ -8,6 +8,7 @@ use lib.ListN.{length}
 use Rattle.whole.specs.Whole.{negated, flipped}
 use Rattle.whole.specs.declared.arithmetic.Answer.{Answer}
 use Rattle.whole.specs.declared.arithmetic.Answer.the-variants.{Whole, Fault}
+use Rattle.whole.proofs.Never.{never}
 use Rattle.words.specs.Names.{nameBytes, tellingOf}
 use Rattle.words.specs.declared.names.Name.{Name}
 use Rattle.words.specs.declared.symbols.Function.{Function}
@@ -49,7 +50,7 @@ pub not-operand : (s : List ℕ) (level : ℕ) (t : Scanned) {P : Type 0} {f : F
 unfolding operandOf
 not-operand s level t m e =
     let b = not-read (operandOf s level t) (m _ (omega (arith, weight-enough s t))) refl in
-    let z : _≡_ {A = ℕ} 0 1 = cc in absurd (omega arith)
+    never (cc)
 
 -- ---- a quoted text lies within its line
 

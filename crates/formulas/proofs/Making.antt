@@ -7,6 +7,7 @@ use native.Mathlib.Omega.{arith}
 use lib.ListN.{length, take, drop, getD}
 use denote.Enum.Declared
 use Rattle.whole.specs.declared.errors.Error.the-variants.{OutOfStringSpace}
+use Rattle.whole.specs.Texts.{longestString}
 use Rattle.space.specs.Moves.{copied, moved}
 use Rattle.space.proofs.Frames.{copied-bytes, moved-bytes}
 use Rattle.space.proofs.Kept.{Kept, copied-kept, moved-kept}
@@ -21,6 +22,7 @@ use Rattle.variables.specs.declared.values.Worked.the-variants as worked
 use Rattle.variables.proofs.Bytewise.{part-length}
 use Rattle.variables.proofs.Agreements.{make-agrees, make-refused}
 use Rattle.variables.proofs.Lookups.{sum-within}
+use Rattle.variables.specs.Variables.{mostVariables}
 
 module _ (before : List ℕ) (used : ℕ) (t : Scanned) where
   -- a number leaves the space as it is
@@ -42,7 +44,7 @@ module _ (before : List ℕ) (used : ℕ) (t : Scanned) where
     }
 
     -- there is, and it stands above what is kept
-    string-made : {after : List ℕ} → n ≤ 255 → used + n ≤ length before → Kept before used n after
+    string-made : {after : List ℕ} → n ≤ longestString → used + n ≤ length before → Kept before used n after
         → take n (drop used after) ≡ bytes → Made before used used (make bytes) t (worked.Text n t) after
     string-made {after} s l k b = record {
       framed = record { long = k .long; kept = k .below used (omega arith); fits = omega (arith, k .long); short = s };
@@ -54,7 +56,7 @@ module _ (before : List ℕ) (used : ℕ) (t : Scanned) where
     }
 
     -- since it was copied in
-    pub copied-made : {after : List ℕ} → n ≤ 255 → used + n ≤ length before → after ≡ copied before used bytes
+    pub copied-made : {after : List ℕ} → n ≤ longestString → used + n ≤ length before → after ≡ copied before used bytes
         → Made before used used (make bytes) t (worked.Text n t) after
     copied-made s l c =
         string-made s l (rw e at (copied-kept bytes c)) (rw (c, ← e) (copied-bytes before used bytes (omega arith)))
@@ -77,12 +79,12 @@ module _ (lengths before : List ℕ) (used : ℕ) (t : Scanned) (i : ℕ) {len :
       → Made before used used (make (bytesAt (slot.At i) lengths before)) t (worked.Fault OutOfStringSpace) before
   variable-refused l = refused-made before used t (bytesAt (slot.At i) lengths before) string-long h l
 
-  pub variable-made : {after : List ℕ} → len < 256 → i < 64 → used + len ≤ length before
-      → after ≡ moved before (sumOf (take (min i 64) lengths)) used len
+  pub variable-made : {after : List ℕ} → len < 256 → i < mostVariables → used + len ≤ length before
+      → after ≡ moved before (sumOf (take (min i mostVariables) lengths)) used len
       → Made before used used (make (bytesAt (slot.At i) lengths before)) t (worked.Text len t) after
   variable-made s b l m =
       let w = lies-below in
-      let z : min i 64 ≡ i = omega arith in
+      let z : min i mostVariables ≡ i = omega arith in
       let k = rw z at m in
       string-made before used t (bytesAt (slot.At i) lengths before) string-long (omega arith) l (moved-kept (sumOf (take i lengths)) k)
       (rw (k, moved-bytes before (sumOf (take i lengths)) used len (omega arith) l, e))

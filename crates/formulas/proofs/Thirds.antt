@@ -20,6 +20,7 @@ use Rattle.expressions.proofs.Fuel.{formula-level}
 use Rattle.expressions.proofs.Views.{list-view, list-goes, list-ends}
 use Rattle.formulas.proofs.Faults.{arguments-call}
 use Rattle.formulas.proofs.Wants.{if-either}
+use Rattle.whole.proofs.Never.{never}
 
 -- INSTR takes two arguments or three
 not-one : takes Instr 1 ≡ true → ⊥
@@ -75,7 +76,7 @@ module _ (s : List ℕ) (t : Scanned) {a : Arguments} {u : Scanned} (e : argumen
   -- so both read
   pub first-reads : formula.Bad ≡ answerOf (formulaOf s t) → ⊥
   first-reads h =
-      let p = parted in let f = rw (formula-level s t, p .first) at h in let z : _≡_ {A = ℕ} 0 1 = cc in omega arith
+      let p = parted in let f = rw (formula-level s t, p .first) at h in never (cc)
 
   module _ {comma : Scanned} {k : Sort} {d : ℕ} (h : formula.Good comma k d ≡ answerOf (formulaOf s t)) where
     comma-is : comma ≡ parted .comma
@@ -85,7 +86,7 @@ module _ (s : List ℕ) (t : Scanned) {a : Arguments} {u : Scanned} (e : argumen
     second-is = ap answerOf (formula-level s (after s comma) ∙ ap (λ v. formulaIn s 0 (after s v)) comma-is ∙ parted .second)
 
     pub second-reads : formula.Bad ≡ answerOf (formulaOf s (after s comma)) → ⊥
-    second-reads g = let f = g ∙ second-is in let z : _≡_ {A = ℕ} 0 1 = cc in omega arith
+    second-reads g = let f = g ∙ second-is in never (cc)
 
     -- and what follows the second tells
     pub third-told : {follow : Scanned} {j : Sort} {c : ℕ} → formula.Good follow j c ≡ answerOf (formulaOf s (after s comma))

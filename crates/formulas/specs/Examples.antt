@@ -6,7 +6,7 @@ use Prim.Native.String.{String}
 use Rattle.whole.specs.Bytes.{bytes, leading}
 use Rattle.whole.specs.Digits.{isDigit, valueFrom, signedValue}
 use Rattle.whole.specs.Whole.{num, fit}
-use Rattle.whole.specs.Texts.{places, trimmed, digitByte, numeral, shown}
+use Rattle.whole.specs.Texts.{places, trimmed, digitByte, numeral, signedNumeral}
 use Rattle.whole.specs.declared.errors.Error.{Error}
 use Rattle.whole.specs.declared.errors.Error.the-variants.{Syntax, IllegalFunctionCall, Overflow, TypeMismatch, OutOfStringSpace, StringTooLong}
 use Rattle.words.specs.Spellings.{sameBytes, meaning}
@@ -84,7 +84,7 @@ examples =
 
 pub examples-hold : map (λ (e : Example). told (worked (formulaOf (bytes (e .formula)) (tokenAt (bytes (e .formula)) (place 0))) (e .space))) examples
     ≡ map (λ (e : Example). e .is) examples
-unfolding examples given bytes leading isDigit valueFrom sameBytes meaning capitalOf isLetter isHex hexDigit signs pairs classOf reserved tellingOf markOf wordToken numberToken hexFrom hexToken textToken signToken tokenAt formFor anyFor countOf formulaAt climbAt operandAt argumentsAt formulaOf signedValue num fit places trimmed digitByte numeral shown make letGo letAllGo produced wordOf bytesOf stringBytes argument startsWith found placeOf isBefore wantAt valueOf valuesOf
+unfolding examples given bytes leading isDigit valueFrom sameBytes meaning capitalOf isLetter isHex hexDigit signs pairs classOf reserved tellingOf markOf wordToken numberToken hexFrom hexToken textToken signToken tokenAt formFor anyFor countOf formulaAt climbAt operandAt argumentsAt formulaOf signedValue num fit places trimmed digitByte numeral signedNumeral make letGo letAllGo produced wordOf bytesOf stringBytes argument startsWith found placeOf isBefore wantAt valueOf valuesOf
 examples-hold = refl
 
 -- eight functions in one another, a comparison and a `+` waiting at each: 28 unfinished strings, the most that there can be
@@ -92,5 +92,5 @@ pub nested : String
 nested = "A$<B$+LEFT$(A$,A$<B$+LEFT$(A$,A$<B$+LEFT$(A$,A$<B$+LEFT$(A$,A$<B$+LEFT$(A$,A$<B$+LEFT$(A$,A$<B$+LEFT$(A$,A$<B$+LEFT$(A$,A$<B$+B$))))))))"
 
 pub nested-highest : told (worked (formulaOf (bytes nested) (tokenAt (bytes nested) (place 0))) 1000) ≡ number 0 5 28
-unfolding nested given bytes leading isDigit valueFrom sameBytes meaning capitalOf isLetter isHex hexDigit signs pairs classOf reserved tellingOf markOf wordToken numberToken hexFrom hexToken textToken signToken tokenAt formFor anyFor countOf formulaAt climbAt operandAt argumentsAt formulaOf signedValue num fit places trimmed digitByte numeral shown make letGo letAllGo produced wordOf bytesOf stringBytes argument startsWith found placeOf isBefore wantAt valueOf valuesOf
+unfolding nested given bytes leading isDigit valueFrom sameBytes meaning capitalOf isLetter isHex hexDigit signs pairs classOf reserved tellingOf markOf wordToken numberToken hexFrom hexToken textToken signToken tokenAt formFor anyFor countOf formulaAt climbAt operandAt argumentsAt formulaOf signedValue num fit places trimmed digitByte numeral signedNumeral make letGo letAllGo produced wordOf bytesOf stringBytes argument startsWith found placeOf isBefore wantAt valueOf valuesOf
 nested-highest = refl

@@ -30,6 +30,7 @@ use operators::turn_of;
 use scanner::token_at;
 use strings::Given;
 use strings::given_length;
+use variables::Tables;
 use variables::Worked;
 use variables::text_length;
 use whole::Error;
@@ -44,9 +45,9 @@ fn formula(
     ahead: Scanned,
     level: u8,
     names: &[u8; 128],
-    words: &[u16; 64],
+    words: &[u16; Tables::MOST],
     labels: &[u8; 128],
-    lengths: &[u8; 64],
+    lengths: &[u8; Tables::MOST],
     space: &mut [u8],
     used: usize,
 ) -> Worked
@@ -85,9 +86,9 @@ fn operand(
     line: &[u8],
     ahead: Scanned,
     names: &[u8; 128],
-    words: &[u16; 64],
+    words: &[u16; Tables::MOST],
     labels: &[u8; 128],
-    lengths: &[u8; 64],
+    lengths: &[u8; Tables::MOST],
     space: &mut [u8],
     used: usize,
 ) -> Worked
@@ -206,9 +207,9 @@ fn arguments(
     ahead: Scanned,
     function: Function,
     names: &[u8; 128],
-    words: &[u16; 64],
+    words: &[u16; Tables::MOST],
     labels: &[u8; 128],
-    lengths: &[u8; 64],
+    lengths: &[u8; Tables::MOST],
     space: &mut [u8],
     used: usize,
 ) -> Worked
@@ -252,9 +253,9 @@ pub fn work_out(
     line: &[u8],
     ahead: Scanned,
     names: &[u8; 128],
-    words: &[u16; 64],
+    words: &[u16; Tables::MOST],
     labels: &[u8; 128],
-    lengths: &[u8; 64],
+    lengths: &[u8; Tables::MOST],
     space: &mut [u8],
     used: usize,
 ) -> Worked

@@ -4,9 +4,10 @@ ghost use Prim.Native.Nat.{_+_, _≤_};
 ghost use lib.ListN.{length};
 ghost use Rattle.whole.specs.Whole.{negated, flipped};
 ghost use Rattle.words.specs.Names.{nameBytes, tellingOf};
+ghost use Rattle.words.specs.Places.{longestLine};
 ghost use Rattle.grammar.specs.Formulas.{quotedBytes};
 ghost use Rattle.variables.specs.Strings.{make};
-ghost use Rattle.variables.specs.Variables.{Variables};
+ghost use Rattle.variables.specs.Variables.{Variables, mostVariables};
 ghost use Rattle.operators.specs.Values.{variableValue};
 ghost use Rattle.variables.specs.bridge.Memory.{wordAt, bytesAt, SlotBelow, answeredAs, Looked, Made};
 ghost use Rattle.variables.specs.Tables.{sumOf};
@@ -17,6 +18,7 @@ use space::Offset;
 use space::copy_in;
 use space::move_bytes;
 use variables::Slot;
+use variables::Tables;
 use variables::Worked;
 use variables::answered;
 use variables::has_room;
@@ -40,7 +42,7 @@ pub(crate) fn quoted(
     space: &mut [u8],
     used: usize,
 ) -> Worked
-    requires { ⌜ (quotation .at .0 + quotation .len ≤ length (now line)) × ((length (now line) ≤ 255) × (used ≤ length (now space))) ⌝ }
+    requires { ⌜ (quotation .at .0 + quotation .len ≤ length (now line)) × ((length (now line) ≤ longestLine) × (used ≤ length (now space))) ⌝ }
     ensures { λ r. ⌜ Made (now (space .entry)) used used (make (quotedBytes (now (line .entry)) quotation)) ahead r (now (space .exit)) ⌝ }
 {
     let place = quotation.at;
@@ -55,8 +57,14 @@ pub(crate) fn quoted(
 }
 
 // A string variable is copied from its place among the variables.
-fn copied(slot: Slot, lengths: &[u8; 64], ahead: Scanned, space: &mut [u8], used: usize) -> Worked
-    requires { ⌜ SlotBelow 64 slot × ((sumOf (now lengths) ≤ used) × (used ≤ length (now space))) ⌝ }
+fn copied(
+    slot: Slot,
+    lengths: &[u8; Tables::MOST],
+    ahead: Scanned,
+    space: &mut [u8],
+    used: usize,
+) -> Worked
+    requires { ⌜ SlotBelow mostVariables slot × ((sumOf (now lengths) ≤ used) × (used ≤ length (now space))) ⌝ }
     ensures { λ r. ⌜ Made (now (space .entry)) used used (make (bytesAt slot (now (lengths .entry)) (now (space .entry)))) ahead r (now (space .exit)) ⌝ }
 {
     match slot {
@@ -73,8 +81,8 @@ fn copied(slot: Slot, lengths: &[u8; 64], ahead: Scanned, space: &mut [u8], used
     }
 }
 
-fn number_in(slot: Slot, words: &[u16; 64]) -> u16
-    requires { ⌜ SlotBelow 64 slot ⌝ }
+fn number_in(slot: Slot, words: &[u16; Tables::MOST]) -> u16
+    requires { ⌜ SlotBelow mostVariables slot ⌝ }
     ensures { λ r. ⌜ r ≡ wordAt slot (now (words .entry)) ⌝ }
 {
     match slot {
@@ -89,9 +97,9 @@ pub(crate) fn named(
     name: Name,
     ahead: Scanned,
     names: &[u8; 128],
-    words: &[u16; 64],
+    words: &[u16; Tables::MOST],
     labels: &[u8; 128],
-    lengths: &[u8; 64],
+    lengths: &[u8; Tables::MOST],
     space: &mut [u8],
     used: usize,
 ) -> Worked

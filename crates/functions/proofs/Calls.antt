@@ -100,10 +100,10 @@ module _ (before : List ℕ) (used : ℕ) (g : Given) (p : Placed before used g)
         (answer-made before used g p ahead (Whole place))
 
     module _ {start : ℕ} (t : areThree g ≡ true) (w : start ≡ argumentWord (firstOf g)) where
-      pub three-refused : within 1 255 start ≡ false → Gives Instr Illegal
+      pub three-refused : within 1 start ≡ false → Gives Instr Illegal
       three-refused n = refused (inside before used g p ahead) (λ room. rw (count-three (drop used before) g, t, first-word before used g p ahead w, n))
 
-      pub three-made : {place third : ℕ} → within 1 255 start ≡ true → third ≡ argumentLength (thirdOf g)
+      pub three-made : {place third : ℕ} → within 1 start ≡ true → third ≡ argumentLength (thirdOf g)
           → place ≡ placeOf start (take second (drop (used + first) before)) (take third (drop (used + first + second) before))
           → Gives Instr (worked.Whole place ahead)
       three-made {place} y l e =

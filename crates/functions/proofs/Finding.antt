@@ -14,6 +14,7 @@ use Rattle.words.proofs.Choices.{by-test}
 use Rattle.space.proofs.Parts.{part-below}
 use Rattle.strings.specs.Functions.{startsWith, found, placeOf}
 use Rattle.variables.proofs.Bytewise.{part-length, part-next, part-end}
+use Rattle.whole.proofs.Never.{never}
 
 -- ---- a text of the space stands at another place of it too, if it does after i bytes that are the same
 
@@ -49,8 +50,8 @@ starts-front : (y t u : List ℕ) → take (length y) t ≡ take (length y) u �
 unfolding startsWith
 starts-front [] t u e = refl
 starts-front (c ∷ y) [] [] e = refl
-starts-front (c ∷ y) [] (b ∷ u) e = let z : _≡_ {A = ℕ} 0 1 = cc in absurd (omega arith)
-starts-front (c ∷ y) (a ∷ t) [] e = let z : _≡_ {A = ℕ} 0 1 = cc in absurd (omega arith)
+starts-front (c ∷ y) [] (b ∷ u) e = never (cc)
+starts-front (c ∷ y) (a ∷ t) [] e = never (cc)
 starts-front (c ∷ y) (a ∷ t) (b ∷ u) e =
     let f : a ≡ b = cc in let g : take (length y) t ≡ take (length y) u = cc in rw (f, starts-front y t u g)
 

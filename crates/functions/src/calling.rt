@@ -7,6 +7,7 @@ ghost use Rattle.words.specs.declared.names.Kind.the-variants as kind;
 ghost use Rattle.words.specs.declared.symbols.Function.the-variants.{Asc, Instr};
 ghost use Rattle.grammar.specs.Functions.{gives};
 ghost use Rattle.variables.specs.bridge.Memory.{Made};
+ghost use Rattle.variables.specs.Strings.{longestSpace};
 ghost use Rattle.strings.specs.Functions.{startsWith, placeOf, called};
 ghost use Rattle.strings.specs.bridge.Memory.{givenLength, valuesIn, Placed, repliedAs};
 ghost use Rattle.functions.specs.bridge.Memory.{NumberOf};
@@ -48,7 +49,7 @@ fn stands_at(space: &[u8], x: usize, y: usize, len: usize) -> bool
 
 // The first place from `start` on where the second text, which stands right after the first, stands in it, counted from 1; or 0.
 fn place_of(space: &[u8], from: usize, start: u16, first: usize, second: usize) -> u16
-    requires { ⌜ (from + first + second ≤ length (now space)) × ((length (now space) ≤ 16384) × (1 ≤ start)) ⌝ }
+    requires { ⌜ (from + first + second ≤ length (now space)) × ((length (now space) ≤ longestSpace) × (1 ≤ start)) ⌝ }
     ensures { λ r. ⌜
         r ≡ placeOf start (take first (drop from (now (space .entry)))) (take second (drop (from + first) (now (space .entry))))
         ⌝ }

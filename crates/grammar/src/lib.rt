@@ -21,6 +21,4 @@ pub use tests::tight_operator;
 pub use wanting::Want;
 pub use wanting::Wanted;
 pub use wanting::gives;
-pub use wanting::wants_one;
-pub use wanting::wants_three;
-pub use wanting::wants_two;
+pub use wanting::wants;

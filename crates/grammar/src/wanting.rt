@@ -1,7 +1,8 @@
 // The functions: how many arguments each takes, of which types, and the type it gives.
 ghost use mathlib.Core.Path.{_≡_};
+ghost use mathlib.Core.List.{[], _∷_};
 ghost use Rattle.grammar.specs.Functions.{gives};
-ghost use Rattle.grammar.specs.bridge.Answers.{wantedOf};
+ghost use Rattle.grammar.specs.bridge.Answers.{wantedIn, wantedOf};
 use words::Function;
 use words::Kind;
 
@@ -20,40 +21,55 @@ pub enum Wanted {
     Three(Want, Want, Want),
 }
 
-pub fn wants_one(function: Function) -> Wanted
-    ensures { λ r. ⌜ r ≡ wantedOf function 1 ⌝ }
+// One argument is taken.
+fn one(count: usize, want: Want) -> Wanted
+    ensures { λ r. ⌜ r ≡ wantedIn ((want ∷ []) ∷ []) count ⌝ }
+{
+    if count == 1 {
+        Wanted::One(want)
+    } else {
+        Wanted::NoForm
+    }
+}
+
+// Two are.
+fn two(count: usize, first: Want, second: Want) -> Wanted
+    ensures { λ r. ⌜ r ≡ wantedIn ((first ∷ second ∷ []) ∷ []) count ⌝ }
+{
+    if count == 2 {
+        Wanted::Two(first, second)
+    } else {
+        Wanted::NoForm
+    }
+}
+
+// By the number of arguments.
+pub fn wants(function: Function, count: usize) -> Wanted
+    ensures { λ r. ⌜ r ≡ wantedOf function count ⌝ }
 {
     match function {
-        Function::Len | Function::Asc | Function::Val => Wanted::One(Want::Text),
+        Function::Len | Function::Asc | Function::Val => one(count, Want::Text),
         Function::Chr
         | Function::Space
         | Function::Str
         | Function::Hex
         | Function::Abs
-        | Function::Sgn => Wanted::One(Want::Whole),
-        Function::Fre => Wanted::One(Want::Either),
-        _ => Wanted::NoForm,
-    }
-}
-
-pub fn wants_two(function: Function) -> Wanted
-    ensures { λ r. ⌜ r ≡ wantedOf function 2 ⌝ }
-{
-    match function {
-        Function::Left | Function::Right | Function::Mid => Wanted::Two(Want::Text, Want::Whole),
-        Function::String => Wanted::Two(Want::Whole, Want::Either),
-        Function::Instr => Wanted::Two(Want::Text, Want::Text),
-        _ => Wanted::NoForm,
-    }
-}
-
-pub fn wants_three(function: Function) -> Wanted
-    ensures { λ r. ⌜ r ≡ wantedOf function 3 ⌝ }
-{
-    match function {
-        Function::Mid => Wanted::Three(Want::Text, Want::Whole, Want::Whole),
-        Function::Instr => Wanted::Three(Want::Whole, Want::Text, Want::Text),
-        _ => Wanted::NoForm,
+        | Function::Sgn => one(count, Want::Whole),
+        Function::Fre => one(count, Want::Either),
+        Function::Left | Function::Right => two(count, Want::Text, Want::Whole),
+        Function::String => two(count, Want::Whole, Want::Either),
+        Function::Mid => {
+            if count == 3 {
+                return Wanted::Three(Want::Text, Want::Whole, Want::Whole);
+            }
+            two(count, Want::Text, Want::Whole)
+        }
+        Function::Instr => {
+            if count == 3 {
+                return Wanted::Three(Want::Whole, Want::Text, Want::Text);
+            }
+            two(count, Want::Text, Want::Text)
+        }
     }
 }
 

@@ -7,7 +7,7 @@ use native.Mathlib.Omega.{arith}
 use lib.ListN.{length, replicate, length-append, length-map}
 use Rattle.words.specs.declared.names.Telling.{Telling}
 use Rattle.variables.specs.Tables.{nameBytes, numbersTable, stringsTable}
-use Rattle.variables.specs.Variables.{NumberVariable, StringVariable}
+use Rattle.variables.specs.Variables.{NumberVariable, StringVariable, mostVariables}
 use Rattle.variables.specs.declared.tables.Tables.{Tables}
 use Rattle.runner.specs.Run.{Ran, isRefused, tablesOf, answerOf, spaceAfter, roomAfter}
 use Rattle.runner.specs.declared.running.Ran as code
@@ -51,8 +51,8 @@ module _ (ran : Ran) (answer : code.Ran) (given : Tables) (is : answer ≡ answe
 
   -- and any other leaves its tables in it
   pub finished-run : (block′ : List ℕ) → isRefused (answer .outcome) ≡ false → block′ ≡ blockOf (answer .tables)
-      → length (answer .tables .numbers .names) ≡ 128 → length (answer .tables .numbers .words) ≡ 64
-      → length (answer .tables .strings .names) ≡ 128 → length (answer .tables .strings .lengths) ≡ 64
+      → length (answer .tables .numbers .names) ≡ 128 → length (answer .tables .numbers .words) ≡ mostVariables
+      → length (answer .tables .strings .names) ≡ 128 → length (answer .tables .strings .lengths) ≡ mostVariables
       → HasRun ran space room block space′ room′ block′ words
   finished-run block′ e k numbers numberWords strings lengths =
       let b : isRefused (ran .ending) ≡ false = rw is at e in

@@ -2,7 +2,7 @@
 use mathlib.Core.List.{List, [], _∷_}
 use Prim.Native.Nat.{ℕ, _-_}
 use lib.IntN.{ℤ, pos, negsuc}
-use Rattle.whole.specs.Errors.{numberOf}
+use Rattle.whole.specs.Errors.{errorNumber}
 use Rattle.whole.specs.Whole.{num}
 use Rattle.loader.specs.Refusals.{refusalNumber}
 use Rattle.loader.specs.declared.refusals.Refusal.the-variants.{NoVariable}
@@ -42,7 +42,7 @@ answerIn r =
 abbrev pub verdictIn : Verdict → List ℕ
 verdictIn verdict.Passed = 0 ∷ 0 ∷ 0 ∷ 0 ∷ []
 verdictIn (verdict.Refused r p) = 1 ∷ refusalNumber r ∷ 0 ∷ p .0 ∷ []
-verdictIn (verdict.Faulty e l) = 1 ∷ numberOf e ∷ l .0 ∷ 0 ∷ []
+verdictIn (verdict.Faulty e l) = 1 ∷ errorNumber e ∷ l .0 ∷ 0 ∷ []
 
 -- ---- a variable: number (0 or 111), kind (0 whole, 1 text), value, start and length in the space
 

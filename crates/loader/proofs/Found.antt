@@ -9,7 +9,8 @@ use lib.Dec.{leb}
 use lib.ListN.{length}
 use Rattle.whole.specs.Digits.{isDigit, leadingDigits, leadingValue}
 use Rattle.whole.proofs.Reading.{leading-inside}
-use Rattle.words.specs.Places.{lineNumber}
+use Rattle.whole.proofs.Never.{never}
+use Rattle.words.specs.Places.{lineNumber, largestLineNumber}
 use Rattle.words.specs.declared.places.LineNumber.{LineNumber}
 use Rattle.words.proofs.Choices.{by-test, both}
 use Rattle.loader.specs.Lines.{Line, linesOf, numberOf, firstOf, has, fromNumber, spanned}
@@ -27,30 +28,30 @@ module _ (s : List ℕ) where
   no-digit e = rw e
 
   -- a number over 65529
-  pub too-large : (length (leadingDigits s) ≡ 0 → ⊥) → 65529 < leadingValue s → numberOf s ≡ None
+  pub too-large : (length (leadingDigits s) ≡ 0 → ⊥) → largestLineNumber < leadingValue s → numberOf s ≡ None
   unfolding numberOf
-  too-large z h = rw (le-leb 1 (length (leadingDigits s)) (omega arith), lt-leb (leadingValue s) 65529 h)
+  too-large z h = rw (le-leb 1 (length (leadingDigits s)) (omega arith), lt-leb (leadingValue s) largestLineNumber h)
 
   -- a line with a number
-  pub is-number : (length (leadingDigits s) ≡ 0 → ⊥) → leadingValue s ≤ 65529
+  pub is-number : (length (leadingDigits s) ≡ 0 → ⊥) → leadingValue s ≤ largestLineNumber
       → numberOf s ≡ Is (lineNumber (leadingValue s)) (length (leadingDigits s))
   unfolding numberOf
-  is-number z h = rw (le-leb 1 (length (leadingDigits s)) (omega arith), le-leb (leadingValue s) 65529 h)
+  is-number z h = rw (le-leb 1 (length (leadingDigits s)) (omega arith), le-leb (leadingValue s) largestLineNumber h)
 
 -- what a number of a line tells of its bytes
 pub record Numbered (s : List ℕ) (n : LineNumber) (count : ℕ) : Type 0 where
   pub is : n ≡ lineNumber (leadingValue s)
   pub digits : count ≡ length (leadingDigits s)
-  pub small : leadingValue s ≤ 65529
+  pub small : leadingValue s ≤ largestLineNumber
 
 module _ (s : List ℕ) {n : LineNumber} {count : ℕ} where
   pub numbered-as : numberOf s ≡ Is n count → Numbered s n count
   unfolding numberOf
   numbered-as e =
-      let some = leb 1 (length (leadingDigits s)) in let fits = leb (leadingValue s) 65529 in
+      let some = leb 1 (length (leadingDigits s)) in let fits = leb (leadingValue s) largestLineNumber in
       by-test (some && fits)
       (λ t. let f = rw t at e in record { is = cc; digits = cc; small = leb-true _ _ (both some fits t .1) })
-      (λ t. let f = rw t at e in let z : _≡_ {A = ℕ} 0 1 = cc in absurd (omega arith))
+      (λ t. let f = rw t at e in never (cc))
 
   -- its digits stand within the line
   pub digits-inside : numberOf s ≡ Is n count → count ≤ length s

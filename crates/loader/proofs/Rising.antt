@@ -9,13 +9,14 @@ use lib.Dec.{leb, ltb}
 use lib.ListN.{length, getD}
 use Rattle.whole.specs.Bytes.{leading}
 use Rattle.whole.specs.Digits.{leadingDigits, leadingValue}
-use Rattle.words.specs.Places.{place, lineNumber}
+use Rattle.whole.proofs.Never.{never}
+use Rattle.words.specs.Places.{place, lineNumber, largestLineNumber, longestLine}
 use Rattle.words.specs.declared.places.Place.{Place}
 use Rattle.words.specs.declared.places.LineNumber.{LineNumber}
 use Rattle.words.proofs.Choices.{by-test, both}
 use Rattle.words.proofs.Runs.{run-passes}
 use Rattle.loader.specs.Lines.{Line, linesOf, numberOf}
-use Rattle.loader.specs.Loading.{isPlain, numbered, withNumber, judged, after, loadLines, loadOf}
+use Rattle.loader.specs.Loading.{isPlain, numbered, withNumber, judged, byJudged, loadLines, loadOf, longestText, mostLines}
 use Rattle.loader.specs.declared.lines.NumberFound.{NumberFound}
 use Rattle.loader.specs.declared.lines.NumberFound.the-variants.{Is, None}
 use Rattle.loader.specs.declared.refusals.Refusal.{Refusal}
@@ -27,11 +28,11 @@ use Rattle.loader.proofs.Found.{numbered-as}
 
 -- ---- a line
 
--- a line with a number, of at most 255 bytes from blank to tilde
+-- a line with a number, not too long, of bytes from blank to tilde
 pub record Sound (s : List ℕ) : Type 0 where
   pub is : numberOf s ≡ Is (lineNumber (leadingValue s)) (length (leadingDigits s))
-  pub small : leadingValue s ≤ 65529
-  pub short : length s ≤ 255
+  pub small : leadingValue s ≤ largestLineNumber
+  pub short : length s ≤ longestLine
   pub plain : (i : ℕ) → i < length s → (32 ≤ getD s i 0) × (getD s i 0 ≤ 126)
 
 -- a line that is judged good
@@ -39,11 +40,11 @@ pub record Accepted (s : List ℕ) (before floor : ℕ) (n : LineNumber) : Type 
   pub sound : Sound s
   pub value : n .0 ≡ leadingValue s
   pub rises : floor ≤ leadingValue s
-  pub few : before < 512
+  pub few : before < mostLines
 
 -- no line is judged both good and bad
 not-both : {P : Type 0} {r : Refusal} {k : ℕ} {n : LineNumber} → Bad r k ≡ Good n → P
-not-both e = let z : _≡_ {A = ℕ} 0 1 = cc in absurd (omega arith)
+not-both e = never (cc)
 
 -- how far into a line its fault is
 abbrev offsetOf : Judged → ℕ
@@ -55,12 +56,12 @@ plain-byte : (b : ℕ) → isPlain b ≡ true → (32 ≤ b) × (b ≤ 126)
 unfolding isPlain
 plain-byte b e = let t = both (leb 32 b) (leb b 126) e in (leb-true 32 b (t .0), leb-true b 126 (t .1))
 
--- what was found is a number, above the one before and of one of 512 lines
+-- what was found is a number, above the one before and of a line that there may be
 record Above (before floor : ℕ) (found : NumberFound) (n : LineNumber) : Type 0 where
   count : ℕ
   is : found ≡ Is n count
   rises : floor ≤ n .0
-  few : before < 512
+  few : before < mostLines
 
 module _ (before floor : ℕ) where
   -- as it is where it is judged good
@@ -69,7 +70,7 @@ module _ (before floor : ℕ) where
   above None e = not-both e
   above (Is m count) {n} e =
       by-test (ltb (m .0) floor) (λ t. not-both (rw t at e))
-      (λ t. by-test (leb 512 before) (λ u. not-both (rw (t, u) at e))
+      (λ t. by-test (leb mostLines before) (λ u. not-both (rw (t, u) at e))
       (λ u. let g : Good m ≡ Good n = rw (t, u) at e in let k : m ≡ n = cc in
       record { count = count; is = rw k; rises = rw (← k) (ltb-false _ _ t); few = leb-false _ _ u }))
 
@@ -79,14 +80,14 @@ module _ (before floor : ℕ) where
   at-first None e = sym (ap offsetOf e)
   at-first (Is m count) e =
       by-test (ltb (m .0) floor) (λ t. sym (ap offsetOf (rw t at e)))
-      (λ t. by-test (leb 512 before) (λ u. sym (ap offsetOf (rw (t, u) at e))) (λ u. not-both (sym (rw (t, u) at e))))
+      (λ t. by-test (leb mostLines before) (λ u. sym (ap offsetOf (rw (t, u) at e))) (λ u. not-both (sym (rw (t, u) at e))))
 
   module _ (s : List ℕ) where
     -- what is judged good is sound, and its number is the value of its digits
     pub judged-good : {n : LineNumber} → judged s before floor ≡ Good n → Accepted s before floor n
     unfolding judged
     judged-good e =
-        by-test (ltb 255 (length s)) (λ t. not-both (rw t at e))
+        by-test (ltb longestLine (length s)) (λ t. not-both (rw t at e))
         (λ t. by-test (ltb (length (leading isPlain s)) (length s)) (λ u. not-both (rw (t, u) at e))
         (λ u. let a = above (numberOf s) (rw (t, u) at e) in
         let n = numbered-as s (a .is) in
@@ -95,7 +96,7 @@ module _ (before floor : ℕ) where
           sound = record {
             is = a .is ∙ ap₂ Is (n .is) (n .digits);
             small = n .small;
-            short = ltb-false 255 (length s) t;
+            short = ltb-false longestLine (length s) t;
             plain = λ i k. plain-byte _ (run-passes isPlain s i (omega arith));
           };
           value = ap (λ l. l .0) (n .is);
@@ -107,7 +108,7 @@ module _ (before floor : ℕ) where
     pub judged-bad : {r : Refusal} {k : ℕ} → judged s before floor ≡ Bad r k → k ≤ length s
     unfolding judged
     judged-bad e =
-        by-test (ltb 255 (length s)) (λ t. omega (arith, ap offsetOf (rw t at e)))
+        by-test (ltb longestLine (length s)) (λ t. omega (arith, ap offsetOf (rw t at e)))
         (λ t. by-test (ltb (length (leading isPlain s)) (length s))
         (λ u. omega (arith, ap offsetOf (rw (t, u) at e), ltb-true (length (leading isPlain s)) (length s) u))
         (λ u. omega (arith, at-first (numberOf s) (rw (t, u) at e))))
@@ -134,27 +135,27 @@ Rising floor (l ∷ ls) = Sound (l .bytes) × (floor ≤ leadingValue (l .bytes)
 
 -- a text of at most 16,384 bytes and 512 lines, each sound, their numbers rising
 pub record Recipe (text : List ℕ) : Type 0 where
-  pub short : length text ≤ 16384
-  pub few : length (linesOf text) ≤ 512
+  pub short : length text ≤ longestText
+  pub few : length (linesOf text) ≤ mostLines
   pub rising : Rising 0 (linesOf text)
 
 -- what is refused is not fine
 not-fine : {P : Type 0} {r : Refusal} {p : Place} → Refused r p ≡ Fine → P
-not-fine e = let z : _≡_ {A = ℕ} 0 1 = cc in absurd (omega arith)
+not-fine e = never (cc)
 
 -- where all is fine, so are the first line and what follows it
-fine-first : (s : List ℕ) (before floor start : ℕ) (next : ℕ → Loaded) → after (judged s before floor) start next ≡ Fine
+fine-first : (s : List ℕ) (before floor start : ℕ) (next : ℕ → Loaded) → byJudged (judged s before floor) start next ≡ Fine
     → (n : LineNumber) × Accepted s before floor n × (next (n .0 + 1) ≡ Fine)
 fine-first s before floor start next e = go (judged s before floor) refl e
   where
-    go : (j : Judged) → judged s before floor ≡ j → after j start next ≡ Fine
+    go : (j : Judged) → judged s before floor ≡ j → byJudged j start next ≡ Fine
         → (n : LineNumber) × Accepted s before floor n × (next (n .0 + 1) ≡ Fine)
     go (Good n) f g = (n, judged-good before floor s f, g)
     go (Bad r k) f g = not-fine g
 
 -- so all of them rise
-fine-lines : (ls : List Line) (before floor : ℕ) → before ≤ 512 → loadLines before floor ls ≡ Fine
-    → (before + length ls ≤ 512) × Rising floor ls
+fine-lines : (ls : List Line) (before floor : ℕ) → before ≤ mostLines → loadLines before floor ls ≡ Fine
+    → (before + length ls ≤ mostLines) × Rising floor ls
 unfolding loadLines
 fine-lines [] before floor h e = (omega arith, tt)
 fine-lines (l ∷ ls) before floor h e =
@@ -167,9 +168,9 @@ fine-lines (l ∷ ls) before floor h e =
 pub recipe : (text : List ℕ) → loadOf text ≡ Fine → Recipe text
 unfolding loadOf
 recipe text e =
-    by-test (ltb 16384 (length text)) (λ t. not-fine (rw t at e))
+    by-test (ltb longestText (length text)) (λ t. not-fine (rw t at e))
     (λ t. let r = fine-lines (linesOf text) 0 0 (omega arith) (rw t at e) in
-    record { short = ltb-false 16384 (length text) t; few = omega (arith, r .0); rising = r .1 })
+    record { short = ltb-false longestText (length text) t; few = omega (arith, r .0); rising = r .1 })
 
 -- the floor may be lower
 pub rising-lower : (low floor : ℕ) (ls : List Line) → low ≤ floor → Rising floor ls → Rising low ls

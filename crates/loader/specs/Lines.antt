@@ -6,7 +6,7 @@ use Prim.Native.Nat.{ℕ, zero, suc, _+_}
 use lib.Dec.{leb, eqb}
 use lib.ListN.{length, drop}
 use Rattle.whole.specs.Digits.{leadingDigits, leadingValue}
-use Rattle.words.specs.Places.{place, lineNumber}
+use Rattle.words.specs.Places.{place, lineNumber, largestLineNumber}
 use Rattle.words.specs.declared.places.Place.{Place}
 use Rattle.words.specs.declared.places.LineNumber.{LineNumber}
 use Rattle.loader.specs.declared.lines.Extent.{Extent}
@@ -66,7 +66,7 @@ afterNumber l = drop (length (leadingDigits (l .bytes))) (l .bytes)
 -- a line begins with its number's first digit, all its digits belong to it, and it is at most 65529
 unfoldable pub numberOf : List ℕ → NumberFound
 numberOf bytes =
-    cond (leb 1 (length (leadingDigits bytes)) && leb (leadingValue bytes) 65529)
+    cond (leb 1 (length (leadingDigits bytes)) && leb (leadingValue bytes) largestLineNumber)
     (number.Is (lineNumber (leadingValue bytes)) (length (leadingDigits bytes)))
     number.None
 

@@ -6,6 +6,7 @@ use Prim.Native.Nat.{ℕ, zero, suc, _-_, _≤_, _<_}
 use native.Mathlib.Omega.{arith}
 use lib.Dec.{eqb}
 use lib.ListN.{length, getD}
+use Rattle.whole.proofs.Never.{never}
 use Rattle.words.proofs.Choices.{by-test}
 use Rattle.machine.specs.Machine as spec
 use Rattle.machine.specs.Machine.{missing, sought, isCall}
@@ -88,7 +89,7 @@ pub record FoundAt (text : List ℕ) (rs : List Record) (k : Sought) (d i : ℕ)
   pub is : sought (wanted k) (recordsIn text rs d) ≡ spec.found (recordOf text (getD rs i blankRecord)) (recordsIn text rs i)
 
 not-found : {P : Type 0} {i : ℕ} → found.None ≡ found.At i → P
-not-found e = let z : _≡_ {A = ℕ} 0 1 = cc in absurd (omega arith)
+not-found e = never (cc)
 
 -- what the code finds is what the definition finds
 module _ (text : List ℕ) (rs : List Record) (k : Sought) where

@@ -9,7 +9,8 @@ use lib.ListN.{length, take, drop, length-drop}
 use lib.Seq.{take-add, drop-at, drop-drop, length-take-le}
 use Rattle.whole.specs.Digits.{leadingDigits, leadingValue}
 use Rattle.whole.proofs.Numbers.{less}
-use Rattle.words.specs.Places.{place, lineNumber}
+use Rattle.whole.proofs.Never.{never}
+use Rattle.words.specs.Places.{place, lineNumber, largestLineNumber, longestLine}
 use Rattle.words.specs.declared.places.LineNumber.{LineNumber}
 use Rattle.loader.specs.Lines.{Line, linesOf, numberOf, located, firstOf, lineAt, has, fromNumber, findLine}
 use Rattle.loader.specs.Loading.{loadOf}
@@ -87,9 +88,9 @@ pub record Told (text : List ℕ) (p : ℕ) (span : LineSpan) : Type 0 where
   pub starts : span .place ≡ place p
   pub next : span .next ≡ place (line .next)
   pub number : span .number ≡ lineNumber (leadingValue (line .bytes))
-  pub small : leadingValue (line .bytes) ≤ 65529
+  pub small : leadingValue (line .bytes) ≤ largestLineNumber
   pub body : take (span .end .0 - span .body .0) (drop (span .body .0) text) ≡ bodyOf (linesAt text p)
-  pub short : length (bodyOf (linesAt text p)) ≤ 255
+  pub short : length (bodyOf (linesAt text p)) ≤ longestLine
   pub low : span .body .0 ≤ span .end .0
   pub high : span .end .0 ≤ length text
   pub onward : p < span .next .0
@@ -154,7 +155,7 @@ told-as b fine {span} e =
 -- where one is found one begins,
 some-first : (text : List ℕ) (p : ℕ) (ls : List Line) → linesAt text p ≡ ls → Reaches text p → {span : LineSpan} → firstOf ls ≡ Is span
     → Begins text p
-some-first text p [] q w e = let z : _≡_ {A = ℕ} 0 1 = cc in absurd (omega arith)
+some-first text p [] q w e = never (cc)
 some-first text p (l ∷ ls) q w e = begins-here w q
 
 pub reached-some : {text : List ℕ} {p : ℕ} → Reaches text p → {span : LineSpan} → lineAt text (place p) ≡ Is span → Begins text p
@@ -163,7 +164,7 @@ reached-some {text} {p} w e = some-first text p (linesAt text p) refl w e
 -- and where none is, none is left
 none-first : (ls : List Line) → Rising 0 ls → firstOf ls ≡ None → ls ≡ []
 none-first [] r e = refl
-none-first (l ∷ ls) r e = let f = rw (r .0 .is) at e in let z : _≡_ {A = ℕ} 0 1 = cc in absurd (omega arith)
+none-first (l ∷ ls) r e = let f = rw (r .0 .is) at e in never (cc)
 
 pub reached-none : {text : List ℕ} {p : ℕ} → Reaches text p → loadOf text ≡ Fine → lineAt text (place p) ≡ None → linesAt text p ≡ []
 reached-none {text} {p} w fine e = none-first (linesAt text p) (reaches-rising w fine) e
@@ -178,15 +179,15 @@ pub record FoundBegins (text : List ℕ) (n : LineNumber) (span : LineSpan) : Ty
 located-at : (l : Line) (x : NumberFound) {span : LineSpan} → located l x ≡ Is span → span .place .0 ≡ l .start
 located-at l (number.Is m count) {span} e =
     let f : place (l .start) ≡ span .place = cc in sym (ap (λ x. x .0) f)
-located-at l number.None e = let z : _≡_ {A = ℕ} 0 1 = cc in absurd (omega arith)
+located-at l number.None e = never (cc)
 
 located-some : (n : ℕ) (l : Line) (x : NumberFound) → has n x ≡ true → located l x ≡ None → ⊥
-located-some n l (number.Is m count) h e = let z : _≡_ {A = ℕ} 0 1 = cc in absurd (omega arith)
-located-some n l number.None h e = let z : _≡_ {A = ℕ} 0 1 = cc in absurd (omega arith)
+located-some n l (number.Is m count) h e = never (cc)
+located-some n l number.None h e = never (cc)
 
 module _ (text : List ℕ) (n : LineNumber) where
   found-by : (ls : List Line) → fromNumber (n .0) (linesOf text) ≡ ls → {span : LineSpan} → firstOf ls ≡ Is span → FoundBegins text n span
-  found-by [] q e = let z : _≡_ {A = ℕ} 0 1 = cc in absurd (omega arith)
+  found-by [] q e = never (cc)
   found-by (l ∷ ls) q {span} e =
       let s = from-suffix (n .0) (linesOf text) in
       let a = from-at text (n .0) q in

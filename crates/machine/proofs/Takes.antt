@@ -11,12 +11,14 @@ use lib.ListN.{length, drop}
 use Rattle.whole.specs.declared.errors.Error.{Error}
 use Rattle.whole.specs.declared.errors.Error.the-variants.{LineBufferOverflow, InputPastEnd}
 use Rattle.whole.proofs.Numbers.{less}
+use Rattle.whole.proofs.Never.{never}
 use Rattle.words.proofs.Choices.{by-test}
 use Rattle.loader.specs.Lines.{extentAt}
 use Rattle.loader.specs.declared.lines.Extent.{Extent}
 use Rattle.loader.proofs.Extents.{passed, lines-out, walked, walked-size}
 use Rattle.machine.specs.bridge.Taking.{takenAt}
 use Rattle.machine.specs.declared.taking.InputLine.the-variants.{Is, Fault}
+use Rattle.machine.specs.Machine.{longestInputLine}
 
 module _ (input : List ℕ) (p : ℕ) where
   -- no bytes are left
@@ -25,18 +27,18 @@ module _ (input : List ℕ) (p : ℕ) where
 
   -- some are
   module _ {e : Extent} (h : p < length input) (q : e ≡ extentAt p (drop p input)) where
-    taken-some : takenAt input p ≡ cond (ltb 254 (e .end - p)) (Fault LineBufferOverflow) (Is e)
+    taken-some : takenAt input p ≡ cond (ltb longestInputLine (e .end - p)) (Fault LineBufferOverflow) (Is e)
     taken-some =
         let w = walked input p h q in
         let s = walked-size input p w in
         let k : length (passed input p e .bytes) ≡ e .end - p = omega arith in
         rw (w .lines, s, k)
 
-    pub taken-long : 254 < e .end - p → takenAt input p ≡ Fault LineBufferOverflow
-    taken-long b = taken-some ∙ rw (lt-ltb 254 (e .end - p) b)
+    pub taken-long : longestInputLine < e .end - p → takenAt input p ≡ Fault LineBufferOverflow
+    taken-long b = taken-some ∙ rw (lt-ltb longestInputLine (e .end - p) b)
 
-    pub taken-line : e .end - p ≤ 254 → takenAt input p ≡ Is e
-    taken-line b = taken-some ∙ rw (le-ltb 254 (e .end - p) b)
+    pub taken-line : e .end - p ≤ longestInputLine → takenAt input p ≡ Is e
+    taken-line b = taken-some ∙ rw (le-ltb longestInputLine (e .end - p) b)
 
   -- ---- what was taken tells
 
@@ -46,38 +48,38 @@ module _ (input : List ℕ) (p : ℕ) where
     pub is : e ≡ extentAt p (drop p input)
     pub low : p ≤ e .end
     pub inside : e .end ≤ length input
-    pub short : e .end - p ≤ 254
+    pub short : e .end - p ≤ longestInputLine
 
   pub took : {e : Extent} → takenAt input p ≡ Is e → Took e
   took {e} t =
       ⊎-elim
       (λ h.
       let x = extentAt p (drop p input) in
-      by-test (ltb 254 (x .end - p))
-      (λ b. let f = taken-long h refl (ltb-true 254 (x .end - p) b) in let z : _≡_ {A = ℕ} 0 1 = cc in absurd (omega arith))
+      by-test (ltb longestInputLine (x .end - p))
+      (λ b. let f = taken-long h refl (ltb-true longestInputLine (x .end - p) b) in never (cc))
       (λ b.
-      let s = ltb-false 254 (x .end - p) b in
+      let s = ltb-false longestInputLine (x .end - p) b in
       let f = taken-line {e = x} h refl s in
       let g : e ≡ x = cc in
       let w = walked input p h g in
       record { some = h; is = g; low = w .low; inside = omega (arith, w .mid, w .inside); short = rw g s }))
-      (λ h. let f = taken-none h in let z : _≡_ {A = ℕ} 0 1 = cc in absurd (omega arith))
+      (λ h. let f = taken-none h in never (cc))
       (less p (length input))
 
   -- or why there is none
   pub untaken : (P : Error → Type 0) {x : Error} → takenAt input p ≡ Fault x → (length input ≤ p → P InputPastEnd)
-      → (p < length input → 254 < extentAt p (drop p input) .end - p → P LineBufferOverflow) → P x
+      → (p < length input → longestInputLine < extentAt p (drop p input) .end - p → P LineBufferOverflow) → P x
   untaken P {x} t none long =
       ⊎-elim
       (λ h.
       let w = extentAt p (drop p input) in
-      by-test (ltb 254 (w .end - p))
+      by-test (ltb longestInputLine (w .end - p))
       (λ b.
-      let s = ltb-true 254 (w .end - p) b in
+      let s = ltb-true longestInputLine (w .end - p) b in
       let f = taken-long {e = w} h refl s in
       let g : x ≡ LineBufferOverflow = cc in rw g (long h s))
       (λ b.
-      let f = taken-line {e = w} h refl (ltb-false 254 (w .end - p) b) in
-      let z : _≡_ {A = ℕ} 0 1 = cc in absurd (omega arith)))
+      let f = taken-line {e = w} h refl (ltb-false longestInputLine (w .end - p) b) in
+      never (cc)))
       (λ h. let f = taken-none h in let g : x ≡ InputPastEnd = cc in rw g (none h))
       (less p (length input))

@@ -10,6 +10,7 @@ use lib.Dec.{eqb}
 use lib.Seq.{length-take-le}
 use lib.ListN.{length, take, drop, getD, replicate, drop-of-length-le}
 use Rattle.whole.proofs.Reading.{drop-next}
+use Rattle.whole.proofs.Never.{never}
 use Rattle.words.proofs.Choices.{by-test}
 use Rattle.space.specs.Moves.{copied}
 use Rattle.space.proofs.Bounds.{by-bound}
@@ -72,13 +73,13 @@ module _ (p : Printer) (room bytes : List ℕ) where
   pub not-printed : printedAs p (length room) bytes .ok ≡ false → length room < p .written + length bytes
   not-printed e =
       by-bound (p .written + length bytes) (length room)
-      (λ h. let z : true ≡ false = ap (λ (x : Printed). x .ok) (printed-all h) ∙ e in let y : _≡_ {A = ℕ} 0 1 = cc in absurd (omega arith))
+      (λ h. let z : true ≡ false = ap (λ (x : Printed). x .ok) (printed-all h) ∙ e in never (cc))
       (λ h. h)
 
   pub is-printed : printedAs p (length room) bytes .ok ≡ true → p .written + length bytes ≤ length room
   is-printed e =
       by-bound (p .written + length bytes) (length room) (λ h. h)
-      (λ h. let z : false ≡ true = ap (λ (x : Printed). x .ok) (printed-full h) ∙ e in let y : _≡_ {A = ℕ} 0 1 = cc in absurd (omega arith))
+      (λ h. let z : false ≡ true = ap (λ (x : Printed). x .ok) (printed-full h) ∙ e in never (cc))
 
 -- the room and the printer afterwards
 module _ {p : Printer} {room : List ℕ} (fit : Fitting p room) (bytes : List ℕ) where

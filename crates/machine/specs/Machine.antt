@@ -8,6 +8,7 @@ use lib.Signed.{ltZ}
 use lib.ListN.{length, replicate}
 use Rattle.whole.specs.Whole.{num}
 use Rattle.words.specs.Names.{alike}
+use Rattle.whole.specs.Bytes.{blank}
 use Rattle.words.specs.declared.names.Telling.{Telling}
 use Rattle.loader.specs.Lines.{Line}
 use Rattle.statements.specs.Parts.{Rest}
@@ -67,6 +68,10 @@ fresh input lent = record {
 abbrev pub mostRecords : ℕ
 mostRecords = 32
 
+-- a line of input has at most 254 bytes, its end not counted
+abbrev pub longestInputLine : ℕ
+longestInputLine = 254
+
 -- the room that a statement begins with: the variables alone are live
 abbrev pub roomOf : Machine → Room
 roomOf m = record { limit = m .space; live = stringBytes (m .variables .strings); unfinished = 0; highest = m .highest }
@@ -111,7 +116,7 @@ write m bytes =
 
 -- a comma gives 14 minus (column mod 14) blanks
 abbrev pub commaBlanks : Machine → List ℕ
-commaBlanks m = replicate (14 - m .column % 14) 32
+commaBlanks m = replicate (14 - m .column % 14) blank
 
 -- ---- records
 

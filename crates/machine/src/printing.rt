@@ -5,6 +5,7 @@ ghost use lib.ListN.{length, replicate};
 ghost use Rattle.space.specs.Moves.{copied};
 ghost use Rattle.machine.specs.Machine.{columnAfter};
 ghost use Rattle.machine.specs.bridge.Holding.{printedAs, Fitting};
+ghost use Rattle.whole.specs.Bytes.{blank};
 use crate::state::Printer;
 use space::Offset;
 use space::copy_in;
@@ -63,8 +64,8 @@ pub fn write(printer: Printer, room: &mut [u8], bytes: &[u8]) -> Printed
 pub fn write_comma(printer: Printer, room: &mut [u8]) -> Printed
     requires { ⌜ Fitting printer (now room) ⌝ }
     ensures { λ r. ⌜
-        (r ≡ printedAs printer (length (now (room .entry))) (replicate (14 - printer .column % 14) 32))
-        × (now (room .exit) ≡ copied (now (room .entry)) (printer .written) (replicate (14 - printer .column % 14) 32))
+        (r ≡ printedAs printer (length (now (room .entry))) (replicate (14 - printer .column % 14) blank))
+        × (now (room .exit) ≡ copied (now (room .entry)) (printer .written) (replicate (14 - printer .column % 14) blank))
         ⌝ }
 {
     let blanks = BLANKS;

@@ -26,6 +26,8 @@ impl Machine {
 
     pub const LONGEST_SPACE: usize = 16384;
 
+    pub const LONGEST_INPUT_LINE: usize = 254;
+
     // Every variable unset, both tables empty, column 0.
     pub fn fresh() -> Machine
         ensures { λ r. ⌜ r ≡ freshMachine ⌝ }

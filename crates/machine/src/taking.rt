@@ -1,6 +1,7 @@
 // Taking a line of the input.
 ghost use mathlib.Core.Path.{_≡_};
 ghost use Rattle.machine.specs.bridge.Taking.{takenAt};
+use crate::state::Machine;
 use loader::Extent;
 use loader::extent_at;
 use whole::Error;
@@ -11,9 +12,6 @@ pub enum InputLine {
     Fault(Error),
 }
 
-// The longest line of input.
-const LONGEST: usize = 254;
-
 // The line from a place on: 62 if no bytes are left, 23 if over 254 bytes.
 pub fn take_line(input: &[u8], from: usize) -> InputLine
     ensures { λ r. ⌜ r ≡ takenAt (now (input .entry)) from ⌝ }
@@ -23,7 +21,7 @@ pub fn take_line(input: &[u8], from: usize) -> InputLine
     }
     let extent = extent_at(input, from);
     let end = extent.end;
-    if LONGEST < end - from {
+    if Machine::LONGEST_INPUT_LINE < end - from {
         return InputLine::Fault(Error::LineBufferOverflow);
     }
     InputLine::Is(extent)

@@ -12,6 +12,7 @@ use Rattle.whole.specs.declared.arithmetic.Answer.{Answer}
 use Rattle.whole.specs.declared.arithmetic.Answer.the-variants.{Whole, Fault}
 use Rattle.whole.specs.declared.arithmetic.Operator.{Operator}
 use Rattle.whole.specs.declared.arithmetic.Operator.the-variants as operator
+use Rattle.whole.specs.Texts.{longestString}
 use Rattle.words.specs.Spellings.{sameBytes}
 use Rattle.words.specs.declared.symbols.Scanned.{Scanned}
 use Rattle.words.proofs.Choices.{by-test}
@@ -28,7 +29,7 @@ use Rattle.variables.specs.declared.values.Worked.the-variants as worked
 -- a text that is no longer than a string can be
 abbrev Short : Outcome → Type 0
 Short (value (whole w) room) = Unit {0}
-Short (value (text b) room) = length b ≤ 255
+Short (value (text b) room) = length b ≤ longestString
 Short (fault e room) = Unit {0}
 
 taken-whole : (l : List ℕ) (n : ℕ) → n ≡ length (take n l) → n ≤ length l
@@ -41,7 +42,7 @@ agrees-fits (worked.Text n t) space used (value (text b) room) h (e, (l, k)) =
     let i = taken-whole (drop used space) n (l ∙ ap length (sym e)) in let d = length-drop used space in omega arith
 agrees-fits (worked.Fault e) space used o h a = omega arith
 
-agrees-short : (r : Worked) (space : List ℕ) (used : ℕ) (o : Outcome) → Short o → Agrees r space used o → textLength r ≤ 255
+agrees-short : (r : Worked) (space : List ℕ) (used : ℕ) (o : Outcome) → Short o → Agrees r space used o → textLength r ≤ longestString
 agrees-short (worked.Whole w t) space used o h a = omega arith
 agrees-short (worked.Text n t) space used (value (text b) room) h (e, (l, k)) = omega arith
 agrees-short (worked.Fault e) space used o h a = omega arith
@@ -50,10 +51,10 @@ agrees-short (worked.Fault e) space used o h a = omega arith
 produced-short : (bytes : List ℕ) (operands : List Value) (room : Room) → Short (produced bytes operands room)
 unfolding produced make
 produced-short bytes operands room =
-    by-test (ltb 255 (length bytes))
+    by-test (ltb longestString (length bytes))
     (λ e. rw e tt)
     λ e. rw e
-    (by-test (ltb (room .limit) (room .live + length bytes)) (λ f. rw f tt) (λ f. rw f (ltb-false 255 (length bytes) e)))
+    (by-test (ltb (room .limit) (room .live + length bytes)) (λ f. rw f tt) (λ f. rw f (ltb-false longestString (length bytes) e)))
 
 answered-short : (a : Answer) (operands : List Value) (room : Room) → Short (answered a operands room)
 answered-short (Whole w) operands room = tt
@@ -91,7 +92,7 @@ roomOf space live = record { limit = length space; live = live; unfinished = 0; 
 
 pub record Stands (space : List ℕ) (used : ℕ) (r : Worked) (u : Scanned) : Type 0 where
   pub fits : used + textLength r ≤ length space
-  pub short : textLength r ≤ 255
+  pub short : textLength r ≤ longestString
   pub goes : GoesOn r u
 
 module _ (op : Operator) (space : List ℕ) (used : ℕ) (h : used ≤ length space) (r : Worked) (u : Scanned) where

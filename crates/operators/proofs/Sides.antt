@@ -30,6 +30,7 @@ use Rattle.operators.proofs.Orders.{less-told, same-told, greater-told}
 use Rattle.variables.specs.declared.values.Worked.{Worked}
 use Rattle.variables.specs.declared.values.Worked.the-variants as worked
 use Rattle.whole.specs.declared.errors.Error.the-variants.{StringTooLong, OutOfStringSpace, TypeMismatch}
+use Rattle.whole.specs.Texts.{longestString}
 
 -- an answer agrees with what is made of any room that holds, and goes on
 abbrev pub Gives : Worked → Scanned → List ℕ → ℕ → ℕ → (Room → Outcome) → Type 0
@@ -116,7 +117,7 @@ module _ (space : List ℕ) (used : ℕ) (a b : List ℕ) (t : Scanned) where
         let l = length-append a b in
         let n : room .live + (length a + length b) ≡ used + (length a + length b) + (length a + length b) = omega (arith, h .lives) in
         rw (l, h .limit, n)
-        (by-test (ltb 255 (length a + length b))
+        (by-test (ltb longestString (length a + length b))
         (λ long. rw long refl)
         (λ short. rw short
         (by-test (ltb (length space) (used + (length a + length b) + (length a + length b)))
@@ -125,7 +126,7 @@ module _ (space : List ℕ) (used : ℕ) (a b : List ℕ) (t : Scanned) where
 
     pub join-gives : Gives (joinedLength (length space) used (length a) (length b) t) t space used (used + length a + length b)
         (produced (a ++ b) (text a ∷ text b ∷ []))
-    join-gives = (join-agrees, goes-on (ltb 255 (length a + length b)) (ltb (length space) (used + (length a + length b) + (length a + length b))))
+    join-gives = (join-agrees, goes-on (ltb longestString (length a + length b)) (ltb (length space) (used + (length a + length b) + (length a + length b))))
 
 -- ---- two texts that stand side by side in the space
 

@@ -16,6 +16,7 @@ use variables::has_room;
 use whole::Answer;
 use whole::Error;
 use whole::Operator;
+use whole::Text;
 use whole::apply;
 use words::Place;
 use words::Scanned;
@@ -32,8 +33,6 @@ pub enum Turn {
     Refused,
     Goes(Operator, Place),
 }
-
-const LONGEST: usize = 255;
 
 // Strings compare by bytes, and a proper prefix is less. The right one stands right after the left one.
 fn compare(space: &[u8], left: usize, first: usize, second: usize) -> Order
@@ -140,7 +139,7 @@ fn join(space: &[u8], used: usize, first: usize, second: usize, ahead: Scanned) 
     ensures { λ r. ⌜ r ≡ joinedLength (length (now (space .entry))) used first second ahead ⌝ }
 {
     let len = first + second;
-    if LONGEST < len {
+    if Text::LONGEST < len {
         return Worked::Fault(Error::StringTooLong);
     }
     if !has_room(space, used + len, len) {

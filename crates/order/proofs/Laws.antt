@@ -6,6 +6,7 @@ use mathlib.Core.List.{List, [], _∷_, _++_}
 use Prim.Native.Nat.{ℕ, zero, suc, _+_}
 use native.Mathlib.Omega.{arith}
 use lib.Dec.{ltb}
+use Rattle.whole.proofs.Never.{never}
 use Rattle.words.specs.declared.symbols.Scanned.{Scanned}
 use Rattle.words.proofs.Choices.{by-test}
 use Rattle.loader.specs.Lines.{Line, afterNumber, nextLine}
@@ -155,7 +156,7 @@ one-by P y x go own others Neither k e = others k e
 module _ (P : Stand → Type 0) (test : Statement → Bracket) where
   pub partner-one : (k : ℕ) (xs : List Stand) → Every P xs → (x : Stand) → partner test k xs ≡ some x → P x
   unfolding partner
-  partner-one k [] a x e = let z : _≡_ {A = ℕ} 0 1 = cc in absurd (omega arith)
+  partner-one k [] a x e = never (cc)
   partner-one k (y ∷ ys) a x e =
       one-by P y x (λ n. partner test n ys) (a .0) (λ n f. partner-one n ys (a .1) x f) (test (headOf (y .part))) k e
 

@@ -4,6 +4,7 @@ use mathlib.Core.List.{List, [], _∷_}
 use Prim.Native.Nat.{ℕ, zero, suc, _+_, _-_, _≤_}
 use native.Mathlib.Numerals.{add-one}
 use native.Mathlib.Omega.{arith}
+use Rattle.whole.proofs.Never.{never}
 use Rattle.words.specs.declared.symbols.Word.{Word}
 use Rattle.loader.proofs.Rising.{recipe}
 use Rattle.grammar.specs.Trees.{Statement, Part}
@@ -99,7 +100,7 @@ closes-some (suc k) h = let e : suc k - 1 ≡ k = omega arith in rw e
 -- one more waits at most
 pub still-few : (b : Bracket) (k n : ℕ) → Still n ≡ countedBy b k → n ≤ k + 1
 still-few Opens k n e = let h : n ≡ k + 1 = cc in omega (arith, h)
-still-few Closes zero n e = let z : _≡_ {A = ℕ} 0 1 = cc in absurd (omega arith)
+still-few Closes zero n e = never (cc)
 still-few Closes (suc k) n e = let h : n ≡ k = cc in omega (arith, h)
 still-few Neither k n e = let h : n ≡ k = cc in omega (arith, h)
 

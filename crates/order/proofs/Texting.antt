@@ -5,6 +5,7 @@ use mathlib.Core.List.{List, [], _∷_, _++_, append-assoc, cons-ne-nil}
 use Prim.Native.Nat.{ℕ, _+_, _-_, _≤_, _<_}
 use native.Mathlib.Omega.{arith}
 use lib.ListN.{take, drop}
+use Rattle.whole.proofs.Never.{never}
 use Rattle.words.specs.Places.{place}
 use Rattle.words.specs.declared.places.Place.{Place}
 use Rattle.words.specs.declared.symbols.Scanned.{Scanned}
@@ -58,7 +59,7 @@ here-ahead a = record { loads = a .loads; begins = a .begins; is = a .spans }
 
 -- one does begin there
 pub not-none : {P : Type 0} {text : List ℕ} {p : ℕ} → Lined text p → lineAt text (place p) ≡ None → P
-not-none w e = let t = line-told (w .begins) (w .loads) in let z : _≡_ {A = ℕ} 0 1 = cc (t .is) in absurd (omega arith)
+not-none w e = let t = line-told (w .begins) (w .loads) in never (cc (t .is))
 
 module _ {text : List ℕ} {p : ℕ} {span : LineSpan} (h : Here text p span) where
   pub told : Told text p span

@@ -4,6 +4,7 @@ use mathlib.Core.Bool.{true}
 use mathlib.Core.List.{List, [], _∷_}
 use Prim.Native.Nat.{ℕ, _+_}
 use native.Mathlib.Omega.{arith}
+use Rattle.whole.proofs.Never.{never}
 use Rattle.words.specs.Places.{place}
 use Rattle.words.specs.declared.symbols.Scanned.{Scanned}
 use Rattle.words.specs.declared.symbols.Word.{Word}
@@ -72,7 +73,7 @@ WordedAs Nothing q = ⊥
 
 module _ (s : List ℕ) (p : ℕ) where
   bad-not : {q : Part} {u : Scanned} → partOf s true p ≡ goodPart q u → begunAt s true p ≡ bad → ⊥
-  bad-not e b = let f = sym (unrolled s true p) ∙ e in let g = rw b at f in let z : _≡_ {A = ℕ} 0 1 = cc in omega arith
+  bad-not e b = let f = sym (unrolled s true p) ∙ e in let g = rw b at f in never (cc)
 
   part-by : (l : Lead) → LedAs l (begunAt s true p) → (q : Part) (u : Scanned) → partOf s true p ≡ goodPart q u → WordedAs l q
   part-by Nothing h q u e = bad-not e h

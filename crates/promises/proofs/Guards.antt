@@ -15,7 +15,7 @@ use Rattle.promises.specs.Guarded.{Guarded, held, let-through, guardedRu
 use Rattle.promises.specs.Passing.{endsWell}
 use Rattle.promises.specs.declared.guarding.CheckedOutcome.the-variants.{Run}
 use Rattle.promises.specs.declared.guarding.CheckedRun.{CheckedRun}
-use Rattle.promises.proofs.Never.{never}
+use Rattle.whole.proofs.Never.{never}
 use Rattle.promises.proofs.Passing.{checked-runs-end-well}
 use Rattle.promises.proofs.guarding.run_checked.Kinds as kinds
 use Rattle.promises.proofs.guarding.run_checked.Reads as reads

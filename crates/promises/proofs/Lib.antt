@@ -1,4 +1,3 @@
-pub mod Never
 pub mod Records
 pub mod Limits
 pub mod Fourteen

@@ -8,7 +8,7 @@ use lib.Dec.{ltb, leb, eqb}
 use lib.IntN.{ℤ, pos, negsuc}
 use lib.ListN.{length}
 use lib.Signed.{ltZ}
-use Rattle.whole.specs.Errors.{numberOf}
+use Rattle.whole.specs.Errors.{errorNumber}
 use Rattle.whole.specs.Whole.{fit, applied}
 use Rattle.whole.specs.declared.arithmetic.Answer.{Answer}
 use Rattle.whole.specs.declared.arithmetic.Answer.the-variants as answer
@@ -25,7 +25,7 @@ use Rattle.grammar.specs.Trees.{Formula, Variable, Item, Statement}
 use Rattle.variables.specs.Strings.{Value, whole, text, Outcome, value, fault, make}
 use Rattle.variables.specs.Variables.{NumberVariable, wordOf, setNumber, hasNumber, numbersFull, stringsFull}
 use Rattle.operators.specs.Values.{valueOf}
-use Rattle.machine.specs.Machine.{Position, Record, loop, call, Machine, mostRecords, fresh, roomOf, withStep, noting, write, commaBlanks, isCall, isLoop, isLoopOf, Search, missing, found, sought, passed}
+use Rattle.machine.specs.Machine.{Position, Record, loop, call, Machine, mostRecords, fresh, roomOf, withStep, noting, write, commaBlanks, isCall, isLoop, isLoopOf, Search, missing, found, sought, passed, longestInputLine}
 use Rattle.statements.specs.Parts.{Rest, nothing, part, headOf, tailOf, placeOf}
 use Rattle.turns.specs.Steps.{
   Next,
@@ -209,7 +209,7 @@ input-made : (s : List ℕ) (m : Machine) (v : Variable) (go : Machine → Next)
 input-made [] m v go r k = tt
 input-made (b ∷ s) m v go r k =
     let t = takeLine (b ∷ s) in
-    by-choice NextMade (ltb 254 (length (t .bytes))) tt
+    by-choice NextMade (ltb longestInputLine (length (t .bytes))) tt
     (worked-made _ (make (t .bytes) _) _ r (λ c n q. filled-made (v .kind) (v .telling) (t .bytes) n go q k))
 
 statement-made : (program : List ℕ) (place : ℕ) (x : Statement) (m : Machine) (after : Position) → MachineMade m → NextMade (doStatement program place x m after)
@@ -279,7 +279,7 @@ HasRoom n = lacksRoom n ≡ false
 -- a sum that is too large is 6
 abbrev AnswerHasRoom : Answer → Type 0
 AnswerHasRoom (answer.Whole w) = Unit {0}
-AnswerHasRoom (answer.Fault e) = eqb (numberOf e) 7 ≡ false
+AnswerHasRoom (answer.Fault e) = eqb (errorNumber e) 7 ≡ false
 
 fit-has-room : (z : ℤ) → AnswerHasRoom (fit z)
 unfolding fit

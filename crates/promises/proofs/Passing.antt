@@ -31,6 +31,7 @@ use Rattle.promises.proofs.Checked.Lines.{
   enter-checked,
 }
 use Rattle.promises.proofs.Checked.Statements.{NextChecked, statement-checked}
+use Rattle.variables.specs.Strings.{longestSpace}
 
 abbrev EndsWell : Ran → Type 0
 EndsWell r = endsWell (r .ending) ≡ true
@@ -97,4 +98,4 @@ loaded-ends-well (loaded.Refused refusal p) text m budget r e = refl
 pub checked-runs-end-well : checkedRunsEndWell
 unfolding checkOf runOf
 checked-runs-end-well text input lent budget e =
-    by-choice EndsWell (ltb 16384 (lent .space)) refl (loaded-ends-well (loadOf text) text (fresh input lent) budget refl e)
+    by-choice EndsWell (ltb longestSpace (lent .space)) refl (loaded-ends-well (loadOf text) text (fresh input lent) budget refl e)

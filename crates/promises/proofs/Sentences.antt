@@ -7,6 +7,7 @@ use native.Mathlib.Omega.{arith}
 use borrow.Author.Tests.{le-leb, lt-leb, leb-true, eq-eqb}
 use lib.Dec.{leb, ltb}
 use lib.ListN.{length}
+use Rattle.whole.proofs.Never.{never}
 use Rattle.whole.specs.Digits.{isDigit}
 use Rattle.words.specs.Spellings.{meaning}
 use Rattle.words.specs.Classes.{capitalOf, isLetter, isHex, hexDigit, classOf}
@@ -108,7 +109,7 @@ letters-are-folded = record {
 -- ---- items
 
 full-unlike : {m : Machine} → _≡_ {A = Printed} full (printed m) → ⊥
-full-unlike e = let z : _≡_ {A = ℕ} 0 1 = cc in absurd (omega arith)
+full-unlike e = never (cc)
 
 -- the machine that has noted a room and printed some bytes
 abbrev after : Machine → Room → List ℕ → Machine

@@ -24,7 +24,7 @@ use Rattle.checker.specs.declared.checking.Soundness.{Soundness}
 use Rattle.checker.specs.declared.checking.Soundness.the-variants.{Sound, Fault}
 use Rattle.checker.specs.declared.checking.Verdict.the-variants.{Passed, Refused, Faulty}
 use Rattle.promises.specs.Faults.{HasFault, unreadable, tooDeep, wronglyTyped, namesMissing, Faultless, AllFaultless, FirstFault}
-use Rattle.promises.proofs.Never.{never}
+use Rattle.whole.proofs.Never.{never}
 
 -- ---- a line
 

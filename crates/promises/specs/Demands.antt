@@ -17,7 +17,7 @@ use Rattle.loader.specs.declared.loading.Loaded.the-variants as loaded
 use Rattle.loader.specs.declared.refusals.Refusal.{Refusal}
 use Rattle.loader.specs.declared.refusals.Refusal.the-variants.{SpaceTooLong}
 use Rattle.space.specs.declared.offsets.Offset.{Offset}
-use Rattle.variables.specs.Strings.{Room, fault, make}
+use Rattle.variables.specs.Strings.{Room, fault, make, longestSpace}
 use Rattle.variables.specs.Variables.{stringBytes}
 use Rattle.machine.specs.Machine.{Lent}
 use Rattle.checker.specs.declared.checking.Verdict.the-variants as verdict
@@ -75,8 +75,8 @@ stopsWithinBudget = (c : RunCall) → c .answer .steps ≤ budgetOf c
 
 -- a string space over 16,384 bytes is 106 at place 0, whatever the text; else loading decides, by 100 to 105 and a place
 pub data RefusedFor (text : List ℕ) (lent : Lent) : Refusal → Place → Type 0 where
-  longSpace : 16384 < lent .space → RefusedFor text lent SpaceTooLong (place 0)
-  notLoaded : {r : Refusal} {p : Place} → lent .space ≤ 16384 → loadOf text ≡ loaded.Refused r p → RefusedFor text lent r p
+  longSpace : longestSpace < lent .space → RefusedFor text lent SpaceTooLong (place 0)
+  notLoaded : {r : Refusal} {p : Place} → lent .space ≤ longestSpace → loadOf text ≡ loaded.Refused r p → RefusedFor text lent r p
 
 -- A run is refused with a number and a place if and only if its string space or its text is refused so. It does not say what a text is
 -- refused for: that is `loadOf`. Ruled out: a run that refuses a space of exactly 16,384 bytes; one that runs the lines before the first

@@ -4,7 +4,7 @@ use mathlib.Core.Bool.{Bool, true, false, not}
 use mathlib.Core.List.{List}
 use Prim.Native.Nat.{ℕ, zero, suc}
 use lib.Dec.{eqb}
-use Rattle.whole.specs.Errors.{numberOf}
+use Rattle.whole.specs.Errors.{errorNumber}
 use Rattle.whole.specs.declared.errors.Error.{Error}
 use Rattle.whole.specs.declared.errors.Error.the-variants.{
   NextWithoutFor,
@@ -100,7 +100,7 @@ lacksRoom (goesOn m p) = false
 lacksRoom (enters m lines) = false
 lacksRoom (ends m) = false
 lacksRoom (stops m) = false
-lacksRoom (fails e m) = eqb (numberOf e) 7
+lacksRoom (fails e m) = eqb (errorNumber e) 7
 
 -- NEXT stores its variable as an assignment does, and yet never ends in 7: wherever a run of any recipe comes to a NEXT, the FOR of
 -- the loop that it takes has made the variable. It says nothing of the other errors of a NEXT (1, 6, 13).

@@ -6,6 +6,7 @@ use Prim.Native.Nat.{ℕ, suc, _+_, _≤_, _<_}
 use lib.ListN.{length}
 use Rattle.whole.specs.declared.arithmetic.Operator.{Operator}
 use Rattle.whole.specs.declared.arithmetic.Operator.the-variants.{Add}
+use Rattle.whole.specs.Texts.{longestString}
 use Rattle.words.specs.declared.names.Kind.the-variants as kind
 use Rattle.words.specs.declared.names.Telling.{Telling}
 use Rattle.words.specs.declared.places.LineNumber.{LineNumber}
@@ -18,13 +19,12 @@ use Rattle.grammar.specs.Trees.{Formula, Arguments, Variable, Item, Statement, 
 use Rattle.grammar.specs.Functions.{wants}
 use Rattle.grammar.specs.Formulas.{countOf}
 use Rattle.grammar.specs.declared.wanting.Want.{Want}
-use Rattle.variables.specs.Strings.{Value, whole, text, Room, value, produced}
+use Rattle.variables.specs.Strings.{Value, whole, text, Room, value, produced, longestSpace}
 use Rattle.variables.specs.Variables.{Variables, bytesOf, stringBytes}
 use Rattle.strings.specs.Functions.{called}
 use Rattle.operators.specs.Values.{leftRight, taken, valueOf, valuesOf}
-use Rattle.machine.specs.Machine.{Machine, Lent, fresh, roomOf, withStep, noting, printed, write, commaBlanks}
-use Rattle.statements.specs.Parts.{placeOf}
-use Rattle.statements.specs.Parts.{headOf}
+use Rattle.machine.specs.Machine.{Machine, Lent, fresh, roomOf, withStep, noting, printed, write, commaBlanks, longestInputLine}
+use Rattle.statements.specs.Parts.{placeOf, headOf}
 use Rattle.turns.specs.Steps.{shownValue, takeLine, isWholeKind}
 use Rattle.runner.specs.Run.{lineNumberOf, Standing, at, entering, turn}
 
@@ -72,12 +72,12 @@ mutual
     onRight : {op : Operator} {f g : Formula} {room after : Room} {a : Value} {k : Ask} → valueOf f vars room ≡ value a after
         → leftRight op a ≡ true → Asks vars g after k → Asks vars (tree.twoSided op f g) room (behind (a ∷ []) k)
     joined : {f g : Formula} {room after last : Room} {a b : List ℕ} → valueOf f vars room ≡ value (text a) after
-        → valueOf g vars after ≡ value (text b) last → length (a ++ b) ≤ 255
+        → valueOf g vars after ≡ value (text b) last → length (a ++ b) ≤ longestString
         → Asks vars (tree.twoSided Add f g) room (record { unfinished = a ∷ b ∷ []; bytes = a ++ b })
     argued : {f : Function} {a : Arguments} {room : Room} {k : Ask} → AsksAmong vars a (wants f (countOf a)) room k
         → Asks vars (tree.call f a) room k
     resulted : {f : Function} {a : Arguments} {room after : Room} {vs : List Value} {b : List ℕ}
-        → valuesOf a (wants f (countOf a)) vars room ≡ taken vs after → Produces f vs b → length b ≤ 255
+        → valuesOf a (wants f (countOf a)) vars room ≡ taken vs after → Produces f vs b → length b ≤ longestString
         → Asks vars (tree.call f a) room (record { unfinished = textsIn vs; bytes = b })
 
   -- arguments are worked out one by one, and wait
@@ -121,7 +121,7 @@ pub data StatementAsks (lines : List Line) (place : ℕ) : Statement → Machine
       → StatementAsks lines place (tree.for v from to by) m k
   -- a line of over 254 bytes is 23, and asks for none
   input : {t : List ℕ} {v : Variable} {m n : Machine} {b : ℕ} {s : List ℕ} → write m t ≡ printed n → n .input ≡ b ∷ s
-      → length (takeLine (b ∷ s) .bytes) ≤ 254
+      → length (takeLine (b ∷ s) .bytes) ≤ longestInputLine
       → StatementAsks lines place (tree.lineInput t v) m (record { unfinished = []; bytes = takeLine (b ∷ s) .bytes })
 
 -- ---- what a run asks for
@@ -136,7 +136,7 @@ pub data Begins (program : List ℕ) : ℕ → Standing → List Line → ℕ �
 -- a run that is not refused begins a statement of the line, which asks for more than the space holds besides the bytes of all string
 -- variables and all unfinished strings
 pub record AsksTooMuch (program lines : List ℕ) (lent : Lent) (budget : ℕ) (l : LineNumber) : Type 0 where
-  pub small : lent .space ≤ 16384
+  pub small : lent .space ≤ longestSpace
   pub loads : loadOf program ≡ Fine
   pub from : List Line
   pub numbered : lineNumberOf from ≡ l

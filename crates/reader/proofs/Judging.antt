@@ -6,6 +6,7 @@ use Prim.Native.Nat.{ℕ, suc, max}
 use native.Mathlib.Omega.{arith}
 use borrow.Author.Tests.{lt-ltb, le-ltb, ltb-true, ltb-false}
 use lib.Dec.{ltb}
+use Rattle.whole.proofs.Never.{never}
 use Rattle.words.specs.declared.places.Place.{Place}
 use Rattle.words.specs.declared.symbols.Scanned.{Scanned}
 use Rattle.words.specs.declared.symbols.Word.the-variants.{Else}
@@ -13,7 +14,7 @@ use Rattle.words.proofs.Choices.{by-test}
 use Rattle.grammar.specs.Tests.{isKeyword, endsLine}
 use Rattle.grammar.specs.Trees.{Part}
 use Rattle.grammar.proofs.Endings.{else-goes-on}
-use Rattle.expressions.specs.Types.{isWhole, sortOf, depthOf}
+use Rattle.expressions.specs.Types.{isWhole, sortOf, depthOf, deepestNesting}
 use Rattle.expressions.specs.bridge.Answers.{cappedDepth}
 use Rattle.expressions.proofs.Answering.{max-assoc}
 use Rattle.statements.specs.Parts.{formulasOf, deepest, rightlyTyped, headOf, heads, partsOf, statementsOf, deepestIn, allTyped}
@@ -50,7 +51,7 @@ starts-by s (goodPart p t) =
     by-test (endsLine (t .token))
     (λ f.
     let z : max 0 (deepestIn (statementsOf p)) ≡ deepestIn (statementsOf p) = omega arith in
-    rw (e, f, append-nil, z) (by-test (ltb 8 (deepestIn (statementsOf p))) (λ g. rw g) (λ g. rw g)))
+    rw (e, f, append-nil, z) (by-test (ltb deepestNesting (deepestIn (statementsOf p))) (λ g. rw g) (λ g. rw g)))
     (λ f. rw (e, f))
 
 -- a line begins with nothing tallied
@@ -67,9 +68,9 @@ verdict-ends t = let z : max (t .deepest) 0 ≡ t .deepest = omega arith in rw (
 capped-verdict : (a b : ℕ) (y : Bool) → cappedDepth a ≡ cappedDepth b
     → verdictOf (record { deepest = a; typed = y }) ≡ verdictOf (record { deepest = b; typed = y })
 capped-verdict a b y e =
-    by-test (ltb 8 a)
-    (λ t. let h = ltb-true 8 a t in rw (t, lt-ltb 8 b (omega arith)))
-    (λ t. let h = ltb-false 8 a t in rw (t, le-ltb 8 b (omega arith)))
+    by-test (ltb deepestNesting a)
+    (λ t. let h = ltb-true deepestNesting a t in rw (t, lt-ltb deepestNesting b (omega arith)))
+    (λ t. let h = ltb-false deepestNesting a t in rw (t, le-ltb deepestNesting b (omega arith)))
 
 capped-max : (a b c : ℕ) → cappedDepth a ≡ cappedDepth b → cappedDepth (max a c) ≡ cappedDepth (max b c)
 capped-max a b c e = omega arith
@@ -114,10 +115,10 @@ pub held : (s : List ℕ) {p : Part} → judgement s ≡ holds p → readLine s 
 held s e = by-reading (readLine s) e
   where
     by-reading : (r : LineReading) {p : Part} → judgedRead r ≡ holds p → r ≡ reads p
-    by-reading doesNotRead e = let z : _≡_ {A = ℕ} 0 1 = cc in absurd (omega arith)
+    by-reading doesNotRead e = never (cc)
     by-reading (reads q) e =
-        by-test (ltb 8 (deepestIn (statementsOf q)))
-        (λ f. let g = rw f at e in let z : _≡_ {A = ℕ} 0 1 = cc in absurd (omega arith))
+        by-test (ltb deepestNesting (deepestIn (statementsOf q)))
+        (λ f. let g = rw f at e in never (cc))
         (λ f. let g = rw f at e in cc)
 
 -- ---- the ELSE of an IF

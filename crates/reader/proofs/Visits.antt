@@ -4,6 +4,7 @@ use mathlib.Core.Bool.{true, false, false≢true}
 use mathlib.Core.List.{List, [], _∷_, _++_, append-nil}
 use Prim.Native.Nat.{ℕ, zero, suc, _+_}
 use native.Mathlib.Omega.{arith}
+use Rattle.whole.proofs.Never.{never}
 use Rattle.words.specs.declared.symbols.Scanned.{Scanned}
 use Rattle.words.specs.declared.symbols.Word.the-variants.{Else}
 use Rattle.words.proofs.Choices.{by-test}
@@ -56,21 +57,21 @@ record Behind (own : Part) (xs : List Part) (v : Visited) : Type 0 where
   all : xs ≡ own ∷ left
 
 behind : (own : Part) (xs : List Part) (v : Visited) → ahead (own ∷ []) v ≡ visited xs over → Behind own xs v
-behind own xs stuck e = let z : _≡_ {A = ℕ} 0 1 = cc in absurd (omega arith)
+behind own xs stuck e = never (cc)
 behind own xs (visited ys f) e = record { left = ys; is = cc; all = cc }
 
 -- where it reads on, a line number may begin the statement or not
 true-walk : (s : List ℕ) (k q : ℕ) {xs : List Part} (r : PartReading) → partOf s false q ≡ r → resume s k r ≡ visited xs over → Onto s q xs
-true-walk s k q badPart e h = let z : _≡_ {A = ℕ} 0 1 = cc in absurd (omega arith)
+true-walk s k q badPart e h = never (cc)
 true-walk s k q (goodPart p t) e h = record { waiting = k; visits = ap (resume s k) (true-part s q e) ∙ h }
 
 starts-by : (s : List ℕ) (k : ℕ) (f : Follow) {xs : List Part} → walkOn s (onwardOf k f) ≡ visited xs over → StartsAs s (startOf f) xs
 starts-by s k (follow.Statement q) e = true-walk s k (q .0) (partOf s false (q .0)) refl e
 starts-by s k (follow.Part q) e = record { waiting = suc k; visits = e }
-starts-by s zero (follow.Else q) e = let z : _≡_ {A = ℕ} 0 1 = cc in absurd (omega arith)
+starts-by s zero (follow.Else q) e = never (cc)
 starts-by s (suc k) (follow.Else q) e = record { waiting = k; visits = e }
 starts-by s k follow.End e = cc
-starts-by s k follow.Nothing e = let z : _≡_ {A = ℕ} 0 1 = cc in absurd (omega arith)
+starts-by s k follow.Nothing e = never (cc)
 
 -- the part that the statement at a place begins, and those after it
 pub record Visit (s : List ℕ) (p : ℕ) (next : Start) (xs : List Part) : Type 0 where
@@ -86,11 +87,11 @@ pub record Visit (s : List ℕ) (p : ℕ) (next : Start) (xs : List Part) : Type
 module _ (s : List ℕ) (p k : ℕ) {xs : List Part} where
   read-as : (own : Part) (left : List Part) (r : PartReading) → partOf s true p ≡ r → resume s k r ≡ visited xs over → xs ≡ own ∷ left
       → (end : Scanned) × (partOf s true p ≡ goodPart own end)
-  read-as own left badPart e h i = let z : _≡_ {A = ℕ} 0 1 = cc in absurd (omega arith)
+  read-as own left badPart e h i = never (cc)
   read-as own left (goodPart q t) e h i = (t, e ∙ ap (λ x. goodPart x t) (same (restAt s k t) h))
     where
       same : (v : Visited) → ahead (partsOf q) v ≡ visited xs over → q ≡ own
-      same stuck h = let z : _≡_ {A = ℕ} 0 1 = cc in absurd (omega arith)
+      same stuck h = never (cc)
       same (visited ys f) h = let g : xs ≡ partsOf q ++ ys = cc in let z = rw (first q .is) at g in cc
 
   visit-by : walkFrom s true k p ≡ visited xs over → Visit s p (startOf (followOf (begunAnswer (begunAt s true p)))) xs

@@ -8,6 +8,7 @@ use Rattle.words.specs.declared.symbols.Scanned.{Scanned}
 use Rattle.words.specs.declared.symbols.Word.the-variants.{Else}
 use Rattle.grammar.specs.Tests.{isKeyword}
 use Rattle.grammar.specs.Trees.{Part}
+use Rattle.expressions.specs.Types.{deepestNesting}
 use Rattle.statements.specs.Parts.{statementsOf, deepestIn, allTyped}
 use Rattle.statements.specs.Statements.{LineReading, doesNotRead, reads, readLine, PartReading, badPart, goodPart, partOf}
 use Rattle.reader.specs.declared.branches.Start.{Start}
@@ -27,7 +28,7 @@ pub data Judgement : Type 0 where
 -- nesting is at most 8 deep
 abbrev pub judgedRead : LineReading → Judgement
 judgedRead doesNotRead = unreadable
-judgedRead (reads p) = cond (ltb 8 (deepestIn (statementsOf p))) tooDeep (holds p)
+judgedRead (reads p) = cond (ltb deepestNesting (deepestIn (statementsOf p))) tooDeep (holds p)
 
 abbrev pub judgement : List ℕ → Judgement
 judgement s = judgedRead (readLine s)

@@ -16,6 +16,7 @@ use console::take_file;
 use console::take_front;
 use console::write;
 use console::write_text;
+use machine::Machine;
 
 // Places among the arguments, of which the program's own name is the first.
 const RECIPE: usize = 1;
@@ -28,8 +29,8 @@ const ROOM: usize = 4;
 
 const BUDGET: usize = 5;
 
-// What is lent where an argument is left out, and the most that can be asked for. Over 16384 bytes of space the runner refuses (106).
-const USUAL_SPACE: u32 = 16384;
+// What is lent where an argument is left out, and the most that can be asked for. Over the usual space the runner refuses (106).
+const USUAL_SPACE: u32 = Machine::LONGEST_SPACE as u32;
 
 const MOST_SPACE: u32 = 32768;
 

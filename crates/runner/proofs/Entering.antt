@@ -6,6 +6,7 @@ use Prim.Native.Nat.{ℕ, _-_}
 use native.Mathlib.Omega.{arith}
 use lib.ListN.{take, drop}
 use Rattle.whole.specs.declared.errors.Error.the-variants.{Syntax, FormulaTooComplex}
+use Rattle.whole.proofs.Never.{never}
 use Rattle.words.specs.Places.{place}
 use Rattle.words.specs.declared.places.Place.{Place}
 use Rattle.words.specs.declared.symbols.Scanned.{Scanned}
@@ -36,21 +37,21 @@ use Rattle.runner.specs.declared.running.Standing.{Standing}
 
 judged-bad : (g : Judgement) → judgedAs g ≡ Unreadable → judgedLine g ≡ faulty Syntax
 judged-bad unreadable e = refl
-judged-bad tooDeep e = let z : _≡_ {A = ℕ} 0 1 = cc in absurd (omega arith)
-judged-bad (holds p) e = let z : _≡_ {A = ℕ} 0 1 = cc in absurd (omega arith)
+judged-bad tooDeep e = never (cc)
+judged-bad (holds p) e = never (cc)
 
 judged-deep : (g : Judgement) → judgedAs g ≡ TooDeep → judgedLine g ≡ faulty FormulaTooComplex
-judged-deep unreadable e = let z : _≡_ {A = ℕ} 0 1 = cc in absurd (omega arith)
+judged-deep unreadable e = never (cc)
 judged-deep tooDeep e = refl
-judged-deep (holds p) e = let z : _≡_ {A = ℕ} 0 1 = cc in absurd (omega arith)
+judged-deep (holds p) e = never (cc)
 
 record Opens (g : Judgement) : Type 0 where
   part : Part
   is : g ≡ holds part
 
 judged-reads : (g : Judgement) {typed : Bool} → judgedAs g ≡ Reads typed → Opens g
-judged-reads unreadable e = let z : _≡_ {A = ℕ} 0 1 = cc in absurd (omega arith)
-judged-reads tooDeep e = let z : _≡_ {A = ℕ} 0 1 = cc in absurd (omega arith)
+judged-reads unreadable e = never (cc)
+judged-reads tooDeep e = never (cc)
 judged-reads (holds p) e = record { part = p; is = refl }
 
 -- ---- a line entered
@@ -127,7 +128,7 @@ module _ {text : List ℕ} {p : ℕ} (w : Reached text p) where
 module _ {text : List ℕ} (loads : loadOf text ≡ Fine) {q : Position} (w : Positioned text q) where
   -- the line is there
   pub onward-some : {P : Type 0} → lineAt text (q .line) ≡ None → P
-  onward-some e = let t = line-told (w .begins) loads in let z : _≡_ {A = ℕ} 0 1 = cc (t .is) in absurd (omega arith)
+  onward-some e = let t = line-told (w .begins) loads in never (cc (t .is))
 
   module _ {span : LineSpan} (e : lineAt text (q .line) ≡ Is span) where
     told : Told text (q .line .0) span

@@ -19,6 +19,7 @@ use Rattle.variables.specs.bridge.Memory.{stringsHeld}
 use Rattle.variables.specs.declared.tables.Tables.{Tables}
 use Rattle.variables.proofs.Holding.{cleaned, strings-live}
 use Rattle.variables.proofs.Told.{numbers-told, strings-told}
+use Rattle.variables.specs.Strings.{longestSpace}
 use Rattle.machine.specs.Machine as spec
 use Rattle.machine.specs.Machine.{lentBy}
 use Rattle.machine.specs.bridge.Holding.{variablesOf, Settled, Sound, Same}
@@ -85,19 +86,19 @@ module _ (text input space room : List ℕ) (budget : ℕ) (tables : Tables) whe
   left e a = rw e (a, (refl, refl))
 
   -- the space is too long,
-  pub run-long : 16384 < length space → {r : Ran} → r ≡ refusedAs SpaceTooLong (place 0) tables → Met whole tables space room r space room
+  pub run-long : longestSpace < length space → {r : Ran} → r ≡ refusedAs SpaceTooLong (place 0) tables → Met whole tables space room r space room
   unfolding runOf
-  run-long h a = left (rw (lt-ltb 16384 (length space) h)) a
+  run-long h a = left (rw (lt-ltb longestSpace (length space) h)) a
 
-  module _ (h : length space ≤ 16384) where
+  module _ (h : length space ≤ longestSpace) where
     -- the text is refused,
     pub run-refused : {f : Refusal} {p : Place} → loadOf text ≡ loaded.Refused f p → {r : Ran} → r ≡ refusedAs f p tables
         → Met whole tables space room r space room
     unfolding runOf
-    run-refused e a = left (rw (le-ltb 16384 (length space) h, e)) a
+    run-refused e a = left (rw (le-ltb longestSpace (length space) h, e)) a
 
     -- or it loads
     pub run-fine : loadOf text ≡ loaded.Fine → {r : Ran} {space′ room′ : List ℕ} → RanAs (runIn text input (lentBy space room) budget) space room r space′ room′
         → Met whole tables space room r space′ room′
     unfolding runOf
-    run-fine e a = rw (le-ltb 16384 (length space) h, e) (a .answers tables, (a .spaced, a .roomy))
+    run-fine e a = rw (le-ltb longestSpace (length space) h, e) (a .answers tables, (a .spaced, a .roomy))

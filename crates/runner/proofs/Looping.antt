@@ -14,6 +14,7 @@ use Rattle.space.specs.Moves.{cleared}
 use Rattle.variables.proofs.Holding.{empty-numbers, empty-strings, empty-numbers-held, empty-strings-held, empty-sum}
 use Rattle.machine.specs.Machine.{lentBy, mostRecords}
 use Rattle.statements.specs.Parts.{placeOf, headOf, tailOf}
+use Rattle.variables.specs.Strings.{longestSpace}
 use Rattle.machine.specs.Machine as spec
 use Rattle.machine.specs.bridge.Holding.{linesAt, blankRecord, freshMachine, Sound, Same}
 use Rattle.machine.specs.declared.state.Machine.{Machine}
@@ -71,7 +72,7 @@ pub record Kept (text input space₀ room₀ : List ℕ) (budget : ℕ) (space r
   pub comes : running (budget - m .steps) text place ≡ runIn text input (lentBy space₀ room₀) budget
 
 -- it holds at the start
-module _ (text input space room : List ℕ) (small : length space ≤ 16384) where
+module _ (text input space room : List ℕ) (small : length space ≤ longestSpace) where
   fresh-sound : Sound freshMachine input space room
   fresh-sound =
       record {

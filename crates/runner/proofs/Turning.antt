@@ -9,12 +9,15 @@ use Rattle.words.specs.declared.places.Place.{Place}
 use Rattle.words.specs.declared.symbols.Scanned.{Scanned}
 use Rattle.loader.specs.declared.lines.LineSpan.{LineSpan}
 use Rattle.grammar.specs.Trees.{Part}
-use Rattle.statements.specs.Statements.{goodPart, partOf}
+use Rattle.statements.specs.Statements.{leadOf, begunBy, goodPart, partOf}
 use Rattle.statements.specs.Parts.{headOf, tailOf, placeOf}
 use Rattle.machine.specs.Machine as spec
 use Rattle.machine.specs.bridge.Holding.{linesAt, Parted, Sound, Same}
 use Rattle.machine.specs.bridge.Wanted.{foundIn, entryAt}
-use Rattle.machine.specs.bridge.Seeking.{soughtBy}
+use Rattle.scanner.specs.Tokens.{tokenAt}
+use Rattle.statements.specs.declared.leading.Lead.{Lead}
+use Rattle.machine.specs.bridge.Seeking.{soughtBy, Seeks}
+use Rattle.machine.proofs.Seeking.{part-seeks}
 use Rattle.machine.specs.declared.state.Machine.{Machine}
 use Rattle.machine.specs.declared.positions.Next.{Next}
 use Rattle.machine.specs.declared.positions.Next.the-variants as next
@@ -86,28 +89,30 @@ module _ {text : List ℕ} {span : LineSpan} {at : Place} (w : Stood text span a
 
 module _ {text : List ℕ} {span : LineSpan} {at : Place} {m : Machine} {rs : List Record} {input space room : List ℕ} (pre : Turnable text span at m rs input space room) where
   -- what the statement asks of the caller
-  pub turn-begins : (k : Sought) {slot : Found} → slot ≡ foundIn k rs (m .depth)
+  pub turn-begins : (k : Sought) {slot : Found} {l : Lead} → slot ≡ foundIn k rs (m .depth)
+      → l ≡ leadOf (lineIn text span) true (tokenAt (lineIn text span) at)
       → Standing text (lineIn text span) (span .place)
-      × (Parted (lineIn text span) (at .0) × (Sound (stepped m) input space room × FoundBelow (m .depth) slot))
-  turn-begins k e =
-      (stood-line (pre .stood), (stood-parted (pre .stood), (sound-stepped (pre .sound), rw e (found-low k rs (m .depth)))))
+      × (Parted (lineIn text span) (at .0)
+      × (Sound (stepped m) input space room × (FoundBelow (m .depth) slot × (l ≡ leadOf (lineIn text span) true (tokenAt (lineIn text span) at)))))
+  turn-begins k e led =
+      (stood-line (pre .stood), (stood-parted (pre .stood), (sound-stepped (pre .sound), (rw e (found-low k rs (m .depth)), led))))
 
   -- and what it does, with the record that it asked for
-  pub turn-made : {k : Sought} {slot : Found} {entry : Record} {r : Turned} {space′ room′ : List ℕ}
-      → ((p : Part) (end : Scanned) → partOf (lineIn text span) true (at .0) ≡ goodPart p end → k ≡ soughtBy (headOf p))
+  pub turn-made : {k : Sought} {slot : Found} {entry : Record} {r : Turned} {space′ room′ : List ℕ} {l : Lead}
+      → l ≡ leadOf (lineIn text span) true (tokenAt (lineIn text span) at) → Seeks k (begunBy (lineIn text span) l)
       → slot ≡ foundIn k rs (m .depth)
       → entry ≡ entryAt slot rs
       → ((p : Part) (end : Scanned) → partOf (lineIn text span) true (at .0) ≡ goodPart p end
       → Turns text (stepped m) input space room (Told (soughtBy (headOf p)) (m .depth) slot entry)
       (λ n. doStatement text (placeOf p) (headOf p) n (record { lines = linesAt text (span .place .0); rest = tailOf p })) r space′ room′)
       → TurnAs text span at m rs input space room r space′ room′
-  turn-made seeks finds entry does =
+  turn-made led seeks finds entry does =
       record {
         leaves = does _ _ (stood-reads (pre .stood)) .leaves;
         comes = λ w n s.
             let p = stood-reads w in
             does _ _ p .comes rs (pre .slots)
-            (record { at = finds ∙ ap (λ x. foundIn x rs (m .depth)) (seeks _ _ p); is = entry })
+            (record { at = finds ∙ ap (λ x. foundIn x rs (m .depth)) (part-seeks (lineIn text span) (at .0) led seeks _ _ p); is = entry })
             (spec.withStep n) (same-stepped s);
       }
 

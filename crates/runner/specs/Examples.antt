@@ -6,7 +6,7 @@ use Prim.Native.String.{String}
 use Rattle.whole.specs.Bytes.{bytes, leading}
 use Rattle.whole.specs.Digits.{isDigit, valueFrom, signedValue}
 use Rattle.whole.specs.Whole.{num, fit}
-use Rattle.whole.specs.Texts.{places, trimmed, digitByte, numeral, shown}
+use Rattle.whole.specs.Texts.{places, trimmed, digitByte, numeral, signedNumeral}
 use Rattle.whole.specs.declared.errors.Error.the-variants.{Overflow, OutOfStringSpace}
 use Rattle.words.specs.Spellings.{sameBytes, meaning}
 use Rattle.words.specs.Classes.{capitalOf, isLetter, isHex, hexDigit, signs, pairs, classOf}
@@ -77,7 +77,7 @@ examples =
     ∷ []
 
 pub examples-hold : map (λ (e : Example). summed (runOf (bytes (e .recipe)) [] (lending (e .space)) 1000)) examples ≡ map (λ (e : Example). e .run) examples
-unfolding examples bytes leading isDigit valueFrom sameBytes meaning capitalOf isLetter isHex hexDigit signs pairs classOf reserved tellingOf markOf wordToken numberToken hexFrom hexToken textToken signToken tokenAt linesFrom numberOf isPlain numbered judged loadLines loadOf formFor anyFor countOf formulaAt climbAt operandAt argumentsAt formulaOf depthOf deepestOf itemsAt printAt forAt inputAt begunAt partAt readLine deepest partsOf heads deepestIn signedValue num fit places trimmed digitByte numeral shown fromNumber make letGo letAllGo produced wordOf bytesOf stringBytes argument startsWith found placeOf isBefore wantAt valueOf valuesOf hasNumber hasString setNumber setString columnAfter write printItems sought passed enter running runOf joinedStrings
+unfolding examples bytes leading isDigit valueFrom sameBytes meaning capitalOf isLetter isHex hexDigit signs pairs classOf reserved tellingOf markOf wordToken numberToken hexFrom hexToken textToken signToken tokenAt linesFrom numberOf isPlain numbered judged loadLines loadOf formFor anyFor countOf formulaAt climbAt operandAt argumentsAt formulaOf depthOf deepestOf itemsAt printAt forAt inputAt begunAt partAt readLine deepest partsOf heads deepestIn signedValue num fit places trimmed digitByte numeral signedNumeral fromNumber make letGo letAllGo produced wordOf bytesOf stringBytes argument startsWith found placeOf isBefore wantAt valueOf valuesOf hasNumber hasString setNumber setString columnAfter write printItems sought passed enter running runOf joinedStrings
 examples-hold = refl
 
 -- eight functions in one another, a comparison and a `+` waiting at each: 28 unfinished strings, the most that there can be
@@ -85,5 +85,5 @@ pub nested : String
 nested = "10 A$=\"B\":B$=\"A\"\n20 N=A$<B$+LEFT$(A$,A$<B$+LEFT$(A$,A$<B$+LEFT$(A$,A$<B$+LEFT$(A$,A$<B$+LEFT$(A$,A$<B$+LEFT$(A$,A$<B$+LEFT$(A$,A$<B$+LEFT$(A$,A$<B$+B$))))))))"
 
 pub nested-highest : (runOf (bytes nested) [] (lending 1000) 1000) .machine .highest ≡ 28
-unfolding nested bytes leading isDigit valueFrom sameBytes meaning capitalOf isLetter isHex hexDigit signs pairs classOf reserved tellingOf markOf wordToken numberToken hexFrom hexToken textToken signToken tokenAt linesFrom numberOf isPlain numbered judged loadLines loadOf formFor anyFor countOf formulaAt climbAt operandAt argumentsAt formulaOf depthOf deepestOf itemsAt printAt forAt inputAt begunAt partAt readLine deepest partsOf heads deepestIn signedValue num fit places trimmed digitByte numeral shown fromNumber make letGo letAllGo produced wordOf bytesOf stringBytes argument startsWith found placeOf isBefore wantAt valueOf valuesOf hasNumber hasString setNumber setString columnAfter write printItems sought passed enter running runOf joinedStrings
+unfolding nested bytes leading isDigit valueFrom sameBytes meaning capitalOf isLetter isHex hexDigit signs pairs classOf reserved tellingOf markOf wordToken numberToken hexFrom hexToken textToken signToken tokenAt linesFrom numberOf isPlain numbered judged loadLines loadOf formFor anyFor countOf formulaAt climbAt operandAt argumentsAt formulaOf depthOf deepestOf itemsAt printAt forAt inputAt begunAt partAt readLine deepest partsOf heads deepestIn signedValue num fit places trimmed digitByte numeral signedNumeral fromNumber make letGo letAllGo produced wordOf bytesOf stringBytes argument startsWith found placeOf isBefore wantAt valueOf valuesOf hasNumber hasString setNumber setString columnAfter write printItems sought passed enter running runOf joinedStrings
 nested-highest = refl

@@ -5,7 +5,7 @@ use Prim.Native.Nat.{ℕ, zero, suc, _+_, _-_}
 use lib.Dec.{ltb}
 use lib.ListN.{length, drop, replicate}
 use Rattle.whole.specs.Digits.{leadingValue}
-use Rattle.whole.specs.Errors.{numberOf}
+use Rattle.whole.specs.Errors.{errorNumber}
 use Rattle.whole.specs.declared.errors.Error.{Error}
 use Rattle.whole.specs.declared.errors.Error.the-variants.{Syntax, FormulaTooComplex}
 use Rattle.loader.specs.Lines.{Line, linesOf, afterNumber, nextLine}
@@ -22,6 +22,7 @@ use Rattle.statements.specs.Parts.{Rest, nothing, part, headOf, tailOf, placeOf
 use Rattle.variables.specs.Variables.{Variables, stringBytes, joinedStrings}
 use Rattle.variables.specs.Tables.{numbersTable, stringsTable}
 use Rattle.variables.specs.declared.tables.Tables.{Tables}
+use Rattle.variables.specs.Strings.{longestSpace}
 use Rattle.runner.specs.declared.running.Ran as code
 use Rattle.runner.specs.declared.running.Outcome.{Outcome}
 use Rattle.runner.specs.declared.running.Outcome.the-variants.{Ended, Stopped, Out, Failed, Refused}
@@ -105,7 +106,7 @@ ifLoaded (loaded.Refused refusal p) m go = endsWith (Refused refusal p) m
 -- text is loaded
 unfoldable pub runOf : List ℕ → List ℕ → Lent → ℕ → Ran
 runOf text input lent budget =
-    cond (ltb 16384 (lent .space)) (endsWith (Refused SpaceTooLong (place 0)) (fresh input lent))
+    cond (ltb longestSpace (lent .space)) (endsWith (Refused SpaceTooLong (place 0)) (fresh input lent))
     (ifLoaded (loadOf text) (fresh input lent) (λ _. running budget text (entering (fresh input lent) (linesOf text))))
 
 -- ---- what is answered: outcome word, number, line, place; what does not apply is 0
@@ -114,7 +115,7 @@ abbrev pub numberIn : Outcome → ℕ
 numberIn Ended = 0
 numberIn (Stopped l) = 0
 numberIn (Out l) = 0
-numberIn (Failed e l) = numberOf e
+numberIn (Failed e l) = errorNumber e
 numberIn (Refused r p) = refusalNumber r
 
 abbrev pub lineIn : Outcome → ℕ

@@ -12,6 +12,7 @@ ghost use Rattle.machine.specs.bridge.Wanted.{entryAt};
 ghost use Rattle.runner.specs.Run as run;
 ghost use Rattle.runner.specs.Run.{runOf, answerOf, spaceAfter, roomAfter};
 ghost use Rattle.runner.specs.bridge.Standings.{Reached, StandsAs, GoesTo, nextOf, Turnable, TurnAs, runIn, endedAs, RanAs, refusedAs};
+ghost use Rattle.variables.specs.Strings.{longestSpace};
 use loader::LineFound;
 use loader::LineSpan;
 use loader::Loaded;
@@ -188,7 +189,7 @@ fn ended(outcome: Outcome, machine: Machine, space: &mut [u8]) -> Ran
 
 // A run of a text that loads.
 fn run_loaded(text: &[u8], input: &[u8], space: &mut [u8], room: &mut [u8], budget: u32) -> Ran
-    requires { ⌜ (loadOf (now text) ≡ Fine) × (length (now space) ≤ 16384) ⌝ }
+    requires { ⌜ (loadOf (now text) ≡ Fine) × (length (now space) ≤ longestSpace) ⌝ }
     ensures { λ r. ⌜
         RanAs (runIn (now (text .entry)) (now (input .entry)) (lentBy (now (space .entry)) (now (room .entry))) budget)
         (now (space .entry)) (now (room .entry)) r (now (space .exit)) (now (room .exit))

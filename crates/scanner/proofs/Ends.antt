@@ -13,6 +13,7 @@ use Rattle.whole.specs.Bytes.{is, bytes, leading}
 use Rattle.whole.specs.Digits.{isDigit, leadingValue, blanksOf}
 use Rattle.whole.proofs.Numbers.{less}
 use Rattle.whole.proofs.Reading.{drop-next, leading-inside}
+use Rattle.whole.proofs.Never.{never}
 use Rattle.words.specs.Spellings.{sameBytes, meaning}
 use Rattle.words.specs.Classes.{capitalOf, isLetter, isHex, signs, signOf, pairs, pairOf, ofSign, classOf}
 use Rattle.words.specs.Vocabulary.{reserved, wordOf}
@@ -44,6 +45,7 @@ use Rattle.words.specs.declared.symbols.Token.the-variants.{
 use Rattle.words.proofs.Choices.{by-test}
 use Rattle.words.proofs.Tables.{every, meaning-passes}
 use Rattle.words.proofs.Runs.{in-line, run-some}
+use Rattle.words.specs.Places.{largestLineNumber}
 use Rattle.scanner.specs.Runs.{passes}
 use Rattle.scanner.specs.Tokens.{
   markOf,
@@ -201,7 +203,7 @@ pair-none a = simp and-false
 paired-stays : (p one : SignFound) (i end : ℕ) → bareSign p ≡ true → bareSign one ≡ true → i + 1 ≤ end
     → ((p ≡ None → ⊥) → i + 2 ≤ end) → Stays end i (paired p one i)
 paired-stays (Is t) one i end b c h k =
-    let l = k (λ z. let y : _≡_ {A = ℕ} 0 1 = cc in omega arith) in
+    let l = k (λ z. never (cc)) in
     (omega arith, omega arith, kept-bare end i (i + 2) t b (omega arith))
 paired-stays None (Is t) i end b c h k = (omega arith, omega arith, kept-bare end i (i + 1) t c (omega arith))
 paired-stays None None i end b c h k = omega arith
@@ -238,7 +240,7 @@ module _ (b : ℕ) (s : List ℕ) (i end : ℕ) (all : i + length (b ∷ s) ≡ 
       let h = run-some isDigit b s e in
       let k = leading-inside isDigit (b ∷ s) in
       by-test (leb v 32767) (λ p. rw p (omega arith)) λ p.
-      rw p (by-test (leb v 65529) (λ q. rw q (omega arith)) (λ q. rw q (omega arith)))
+      rw p (by-test (leb v largestLineNumber) (λ q. rw q (omega arith)) (λ q. rw q (omega arith)))
 
   hex-stays : Stays end i (hexToken i (b ∷ s))
   unfolding hexToken
@@ -304,8 +306,8 @@ token-ends line at =
       onward = λ l. l;
       past = λ r. absurd (false≢true r);
       last = λ e. refl;
-      name = λ n e. let z : _≡_ {A = ℕ} 0 1 = cc in absurd (omega arith);
-      text = λ q e. let z : _≡_ {A = ℕ} 0 1 = cc in absurd (omega arith);
+      name = λ n e. never (cc);
+      text = λ q e. never (cc);
     }))
     (less i (length line))
 

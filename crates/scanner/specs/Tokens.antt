@@ -7,7 +7,7 @@ use lib.ListN.{length, getD, drop}
 use Rattle.whole.specs.Bytes.{is, leading}
 use Rattle.whole.specs.Digits.{leadingDigits, leadingValue, blanksOf}
 use Rattle.words.specs.Classes.{capitalOf, isHex, hexDigit, signOf, pairOf, classOf}
-use Rattle.words.specs.Places.{place, lineNumber}
+use Rattle.words.specs.Places.{place, lineNumber, largestLineNumber}
 use Rattle.words.specs.Vocabulary.{wordOf}
 use Rattle.words.specs.declared.places.Place.{Place}
 use Rattle.words.specs.declared.classes.ByteClass.{ByteClass}
@@ -95,7 +95,7 @@ wordToken end i s =
 -- a number is up to 32767, a line number up to 65529; all its digits belong to it
 abbrev pub sized : ℕ → ℕ → ℕ → Scanned
 sized v i next =
-    cond (leb v 32767) (Number v upto next) (cond (leb v 65529) (LineOnly (lineNumber v) upto next) (unreadable i))
+    cond (leb v 32767) (Number v upto next) (cond (leb v largestLineNumber) (LineOnly (lineNumber v) upto next) (unreadable i))
 
 unfoldable pub numberToken : ℕ → List ℕ → Scanned
 numberToken i s = sized (leadingValue s) i (i + length (leadingDigits s))

@@ -7,7 +7,7 @@ ghost use Rattle.space.specs.Moves.{overlaid, copied, moved, cleared};
 use crate::offsets::Offset;
 
 // Whether so many bytes from an offset on lie in a slice of a length.
-fn fits(len: usize, at: usize, count: usize) -> bool
+pub fn fits(len: usize, at: usize, count: usize) -> bool
     ensures { λ r. ⌜ r ≡ leb (at + count) len ⌝ }
 {
     if len < count {

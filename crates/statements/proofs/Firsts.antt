@@ -4,6 +4,7 @@ use mathlib.Core.Bool.{true, false}
 use mathlib.Core.List.{List}
 use Prim.Native.Nat.{ℕ, _+_}
 use native.Mathlib.Omega.{arith}
+use Rattle.whole.proofs.Never.{never}
 use Rattle.words.specs.Places.{place}
 use Rattle.words.specs.declared.symbols.Scanned.{Scanned}
 use Rattle.words.specs.declared.symbols.Token.{Token}
@@ -29,7 +30,7 @@ begun-true s (Symbol sign) t h = refl
 begun-true s Unreadable t h = refl
 
 not-good : {P : Type 0} {q : Part} {u : Scanned} → badPart ≡ goodPart q u → P
-not-good e = let z : _≡_ {A = ℕ} 0 1 = cc in absurd (omega arith)
+not-good e = never (cc)
 
 pub true-part : (s : List ℕ) (p : ℕ) {q : Part} {u : Scanned} → partOf s false p ≡ goodPart q u → partOf s true p ≡ goodPart q u
 unfolding begunAt

@@ -5,6 +5,7 @@ use mathlib.Core.List.{List, []}
 use Prim.Native.Nat.{ℕ, max}
 use native.Mathlib.Nat.{max-zero}
 use native.Mathlib.Omega.{arith}
+use Rattle.whole.proofs.Never.{never}
 use Rattle.words.specs.declared.symbols.Scanned.{Scanned}
 use Rattle.words.specs.declared.symbols.Sign.the-variants.{Semicolon}
 use Rattle.grammar.specs.Tests.{isSymbol}
@@ -51,7 +52,7 @@ pub record Bounded (x : Reading) (depth : ℕ) (typed : Bool) (t : Scanned) (d :
 
 pub bounded : (x : Reading) (depth : ℕ) (typed : Bool) {b : Bound} {t : Scanned} {d : ℕ} {k : Bool}
     → b ≡ boundOf x depth typed → b ≡ bound.Good t d k → Bounded x depth typed t d k
-bounded formulas.bad depth typed e g = let z : _≡_ {A = ℕ} 0 1 = cc in absurd (omega arith)
+bounded formulas.bad depth typed e g = never (cc)
 bounded (formulas.good f u) depth typed e g = record { f = f; is = cc; deep = cc; whole = cc }
 
 pub not-bounded : (x : Reading) (depth : ℕ) (typed : Bool) {b : Bound} → b ≡ boundOf x depth typed → b ≡ bound.Bad → x ≡ formulas.bad

@@ -5,6 +5,7 @@ use mathlib.Core.Bool.{Bool, true, false}
 use mathlib.Core.List.{List, [], _∷_, _++_, append-nil}
 use Prim.Native.Nat.{ℕ, _+_}
 use native.Mathlib.Omega.{arith}
+use Rattle.whole.proofs.Never.{never}
 use Rattle.words.specs.Places.{place}
 use Rattle.words.specs.declared.symbols.Scanned.{Scanned}
 use Rattle.words.specs.declared.symbols.Sign.the-variants.{Comma, Semicolon, Colon}
@@ -31,11 +32,11 @@ pub record Lined (s : List ℕ) (part : Part) : Type 0 where
   pub ends : endsLine (end .token) ≡ true
 
 line-by : (s : List ℕ) (r : PartReading) {part : Part} → partOf s false 0 ≡ r → whole r ≡ reads part → Lined s part
-line-by s badPart i e = let z : _≡_ {A = ℕ} 0 1 = cc in absurd (omega arith)
+line-by s badPart i e = never (cc)
 line-by s (goodPart q t) i e =
     by-test (endsLine (t .token))
     (λ f. let h = rw f at e in record { end = t; from = cc; ends = f })
-    (λ f. let h = rw f at e in let z : _≡_ {A = ℕ} 0 1 = cc in absurd (omega arith))
+    (λ f. let h = rw f at e in never (cc))
 
 pub line-view : (s : List ℕ) {part : Part} → readLine s ≡ reads part → Lined s part
 unfolding readLine partOf
@@ -50,8 +51,8 @@ start s p = tokenAt s (place p)
 -- it has a statement
 has-some : (part : Part) (l : List Part) → partsOf part ++ l ≡ [] → ⊥
 unfolding partsOf
-has-some (last q x) l e = let z : _≡_ {A = ℕ} 0 1 = cc in omega arith
-has-some (more q x rest) l e = let z : _≡_ {A = ℕ} 0 1 = cc in omega arith
+has-some (last q x) l e = never (cc)
+has-some (more q x rest) l e = never (cc)
 
 module _ (s : List ℕ) (first : Bool) (p : ℕ) where
   -- a statement, a colon, and the rest
@@ -182,7 +183,7 @@ pub record Fronted (i : Item) (x : Items) (all : List Item) (u : Scanned) : Type
   pub from : x ≡ items of u
 
 pub front-view : (i : Item) (x : Items) {is : List Item} {u : Scanned} → withItem i x ≡ items is u → Fronted i x is u
-front-view i noItems e = let z : _≡_ {A = ℕ} 0 1 = cc in absurd (omega arith)
+front-view i noItems e = never (cc)
 front-view i (items is t) e = record { of = is; is = cc; from = cc }
 
 -- a formula before others
@@ -193,7 +194,7 @@ pub record Shown (x : Reading) (go : Scanned → Items) (is : List Item) (u : Sc
   pub shows : Fronted (shown of) (choose (isSeparator (at .token)) (λ _. go at) (λ _. items [] at)) is u
 
 pub shown-view : (x : Reading) (go : Scanned → Items) {is : List Item} {u : Scanned} → afterShown x go ≡ items is u → Shown x go is u
-shown-view formulas.bad go e = let z : _≡_ {A = ℕ} 0 1 = cc in absurd (omega arith)
+shown-view formulas.bad go e = never (cc)
 shown-view (formulas.good f t) go e =
     record { of = f; at = t; from = refl; shows = front-view (shown f) (choose (isSeparator (t .token)) (λ _. go t) (λ _. items [] t)) e }
 

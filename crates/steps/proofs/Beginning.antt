@@ -6,6 +6,7 @@ use lib.ListN.{length}
 use Rattle.words.specs.declared.places.Place.{Place}
 use Rattle.words.specs.declared.symbols.Scanned.{Scanned}
 use Rattle.words.specs.declared.symbols.Word.the-variants.{Line, Input}
+use Rattle.words.specs.Places.{longestLine}
 use Rattle.scanner.specs.Tokens.{tokenAt}
 use Rattle.grammar.specs.Tests.{isKeyword}
 use Rattle.grammar.specs.Formulas.{after, formulaOf}
@@ -16,7 +17,7 @@ use Rattle.statements.proofs.Ways.{if-so, by-items, by-condition, by-input}
 use Rattle.dialogue.specs.bridge.Showing.{Itemed}
 use Rattle.dialogue.specs.bridge.Asking.{Asks}
 
-module _ (s : List ℕ) (short : length s ≤ 255) (q : Place) {t : Scanned} (scanned : t ≡ tokenAt s q) where
+module _ (s : List ℕ) (short : length s ≤ longestLine) (q : Place) {t : Scanned} (scanned : t ≡ tokenAt s q) where
   pub print-itemed : Begins (printAt s t) → Itemed s t
   print-itemed =
       by-items (λ b. Begins b → Itemed s t) (λ x. absurd x) s t
@@ -27,7 +28,7 @@ module _ (s : List ℕ) (short : length s ≤ 255) (q : Place) {t : Scanned} (sc
       by-condition (λ b. Begins b → Formed s t) (λ x. absurd x) s t
       (λ c u e _. record { short = short; scans = record { from = q; is = scanned }; reads = record { of = c; next = u; is = e } })
 
-module _ (s : List ℕ) (short : length s ≤ 255) (w : Scanned) where
+module _ (s : List ℕ) (short : length s ≤ longestLine) (w : Scanned) where
   abbrev after-input : Scanned
   after-input = after s w
 

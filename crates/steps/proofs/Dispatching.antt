@@ -5,6 +5,7 @@ use mathlib.Core.List.{List, _∷_, []}
 use Prim.Native.Nat.{ℕ}
 use native.Mathlib.Omega.{arith}
 use types.Run.{OneOf, miss}
+use Rattle.whole.proofs.Never.{never}
 use Rattle.words.specs.declared.places.Place.{Place}
 use Rattle.words.specs.declared.symbols.Scanned.{Scanned}
 use Rattle.words.specs.Places.{place}
@@ -100,7 +101,7 @@ module _ {text line : List ℕ} {here : Place} (st : Standing text line here) (u
   pub after-last : isSymbol Colon (u .token) ≡ false → After text here u nothing
   after-last c =
       record {
-        placed = record { begins = st .begins; reads = λ h. let z = rw c at h in let y : _≡_ {A = ℕ} 0 1 = cc in absurd (omega arith) };
+        placed = record { begins = st .begins; reads = λ h. let z = rw c at h in never (cc) };
         is = rw c;
       }
 
@@ -122,11 +123,11 @@ colon-ends (Symbol s) e = e
 colon-ends Unreadable e = absurd (false≢true e)
 
 begins-by : (p : ℕ) (go : Bool → ℕ → PartReading) (b : Begun) {q : Part} {u : Scanned} → partBy p go b ≡ goodPart q u → Begins b
-begins-by p go bad e = let y : _≡_ {A = ℕ} 0 1 = cc in absurd (omega arith)
+begins-by p go bad e = never (cc)
 begins-by p go (done x t) e =
     by-test (isSymbol Colon (t .token)) (λ c. colon-ends (t .token) c) λ c.
     by-test (endsStatement (t .token)) (λ f. f) λ f.
-    let h = rw (c, f) at e in let y : _≡_ {A = ℕ} 0 1 = cc in absurd (omega arith)
+    let h = rw (c, f) at e in never (cc)
 begins-by p go (choice c t) e = tt
 
 -- a token of a line, wherever it stands

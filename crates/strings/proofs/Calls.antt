@@ -10,8 +10,10 @@ use lib.Dec.{leb}
 use lib.ListN.{length, take, drop, getD, replicate, length-drop}
 use lib.Seq.{length-take-le, drop-cons, drop-drop}
 use types.Run.{OneOf, miss}
-use Rattle.whole.specs.Texts.{shown, hexadecimal}
+use Rattle.whole.specs.Texts.{signedNumeral, hexadecimal, longestString}
 use Rattle.whole.specs.declared.errors.Error.the-variants.{IllegalFunctionCall}
+use Rattle.whole.specs.Bytes.{blank}
+use Rattle.whole.proofs.Never.{never}
 use Rattle.words.proofs.Choices.{by-test, both}
 use Rattle.words.specs.declared.names.Kind.the-variants as kind
 use Rattle.words.specs.declared.symbols.Function.{Function}
@@ -38,7 +40,7 @@ use Rattle.variables.specs.Strings.{Value, whole, text, produced}
 use Rattle.variables.specs.declared.values.Worked.{Worked}
 use Rattle.variables.specs.declared.values.Worked.the-variants as worked
 use Rattle.strings.specs.Functions as definition
-use Rattle.strings.specs.Functions.{ranged, within, word, bytes, fillRight, fillByte, midLength, called}
+use Rattle.strings.specs.Functions.{ranged, within, word, bytes, fillRight, fillByte, midLength, called, largestArgument}
 use Rattle.strings.specs.bridge.Memory.{MadeOf, Placed, argumentLength, argumentWord, firstOf, secondOf, thirdOf, areThree, valuesIn}
 use Rattle.strings.specs.declared.arguments.Argument.the-variants as argument
 use Rattle.strings.specs.declared.arguments.Given.{Given}
@@ -56,9 +58,9 @@ module _ {r t : Bool} (e : r ≡ t) where
   told-yes f = sym e ∙ not-false r f
 
 -- a word that passed is in the range
-pub passed : {r : Bool} (low n : ℕ) → r ≡ within low 255 n → not r ≡ false → (low ≤ n) × (n ≤ 255)
+pub passed : {r : Bool} (low n : ℕ) → r ≡ within low n → not r ≡ false → (low ≤ n) × (n ≤ largestArgument)
 passed low n e f =
-    let b = both (leb low n) (leb n 255) (told-yes e f) in (leb-true low n (b .0), leb-true n 255 (b .1))
+    let b = both (leb low n) (leb n largestArgument) (told-yes e f) in (leb-true low n (b .0), leb-true n largestArgument (b .1))
 
 module _ (before : List ℕ) (used : ℕ) (g : Given) where
   abbrev pub values : List Value
@@ -86,33 +88,33 @@ module _ (before : List ℕ) (used : ℕ) (g : Given) (p : Placed before used g)
     second-word : word (values before used g) 1 ≡ n
     second-word = word-second before used g ∙ sym e
 
-    pub left-refused : within 0 255 n ≡ false → Calls Left illegal before
+    pub left-refused : within 0 n ≡ false → Calls Left illegal before
     left-refused f = refused inside (λ room. rw (second-word, f))
 
-    pub left-made : {r : Worked} {after : List ℕ} → within 0 255 n ≡ true
+    pub left-made : {r : Worked} {after : List ℕ} → within 0 n ≡ true
         → MadeOf (λ vs. produced (take n (drop 0 (bytes vs 0))) vs) before used g ahead r after → Calls Left r after
     left-made f m = made-as (λ room. rw (second-word, f)) m
 
-    pub right-refused : within 0 255 n ≡ false → Calls Right illegal before
+    pub right-refused : within 0 n ≡ false → Calls Right illegal before
     right-refused f = refused inside (λ room. rw (second-word, f))
 
-    pub right-made : {r : Worked} {after : List ℕ} (from : ℕ) → within 0 255 n ≡ true
+    pub right-made : {r : Worked} {after : List ℕ} (from : ℕ) → within 0 n ≡ true
         → from ≡ argumentLength (firstOf g) - min n (argumentLength (firstOf g))
         → MadeOf (λ vs. produced (take n (drop from (bytes vs 0))) vs) before used g ahead r after → Calls Right r after
     right-made from f l m =
         made-as (λ room. rw (second-word, f, ← last-bytes (bytes (values before used g) 0) (argumentLength (firstOf g)) n from first-long l)) m
 
-    pub mid-refused : within 1 255 n ≡ false → Calls Mid illegal before
+    pub mid-refused : within 1 n ≡ false → Calls Mid illegal before
     mid-refused f = refused inside (λ room. rw (second-word, f))
 
-    module _ {most : ℕ} (l : most ≡ cond (areThree g) (argumentWord (thirdOf g)) 255) where
+    module _ {most : ℕ} (l : most ≡ cond (areThree g) (argumentWord (thirdOf g)) longestString) where
       mid-most : midLength (values before used g) ≡ most
       mid-most = rw (count-three (drop used before) g, word-third before used g) (sym l)
 
-      pub mid-refused-length : within 1 255 n ≡ true → within 0 255 most ≡ false → Calls Mid illegal before
+      pub mid-refused-length : within 1 n ≡ true → within 0 most ≡ false → Calls Mid illegal before
       mid-refused-length f h = refused inside (λ room. rw (second-word, mid-most, f, h))
 
-      pub mid-made : {r : Worked} {after : List ℕ} → within 1 255 n ≡ true → within 0 255 most ≡ true
+      pub mid-made : {r : Worked} {after : List ℕ} → within 1 n ≡ true → within 0 most ≡ true
           → MadeOf (λ vs. produced (take most (drop (n - 1) (bytes vs 0))) vs) before used g ahead r after → Calls Mid r after
       mid-made f h m = made-as (λ room. rw (second-word, mid-most, f, h)) m
 
@@ -120,22 +122,22 @@ module _ (before : List ℕ) (used : ℕ) (g : Given) (p : Placed before used g)
 
   abbrev Fills : ℕ → ℕ → Worked → List ℕ → Type 0
   Fills count byte r after =
-      MadeOf (λ vs room. ranged (within 0 255 count) room (produced (replicate count byte) vs room)) before used g ahead r after
+      MadeOf (λ vs room. ranged (within 0 count) room (produced (replicate count byte) vs room)) before used g ahead r after
 
   module _ {n : ℕ} (e : n ≡ argumentWord (firstOf g)) where
     pub first-word : word (values before used g) 0 ≡ n
     first-word = word-first before used g ∙ sym e
 
-    pub chr-refused : within 0 255 n ≡ false → Calls Chr illegal before
+    pub chr-refused : within 0 n ≡ false → Calls Chr illegal before
     chr-refused f = refused inside (λ room. rw (first-word, f))
 
-    pub chr-made : {r : Worked} {after : List ℕ} → within 0 255 n ≡ true → Fills 1 n r after → Calls Chr r after
+    pub chr-made : {r : Worked} {after : List ℕ} → within 0 n ≡ true → Fills 1 n r after → Calls Chr r after
     chr-made f m = made-as (λ room. rw (first-word, f)) m
 
-    pub space-made : {r : Worked} {after : List ℕ} → Fills n 32 r after → Calls Space r after
+    pub space-made : {r : Worked} {after : List ℕ} → Fills n blank r after → Calls Space r after
     space-made m = made-as (λ room. rw first-word) m
 
-    pub str-made : {r : Worked} {after : List ℕ} → MadeOf (produced (shown n)) before used g ahead r after → Calls Str r after
+    pub str-made : {r : Worked} {after : List ℕ} → MadeOf (produced (signedNumeral n)) before used g ahead r after → Calls Str r after
     str-made m = made-as (λ room. rw first-word) m
 
     pub hex-made : {r : Worked} {after : List ℕ} → MadeOf (produced (hexadecimal n)) before used g ahead r after → Calls Hex r after
@@ -144,19 +146,19 @@ module _ (before : List ℕ) (used : ℕ) (g : Given) (p : Placed before used g)
     -- STRING$, by the value of its second argument
     module _ (v : Value) (s : definition.argument (values before used g) 1 ≡ v) where
       string-refused : fillRight v ≡ false → Calls String illegal before
-      string-refused f = refused inside (λ room. rw (first-word, s, f) (by-test (within 0 255 n) (λ t. rw t) (λ t. rw t)))
+      string-refused f = refused inside (λ room. rw (first-word, s, f) (by-test (within 0 n) (λ t. rw t) (λ t. rw t)))
 
       string-made : {r : Worked} {after : List ℕ} → fillRight v ≡ true → Fills n (fillByte v) r after → Calls String r after
-      string-made f m = made-as (λ room. rw (first-word, s, f) (by-test (within 0 255 n) (λ t. rw t) (λ t. rw t))) m
+      string-made f m = made-as (λ room. rw (first-word, s, f) (by-test (within 0 n) (λ t. rw t) (λ t. rw t))) m
 
     module _ (code : ℕ) (s : secondOf g ≡ argument.Whole code) where
       second-code : definition.argument (values before used g) 1 ≡ whole code
       second-code = value-second (drop used before) g ∙ rw s
 
-      pub code-refused : within 0 255 code ≡ false → Calls String illegal before
+      pub code-refused : within 0 code ≡ false → Calls String illegal before
       code-refused f = string-refused (whole code) second-code f
 
-      pub code-made : {r : Worked} {after : List ℕ} → within 0 255 code ≡ true → Fills n code r after → Calls String r after
+      pub code-made : {r : Worked} {after : List ℕ} → within 0 code ≡ true → Fills n code r after → Calls String r after
       code-made f m = string-made (whole code) second-code f m
 
     module _ (len : ℕ) (s : secondOf g ≡ argument.Text len) where
@@ -189,7 +191,7 @@ otherTexts = 0 ∷ 1 ∷ 8 ∷ 10 ∷ 11 ∷ 12 ∷ 13 ∷ 14 ∷ []
 
 -- no kind is both
 pub kinds-apart : kind.Whole ≡ kind.Text → ⊥
-kinds-apart e = let z : _≡_ {A = ℕ} 0 1 = cc in absurd (omega arith)
+kinds-apart e = never (cc)
 
 pub last-text : (f : Function) → gives f ≡ kind.Text → OneOf otherTexts (functionTag f) → f ≡ Hex
 last-text Len e h = absurd (kinds-apart e)

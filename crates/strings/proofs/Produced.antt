@@ -9,7 +9,7 @@ use lib.ListN.{length, take, drop, replicate, length-drop}
 use lib.Seq.{take-append-seam}
 use Rattle.whole.specs.declared.arithmetic.Answer.{Answer}
 use Rattle.whole.specs.declared.arithmetic.Answer.the-variants.{Whole, Fault}
-use Rattle.whole.specs.Texts.{held}
+use Rattle.whole.specs.Texts.{held, longestString}
 use Rattle.whole.specs.declared.texts.Text.{Text}
 use Rattle.whole.specs.declared.errors.Error.the-variants.{OutOfStringSpace, IllegalFunctionCall}
 use Rattle.words.specs.declared.symbols.Scanned.{Scanned}
@@ -72,7 +72,7 @@ module _ (before : List ℕ) (used : ℕ) (g : Given) (p : Placed before used g)
 
   -- ---- a text, at most 255 bytes long
 
-  module _ (text : List ℕ) (short : length text ≤ 255) where
+  module _ (text : List ℕ) (short : length text ≤ longestString) where
     pub no-room : length before < used + givenLength g + length text
         → MadeOf (produced text) before used g ahead (worked.Fault OutOfStringSpace) before
     unfolding produced make
@@ -81,7 +81,7 @@ module _ (before : List ℕ) (used : ℕ) (g : Given) (p : Placed before used g)
           framed = record { long = refl; kept = refl; fits = omega (arith, p .within); short = omega arith };
           agrees = λ room held.
               let l : room .limit < room .live + length text = omega (arith, held .limit, held .lives) in
-              rw (le-ltb 255 (length text) short, lt-ltb (room .limit) (room .live + length text) l) refl;
+              rw (le-ltb longestString (length text) short, lt-ltb (room .limit) (room .live + length text) l) refl;
           goes = tt;
         }
 
@@ -100,7 +100,7 @@ module _ (before : List ℕ) (used : ℕ) (g : Given) (p : Placed before used g)
           };
           agrees = λ room held.
               let l : room .live + length text ≤ room .limit = omega (arith, held .limit, held .lives) in
-              rw (le-ltb 255 (length text) short, le-ltb (room .limit) (room .live + length text) l)
+              rw (le-ltb longestString (length text) short, le-ltb (room .limit) (room .live + length text) l)
               (f, (e, let-go after n _ (k .long) (held .limit) (omega (arith, held .lives))));
           goes = refl;
         }
@@ -113,10 +113,10 @@ held-length b l e = ap (λ (x : Text). x .len) e
 
 held-bytes : (b : Text) (l : List ℕ) → b ≡ held l → take (b .len) (b .bytes) ≡ l
 unfolding held
-held-bytes b l e = rw e (take-append-seam l (replicate (255 - length l) 0))
+held-bytes b l e = rw e (take-append-seam l (replicate (longestString - length l) 0))
 
 module _ (before : List ℕ) (used : ℕ) (g : Given) (p : Placed before used g) (ahead : Scanned)
-    (b : Text) (short : b .len ≤ 255) (l : List ℕ) (e : b ≡ held l) where
+    (b : Text) (short : b .len ≤ longestString) (l : List ℕ) (e : b ≡ held l) where
   pub no-room-built : length before < used + givenLength g + b .len
       → MadeOf (produced l) before used g ahead (worked.Fault OutOfStringSpace) before
   no-room-built h = let n = held-length b l e in no-room before used g p ahead l (omega arith) (omega arith)
@@ -132,7 +132,7 @@ module _ (before : List ℕ) (used : ℕ) (g : Given) (p : Placed before used g)
 -- ---- a part of the first text
 
 module _ (before : List ℕ) (used : ℕ) (g : Given) (p : Placed before used g) (ahead : Scanned)
-    (from most start len : ℕ) (short : most ≤ 255) where
+    (from most start len : ℕ) (short : most ≤ longestString) where
   abbrev first : ℕ
   first = argumentLength (firstOf g)
 

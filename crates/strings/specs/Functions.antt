@@ -7,11 +7,12 @@ use lib.Dec.{leb, ltb, eqb}
 use lib.IntN.{pos}
 use lib.ListN.{length, take, drop, getD, replicate}
 use Rattle.whole.specs.Digits.{valOf}
-use Rattle.whole.specs.Texts.{shown, hexadecimal}
+use Rattle.whole.specs.Texts.{signedNumeral, hexadecimal, longestString}
 use Rattle.whole.specs.Whole.{fit, magnitude, signum}
 use Rattle.whole.specs.declared.arithmetic.Answer.{Answer}
 use Rattle.whole.specs.declared.arithmetic.Answer.the-variants.{Whole, Fault}
 use Rattle.whole.specs.declared.errors.Error.the-variants.{IllegalFunctionCall}
+use Rattle.whole.specs.Bytes.{blank}
 use Rattle.words.specs.declared.symbols.Function.{Function}
 use Rattle.words.specs.declared.symbols.Function.the-variants.{
   Len,
@@ -60,16 +61,20 @@ abbrev pub answered : Answer → List Value → Room → Outcome
 answered (Whole w) operands room = value (whole w) (letAllGo operands room)
 answered (Fault e) operands room = fault e room
 
--- a word within bounds, which are below 32768; outside is 5
-abbrev pub within : ℕ → ℕ → ℕ → Bool
-within low high w = leb low w && leb w high
+-- every range ends at 255
+abbrev pub largestArgument : ℕ
+largestArgument = 255
+
+-- a word in a range that begins at 0 or 1; outside is 5
+abbrev pub within : ℕ → ℕ → Bool
+within low w = leb low w && leb w largestArgument
 
 abbrev pub ranged : Bool → Room → Outcome → Outcome
 ranged right room result = cond right result (fault IllegalFunctionCall room)
 
 -- ---- INSTR: the first place at or after i where y stands in x, counted from 1, or 0
 
--- how many bytes of s stand before y, if it stands there
+-- whether s begins with y
 unfoldable pub startsWith : List ℕ → List ℕ → Bool
 startsWith [] s = true
 startsWith (c ∷ y) [] = false
@@ -86,7 +91,7 @@ placeOf i x y = cond (eqb (length x) 0 || ltb (length x) i) 0 (cond (eqb (length
 
 -- STRING$'s second argument: a code, or a text's first byte
 abbrev pub fillRight : Value → Bool
-fillRight (whole w) = within 0 255 w
+fillRight (whole w) = within 0 w
 fillRight (text []) = false
 fillRight (text (b ∷ s)) = true
 
@@ -97,7 +102,7 @@ fillByte (text (b ∷ s)) = b
 
 -- MID$ and INSTR by the number of their arguments
 abbrev pub midLength : List Value → ℕ
-midLength vs = cond (eqb (length vs) 3) (word vs 2) 255
+midLength vs = cond (eqb (length vs) 3) (word vs 2) longestString
 
 abbrev pub instrStart : List Value → ℕ
 instrStart vs = cond (eqb (length vs) 3) (word vs 0) 1
@@ -108,21 +113,21 @@ instrTexts vs = length vs - 2
 abbrev pub called : Function → List Value → Room → Outcome
 called Len vs room = answered (Whole (length (bytes vs 0))) vs room
 called Asc vs room = ranged (leb 1 (length (bytes vs 0))) room (answered (Whole (getD (bytes vs 0) 0 0)) vs room)
-called Chr vs room = ranged (within 0 255 (word vs 0)) room (produced (word vs 0 ∷ []) vs room)
-called Left vs room = ranged (within 0 255 (word vs 1)) room (produced (take (word vs 1) (bytes vs 0)) vs room)
+called Chr vs room = ranged (within 0 (word vs 0)) room (produced (word vs 0 ∷ []) vs room)
+called Left vs room = ranged (within 0 (word vs 1)) room (produced (take (word vs 1) (bytes vs 0)) vs room)
 called Right vs room =
-    ranged (within 0 255 (word vs 1)) room (produced (drop (length (bytes vs 0) - word vs 1) (bytes vs 0)) vs room)
+    ranged (within 0 (word vs 1)) room (produced (drop (length (bytes vs 0) - word vs 1) (bytes vs 0)) vs room)
 called Mid vs room =
-    ranged (within 1 255 (word vs 1) && within 0 255 (midLength vs)) room
+    ranged (within 1 (word vs 1) && within 0 (midLength vs)) room
     (produced (take (midLength vs) (drop (word vs 1 - 1) (bytes vs 0))) vs room)
-called Space vs room = ranged (within 0 255 (word vs 0)) room (produced (replicate (word vs 0) 32) vs room)
+called Space vs room = ranged (within 0 (word vs 0)) room (produced (replicate (word vs 0) blank) vs room)
 called String vs room =
-    ranged (within 0 255 (word vs 0) && fillRight (argument vs 1)) room
+    ranged (within 0 (word vs 0) && fillRight (argument vs 1)) room
     (produced (replicate (word vs 0) (fillByte (argument vs 1))) vs room)
 called Instr vs room =
-    ranged (within 1 255 (instrStart vs)) room
+    ranged (within 1 (instrStart vs)) room
     (answered (Whole (placeOf (instrStart vs) (bytes vs (instrTexts vs)) (bytes vs (suc (instrTexts vs))))) vs room)
-called Str vs room = produced (shown (word vs 0)) vs room
+called Str vs room = produced (signedNumeral (word vs 0)) vs room
 called Hex vs room = produced (hexadecimal (word vs 0)) vs room
 called Val vs room = answered (valOf (bytes vs 0)) vs room
 called Abs vs room = answered (magnitude (word vs 0)) vs room

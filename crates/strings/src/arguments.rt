@@ -3,6 +3,7 @@ ghost use mathlib.Core.Path.{_≡_};
 ghost use Prim.Native.Nat.{_≤_};
 ghost use Rattle.strings.specs.Functions.{within};
 ghost use Rattle.strings.specs.bridge.Memory.{argumentLength, argumentWord, firstOf, secondOf, thirdOf, areThree, givenLength};
+ghost use Rattle.variables.specs.Strings.{longestSpace};
 
 // A whole number, or a text of so many bytes.
 pub enum Argument {
@@ -18,7 +19,8 @@ pub enum Given {
     Three(Argument, Argument, Argument),
 }
 
-const LONGEST: u16 = 255;
+// Every range of a function ends here.
+const LARGEST: u16 = 255;
 
 fn argument_length(argument: Argument) -> usize
     ensures { λ r. ⌜ r ≡ argumentLength argument ⌝ }
@@ -103,7 +105,7 @@ pub fn third_length(given: Given) -> usize
 
 // The bytes of all their texts.
 pub fn given_length(given: Given) -> usize
-    requires { ⌜ givenLength given ≤ 16384 ⌝ }
+    requires { ⌜ givenLength given ≤ longestSpace ⌝ }
     ensures { λ r. ⌜ r ≡ givenLength given ⌝ }
 {
     first_length(given) + second_length(given) + third_length(given)
@@ -130,9 +132,9 @@ pub(crate) fn third_word(given: Given) -> u16
     argument_word(third_of(given))
 }
 
-// Whether a word is in a function's range, which ends at 255.
+// Whether a word is in a function's range.
 pub fn in_range(low: u16, word: u16) -> bool
-    ensures { λ r. ⌜ r ≡ within low 255 word ⌝ }
+    ensures { λ r. ⌜ r ≡ within low word ⌝ }
 {
-    low <= word && word <= LONGEST
+    low <= word && word <= LARGEST
 }

@@ -5,7 +5,7 @@ ghost use mathlib.Core.List.{List};
 ghost use Prim.Native.Nat.{ℕ, _+_, _≤_, min};
 ghost use lib.Dec.{leb};
 ghost use lib.ListN.{length, take, drop, replicate};
-ghost use Rattle.whole.specs.Texts.{held};
+ghost use Rattle.whole.specs.Texts.{held, longestString};
 ghost use Rattle.words.specs.declared.names.Kind.the-variants as kind;
 ghost use Rattle.words.specs.declared.symbols.Function.the-variants.{Chr, Left, Right, Mid, String};
 ghost use Rattle.grammar.specs.Functions.{gives};
@@ -38,8 +38,6 @@ pub enum Reply {
     Fault(Error),
 }
 
-const LONGEST: u16 = 255;
-
 fn least(a: usize, b: usize) -> usize
     ensures { λ r. ⌜ r ≡ min a b ⌝ }
 {
@@ -56,7 +54,7 @@ fn grants(space: &[u8], used: usize, given: Given, len: usize) -> bool
 
 // A part of the first text, as far as it goes, moved down over it.
 fn part(space: &mut [u8], used: usize, given: Given, from: usize, most: usize) -> Reply
-    requires { ⌜ Placed (now space) used given × (most ≤ 255) ⌝ }
+    requires { ⌜ Placed (now space) used given × (most ≤ longestString) ⌝ }
     ensures { λ r. ⌜
         TextOf (λ vs. produced (take most (drop from (bytes vs 0))) vs) (now (space .entry)) used given r (now (space .exit))
         ⌝ }
@@ -89,7 +87,7 @@ fn built(space: &mut [u8], used: usize, given: Given, text: Text) -> Reply
 
 // So many of one byte, in a buffer.
 fn repeated(byte: u8, count: u16) -> Text
-    requires { ⌜ count ≤ 255 ⌝ }
+    requires { ⌜ count ≤ longestString ⌝ }
     ensures { λ r. ⌜ r ≡ held (replicate count byte) ⌝ }
 {
     let mut text = Text::empty();
@@ -105,7 +103,7 @@ fn repeated(byte: u8, count: u16) -> Text
 fn filled(space: &mut [u8], used: usize, given: Given, count: u16, byte: u8) -> Reply
     requires { ⌜ Placed (now space) used given ⌝ }
     ensures { λ r. ⌜
-        TextOf (λ vs room. ranged (within 0 255 count) room (produced (replicate count byte) vs room)) (now (space .entry)) used given r
+        TextOf (λ vs room. ranged (within 0 count) room (produced (replicate count byte) vs room)) (now (space .entry)) used given r
         (now (space .exit))
         ⌝ }
 {
@@ -180,12 +178,12 @@ fn right(space: &mut [u8], used: usize, given: Given) -> Reply
 
 // How many bytes MID$ takes at most: its third argument, or all.
 fn mid_length(given: Given) -> u16
-    ensures { λ r. ⌜ r ≡ cond (areThree given) (argumentWord (thirdOf given)) 255 ⌝ }
+    ensures { λ r. ⌜ r ≡ cond (areThree given) (argumentWord (thirdOf given)) longestString ⌝ }
 {
     if are_three(given) {
         third_word(given)
     } else {
-        LONGEST
+        Text::LONGEST as u16
     }
 }
 

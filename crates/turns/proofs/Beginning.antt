@@ -6,6 +6,7 @@ use lib.ListN.{length}
 use Rattle.words.specs.declared.places.LineNumber.{LineNumber}
 use Rattle.words.specs.declared.symbols.Scanned.{Scanned}
 use Rattle.words.specs.declared.symbols.Token.{Token}
+use Rattle.words.specs.Places.{longestLine}
 use Rattle.grammar.specs.Tests.{onLine}
 use Rattle.grammar.specs.Trees.{Variable}
 use Rattle.grammar.specs.Formulas.{after}
@@ -17,7 +18,7 @@ use Rattle.statements.proofs.Ways.{by-assign}
 use Rattle.turns.specs.bridge.Turns.{Formed}
 use Rattle.turns.specs.bridge.Doing.{Begins}
 
-module _ (s : List ℕ) (short : length s ≤ 255) where
+module _ (s : List ℕ) (short : length s ≤ longestLine) where
   pub assign-formed : (v : Variable) (t : Scanned) → Begins (assignAt s v t) → Formed s (after s t)
   assign-formed v t =
       by-assign (λ b. Begins b → Formed s (after s t)) (λ x. absurd x) s t v

@@ -4,6 +4,7 @@ use mathlib.Core.List.{List}
 use Prim.Native.Nat.{ℕ, _+_, _≤_}
 use lib.ListN.{length, take, drop}
 use Rattle.whole.specs.declared.errors.Error.the-variants.{TypeMismatch}
+use Rattle.whole.specs.Texts.{longestString}
 use Rattle.words.specs.declared.symbols.Scanned.{Scanned}
 use Rattle.grammar.specs.Trees.{Formula}
 use Rattle.variables.specs.Strings.{Value, whole, text, Outcome, value, fault}
@@ -93,5 +94,5 @@ module _ {line : List ℕ} {rs : List Record} {m : Machine} {f : Formula} {u : S
 
 -- a text stands in the space
 pub text-fits : {m : Machine} {f : Formula} {u t : Scanned} {space space′ : List ℕ} {len : ℕ} → Settled m space
-    → Valued m f u space (Text len t) space′ → Settled m space′ × ((m .used + len ≤ length space′) × (len ≤ 255))
+    → Valued m f u space (Text len t) space′ → Settled m space′ × ((m .used + len ≤ length space′) × (len ≤ longestString))
 text-fits h v = (settled-kept (v .framed .long) h, (v .framed .fits, v .framed .short))

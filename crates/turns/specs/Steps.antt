@@ -29,7 +29,7 @@ use Rattle.grammar.specs.Trees.{Formula, Variable, Item, Statement, Part}
 use Rattle.variables.specs.Strings.{Value, whole, text, Outcome, value, fault, make}
 use Rattle.variables.specs.Variables.{wordOf, setNumber, setString, numbersFull, stringsFull}
 use Rattle.operators.specs.Values.{valueOf}
-use Rattle.machine.specs.Machine.{Position, Record, loop, call, Machine, mostRecords, roomOf, withVariables, withRecords, withInput, noting, Printed, full, printed, write, commaBlanks, isCall, isLoop, isLoopOf, backOf, Search, missing, found, sought, below, passed}
+use Rattle.machine.specs.Machine.{Position, Record, loop, call, Machine, mostRecords, roomOf, withVariables, withRecords, withInput, noting, Printed, full, printed, write, commaBlanks, isCall, isLoop, isLoopOf, backOf, Search, missing, found, sought, below, passed, longestInputLine}
 use Rattle.statements.specs.Parts.{nothing, part}
 
 -- what a statement comes to: the run goes on at a place, or at a line's start, or it ends
@@ -84,7 +84,7 @@ written m bytes go = byPrinted (write m bytes)
     byPrinted (printed n) = go n
 
 abbrev pub shownValue : Value → List ℕ
-shownValue (whole w) = texts.printed w
+shownValue (whole w) = texts.printedNumber w
 shownValue (text b) = b
 
 -- without a final `,` or `;` it ends with bytes 13, 10
@@ -169,7 +169,7 @@ filled kind.Text name b m go = storeString m name b go
 -- a line of input has at most 254 bytes; it is taken, and then its string asks for room
 abbrev pub lineTaken : Machine → Variable → Taken → (Machine → Next) → Next
 lineTaken m v t go =
-    cond (ltb 254 (length (t .bytes))) (fails LineBufferOverflow m)
+    cond (ltb longestInputLine (length (t .bytes))) (fails LineBufferOverflow m)
     (let n = withInput m (t .left) (m .taken + (length (m .input) - length (t .left))) in
     worked n (make (t .bytes) (roomOf n)) (λ b o. filled (v .kind) (v .telling) (t .bytes) o go))
 

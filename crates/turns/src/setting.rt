@@ -12,6 +12,8 @@ ghost use Rattle.machine.specs.bridge.Holding.{positionOf, Positioned, Settled,
 ghost use Rattle.turns.specs.Steps.{doStatement};
 ghost use Rattle.turns.specs.bridge.Doing.{Begins, Does};
 ghost use Rattle.turns.specs.bridge.Turns.{afterOf, Turns, anyRecords, Formed, numberSet, stringSet, storedTurn};
+ghost use Rattle.whole.specs.Texts.{longestString};
+ghost use Rattle.words.specs.Places.{longestLine};
 use crate::turning::fails;
 use crate::turning::goes_on;
 use crate::turning::value;
@@ -57,7 +59,7 @@ pub fn with_number(machine: Machine, name: Telling, word: u16) -> Stored
 
 // The finished text of `len` bytes stands right after the variables' bytes.
 pub fn with_string(machine: Machine, name: Telling, space: &mut [u8], len: usize) -> Stored
-    requires { ⌜ Settled machine (now space) × ((machine .used + len ≤ length (now space)) × (len ≤ 255)) ⌝ }
+    requires { ⌜ Settled machine (now space) × ((machine .used + len ≤ length (now space)) × (len ≤ longestString)) ⌝ }
     ensures { λ r. ⌜
         (r ≡ stringSet machine name len)
         × (now (space .exit) ≡ spaceStored (machine .tables .strings) (machine .used) name (now (space .entry)) len)
@@ -121,7 +123,7 @@ fn assign(
 
 // A name, the equals sign and a formula.
 pub fn set(line: &[u8], here: Place, target: Scanned, machine: Machine, space: &mut [u8]) -> Turned
-    requires { ⌜ Begins (byWord (now line) led.Let target) × ((length (now line) ≤ 255) × Settled machine (now space)) ⌝ }
+    requires { ⌜ Begins (byWord (now line) led.Let target) × ((length (now line) ≤ longestLine) × Settled machine (now space)) ⌝ }
     ensures { λ r. ⌜
         ((text input room : List ℕ) (at : ℕ) (found : Found) (entry : Record) → Sound machine input (now (space .entry)) room
         → Does text (now (line .entry)) here at machine found entry input (now (space .entry)) room r (now (space .exit)) room (byWord (now (line .entry)) led.Let target))

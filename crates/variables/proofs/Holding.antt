@@ -9,7 +9,7 @@ use Rattle.words.proofs.Choices.{by-test}
 use Rattle.words.specs.Names.{alike}
 use Rattle.words.specs.declared.names.Telling.{Telling}
 use Rattle.space.specs.Moves.{cleared}
-use Rattle.variables.specs.Variables.{wordOf, bytesOf, stringBytes, joinedStrings}
+use Rattle.variables.specs.Variables.{wordOf, bytesOf, stringBytes, joinedStrings, mostVariables}
 use Rattle.variables.specs.bridge.Memory.{stringsIn, Looked, numbersHeld, stringsHeld, TidyNumbers, TidyStrings}
 use Rattle.variables.specs.Tables.{namesFrom, numbersIn, sumOf, emptyTables}
 use Rattle.variables.specs.declared.tables.Numbers.{Numbers}
@@ -113,11 +113,11 @@ pub held-looked : (n : Numbers) (t : Strings) (space : List ℕ) → TidyNumbers
 held-looked n t space a b =
     record {
       word = λ name. let l = names-length (n .count) (n .names) in
-          word-held (namesFrom (n .count) (n .names)) (namesFrom (64 - n .count) (drop (2 * n .count) (n .names))) (n .words) (64 - n .count) name
+          word-held (namesFrom (n .count) (n .names)) (namesFrom (mostVariables - n .count) (drop (2 * n .count) (n .names))) (n .words) (mostVariables - n .count) name
           (rw l (a .wordsBlank))
           ∙ ap (λ ns. wordOf (numbersIn ns (n .words)) name) (sym (names-used (n .count) (n .names) (a .few)));
       bytes = λ name. let l = names-length (t .count) (t .names) in
-          bytes-held (namesFrom (t .count) (t .names)) (namesFrom (64 - t .count) (drop (2 * t .count) (t .names))) (t .lengths) space (64 - t .count) name
+          bytes-held (namesFrom (t .count) (t .names)) (namesFrom (mostVariables - t .count) (drop (2 * t .count) (t .names))) (t .lengths) space (mostVariables - t .count) name
           (rw l (b .lengthsBlank))
           ∙ ap (λ ns. bytesOf (stringsIn ns (t .lengths) space) name) (sym (names-used (t .count) (t .names) (b .few)));
     }
@@ -143,7 +143,7 @@ used-strings t space =
     ∙ ap (λ k. stringsIn (namesFrom (t .count) (t .names)) (take k (t .lengths)) space) (names-length (t .count) (t .names))
 
 pub used-sum : (t : Strings) → TidyStrings t → sumOf (take (t .count) (t .lengths)) ≡ sumOf (t .lengths)
-used-sum t y = sum-used (t .count) (64 - t .count) (t .lengths) (y .lengthsBlank)
+used-sum t y = sum-used (t .count) (mostVariables - t .count) (t .lengths) (y .lengthsBlank)
 
 -- the strings have their lengths' sum of bytes
 pub strings-live : (t : Strings) (space : List ℕ) → TidyStrings t → sumOf (t .lengths) ≤ length space
@@ -188,4 +188,4 @@ unfolding namesFrom stringsIn
 empty-strings-held space = refl
 
 pub empty-sum : sumOf (emptyTables .strings .lengths) ≡ 0
-empty-sum = sum-zeros 64
+empty-sum = sum-zeros mostVariables

@@ -5,7 +5,7 @@ use Prim.Native.Nat.{ℕ, _≤_}
 use lib.ListN.{take}
 use lib.Seq.{take-take}
 use Rattle.words.specs.declared.names.Telling.{Telling}
-use Rattle.variables.specs.Variables.{Variables, wordOf, bytesOf}
+use Rattle.variables.specs.Variables.{Variables, wordOf, bytesOf, mostVariables}
 use Rattle.variables.specs.bridge.Memory.{stringsIn, SlotBelow, wordAt, bytesAt, Looked}
 use Rattle.variables.specs.Tables.{namesIn, numbersIn, slotIn, sumOf}
 use Rattle.variables.specs.declared.tables.Slot.{Slot}
@@ -15,12 +15,12 @@ use Rattle.variables.proofs.Lookups.{slot-below, slot-word, no-slot-wor
 -- ---- a name's entry
 
 module _ (names : List ℕ) (name : Telling) where
-  below-by : (x : Slot) → slotIn names name ≡ x → SlotBelow 64 x
+  below-by : (x : Slot) → slotIn names name ≡ x → SlotBelow mostVariables x
   below-by (slot.At i) e = slot-below names name i e
   below-by slot.None e = tt
 
   -- it is one of 64, or none
-  pub found-below : SlotBelow 64 (slotIn names name)
+  pub found-below : SlotBelow mostVariables (slotIn names name)
   found-below = below-by (slotIn names name) refl
 
   word-by : (words : List ℕ) (x : Slot) → slotIn names name ≡ x → wordAt x words ≡ wordOf (numbersIn (namesIn names) words) name

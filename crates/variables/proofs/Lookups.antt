@@ -10,10 +10,11 @@ use lib.Seq.{length-take-le, take-nil, take-take, drop-drop, getD-drop}
 use Rattle.words.proofs.Choices.{by-test}
 use Rattle.words.specs.Names.{alike}
 use Rattle.words.specs.declared.names.Telling.{Telling}
-use Rattle.variables.specs.Variables.{wordOf, bytesOf, stringBytes}
+use Rattle.variables.specs.Variables.{wordOf, bytesOf, stringBytes, mostVariables}
 use Rattle.variables.specs.bridge.Memory.{stringsIn}
 use Rattle.variables.specs.Tables.{namesFrom, namesIn, numbersIn, slotFrom, slotIn, sumOf}
 use Rattle.variables.specs.declared.tables.Slot.the-variants as slot
+use Rattle.whole.proofs.Never.{never}
 
 -- ---- the names of a table
 
@@ -27,28 +28,28 @@ names-length zero names = refl
 names-length (suc n) names = ap suc (names-length n (drop 2 names))
 
 -- there are 64
-pub names-count : (names : List ℕ) → length (namesIn names) ≡ 64
+pub names-count : (names : List ℕ) → length (namesIn names) ≡ mostVariables
 unfolding namesIn
-names-count names = names-length 64 names
+names-count names = names-length mostVariables names
 
 -- from the i-th on: it and those after it
-pub name-next : (names : List ℕ) (i : ℕ) → i < 64
-    → namesFrom (64 - i) (drop (2 * i) names) ≡ nameAt names i ∷ namesFrom (64 - (i + 1)) (drop (2 * (i + 1)) names)
+pub name-next : (names : List ℕ) (i : ℕ) → i < mostVariables
+    → namesFrom (mostVariables - i) (drop (2 * i) names) ≡ nameAt names i ∷ namesFrom (mostVariables - (i + 1)) (drop (2 * (i + 1)) names)
 unfolding namesFrom
 name-next names i h =
-    let e : 64 - i ≡ suc (64 - (i + 1)) = omega arith in
+    let e : mostVariables - i ≡ suc (mostVariables - (i + 1)) = omega arith in
     let f : 2 * i + 0 ≡ 2 * i = omega arith in
     let g : 2 * i + 2 ≡ 2 * (i + 1) = omega arith in
     rw (e, getD-drop (2 * i) names 0 0, getD-drop (2 * i) names 1 0, drop-drop 2 (2 * i) names, f, g)
 
 -- the search from the i-th on: it ends there, or goes on
-module _ (names : List ℕ) (name : Telling) (i : ℕ) (h : i < 64) where
-  pub slot-here : alike (nameAt names i) name ≡ true → slotFrom i (namesFrom (64 - i) (drop (2 * i) names)) name ≡ slot.At i
+module _ (names : List ℕ) (name : Telling) (i : ℕ) (h : i < mostVariables) where
+  pub slot-here : alike (nameAt names i) name ≡ true → slotFrom i (namesFrom (mostVariables - i) (drop (2 * i) names)) name ≡ slot.At i
   unfolding slotFrom
   slot-here e = ap (λ ns. slotFrom i ns name) (name-next names i h) ∙ rw e
 
   pub slot-next : alike (nameAt names i) name ≡ false
-      → slotFrom i (namesFrom (64 - i) (drop (2 * i) names)) name ≡ slotFrom (i + 1) (namesFrom (64 - (i + 1)) (drop (2 * (i + 1)) names)) name
+      → slotFrom i (namesFrom (mostVariables - i) (drop (2 * i) names)) name ≡ slotFrom (i + 1) (namesFrom (mostVariables - (i + 1)) (drop (2 * (i + 1)) names)) name
   unfolding slotFrom
   slot-next e = ap (λ ns. slotFrom i ns name) (name-next names i h) ∙ rw (e, add-one i)
 
@@ -65,7 +66,7 @@ record Found (name : Telling) (ns : List Telling) (k i : ℕ) : Type 0 where
 
 found-from : (k : ℕ) (ns : List Telling) (name : Telling) (i : ℕ) → slotFrom k ns name ≡ slot.At i → Found name ns k i
 unfolding slotFrom
-found-from k [] name i e = let z : _≡_ {A = ℕ} 0 1 = cc in absurd (omega arith)
+found-from k [] name i e = never (cc)
 found-from k (n ∷ ns) name i e =
     by-test (alike n name)
     (λ t. let s : slot.At k ≡ slot.At i = rw t at e in let p : k ≡ i = cc in record { place = 0; first = here t; counted = omega arith })
@@ -82,7 +83,7 @@ first-below (here e) = omega arith
 first-below (later e f) = let h = first-below f in omega arith
 
 -- an entry is one of 64
-pub slot-below : (names : List ℕ) (name : Telling) (i : ℕ) → slotIn names name ≡ slot.At i → i < 64
+pub slot-below : (names : List ℕ) (name : Telling) (i : ℕ) → slotIn names name ≡ slot.At i → i < mostVariables
 slot-below names name i e = let h = first-below (slot-first names name i e) in let n = names-count names in omega arith
 
 -- ---- numbers
@@ -105,7 +106,7 @@ missing-word k [] ws name e = refl
 missing-word k (n ∷ ns) [] name e = refl
 missing-word k (n ∷ ns) (w ∷ ws) name e =
     by-test (alike n name)
-    (λ t. let s : slot.At k ≡ slot.None = rw t at e in let z : _≡_ {A = ℕ} 0 1 = cc in absurd (omega arith))
+    (λ t. let s : slot.At k ≡ slot.None = rw t at e in never (cc))
     (λ t. rw t (missing-word (suc k) ns ws name (rw t at e)))
 
 -- a name with no entry reads as 0
@@ -155,7 +156,7 @@ missing-bytes k [] ls space name e = refl
 missing-bytes k (n ∷ ns) [] space name e = refl
 missing-bytes k (n ∷ ns) (l ∷ ls) space name e =
     by-test (alike n name)
-    (λ t. let s : slot.At k ≡ slot.None = rw t at e in let z : _≡_ {A = ℕ} 0 1 = cc in absurd (omega arith))
+    (λ t. let s : slot.At k ≡ slot.None = rw t at e in never (cc))
     (λ t. rw t (missing-bytes (suc k) ns ls (drop l space) name (rw t at e)))
 
 -- a name with no entry reads as empty

@@ -11,6 +11,7 @@ use Rattle.space.proofs.Frames.{copied-lies, copied-length, moved-lies, moved-l
 use Rattle.space.proofs.Overlaid.{overlaid-front, overlaid-before}
 use Rattle.variables.specs.bridge.Memory.{spaceReplaced}
 use Rattle.variables.specs.Tables.{sumOf}
+use Rattle.variables.specs.Variables.{mostVariables}
 use Rattle.variables.proofs.Lookups.{sum-within}
 
 -- ---- the bytes that are kept while others move
@@ -31,9 +32,9 @@ kept-length bytes space from len h e =
 
 -- ---- the place of the string that goes
 
-module _ (ls : List ℕ) (i start old : ℕ) (h : i < 64) (s : start ≡ sumOf (take (min i 64) ls)) (o : old ≡ getD ls i 0) where
+module _ (ls : List ℕ) (i start old : ℕ) (h : i < mostVariables) (s : start ≡ sumOf (take (min i mostVariables) ls)) (o : old ≡ getD ls i 0) where
   place-is : start ≡ sumOf (take i ls)
-  place-is = let e : min i 64 ≡ i = omega arith in rw e at s
+  place-is = let e : min i mostVariables ≡ i = omega arith in rw e at s
 
   -- it ends where all do, or before
   pub place-within : (used : ℕ) → sumOf ls ≡ used → start + old ≤ used

@@ -9,7 +9,7 @@ use lib.ListN.{length, getD, set, length-set}
 use lib.Seq.{getD-set-same, take-set-le}
 use Rattle.words.specs.declared.names.Telling.{Telling}
 use Rattle.space.proofs.Bounds.{by-bound}
-use Rattle.variables.specs.Variables.{setNumber, hasNumber, numbersFull}
+use Rattle.variables.specs.Variables.{setNumber, hasNumber, numbersFull, mostVariables}
 use Rattle.variables.specs.bridge.Memory.{numbersHeld, TidyNumbers, withName, numberReplaced, numberStored}
 use Rattle.variables.specs.Tables.{namesFrom, numbersIn}
 use Rattle.variables.specs.declared.tables.Numbers.{Numbers}
@@ -89,32 +89,32 @@ module _ (n : Numbers) (name : Telling) (w : ℕ) (y : TidyNumbers n) where
           named = y .named;
           worded = simp length-set (y .worded);
           namesBlank = y .namesBlank;
-          wordsBlank = values-behind (n .words) 64 (n .count) w (y .wordsBlank) i h;
+          wordsBlank = values-behind (n .words) mostVariables (n .count) w (y .wordsBlank) i h;
         };
       }
 
-  number-full : 64 ≤ n .count → Absent name numberNames → NumberKept n name w (record { ok = false; numbers = n })
+  number-full : mostVariables ≤ n .count → Absent name numberNames → NumberKept n name w (record { ok = false; numbers = n })
   number-full h a =
-      let l : 64 ≤ length (numbersHeld n) = rw (number-count numberNames (n .words) worded, names-length) h in
+      let l : mostVariables ≤ length (numbersHeld n) = rw (number-count numberNames (n .words) worded, names-length) h in
       record {
-        ok = rw (absent-number a (n .words), le-leb 64 _ l);
+        ok = rw (absent-number a (n .words), le-leb mostVariables _ l);
         held = λ e. absurd (false≢true e);
         refused = λ _. refl;
         tidy = y;
       }
 
-  number-more : n .count < 64 → Absent name numberNames
+  number-more : n .count < mostVariables → Absent name numberNames
       → NumberKept n name w
       (record {
         ok = true;
         numbers = record { names = withName (n .names) (n .count) name; words = set (n .words) (n .count) w; count = n .count + 1 };
       })
   number-more h a =
-      let l : length (numbersHeld n) < 64 = rw (number-count numberNames (n .words) worded, names-length) h in
+      let l : length (numbersHeld n) < mostVariables = rw (number-count numberNames (n .words) worded, names-length) h in
       let k : 2 * n .count + 1 < length (n .names) = omega (arith, y .named) in
       let c = names-length (n .count) (n .names) in
       record {
-        ok = rw (absent-number a (n .words), lt-leb 64 _ l);
+        ok = rw (absent-number a (n .words), lt-leb mostVariables _ l);
         held = λ _. rw (names-more (n .names) (n .count) name k)
             (numbers-more numberNames name (set (n .words) (n .count) w) (simp length-set (omega (arith, y .worded)))
             ∙ rw (c, getD-set-same (n .words) (n .count) w 0 (omega (arith, y .worded)))
@@ -128,7 +128,7 @@ module _ (n : Numbers) (name : Telling) (w : ℕ) (y : TidyNumbers n) where
           named = named-length (n .names) (n .count) name k ∙ y .named;
           worded = simp length-set (y .worded);
           namesBlank = names-after (n .names) (n .count) name k 128 (y .namesBlank);
-          wordsBlank = values-after (n .words) 64 (n .count) w (y .wordsBlank);
+          wordsBlank = values-after (n .words) mostVariables (n .count) w (y .wordsBlank);
         };
       }
 
@@ -136,7 +136,7 @@ module _ (n : Numbers) (name : Telling) (w : ℕ) (y : TidyNumbers n) where
   number-way (old i e h f) = rw (number-old n name w i e h) (number-replaced i h f)
   number-way (new x e u a) =
       rw (number-new n name w x e u)
-      (by-bound 64 (n .count) (λ h. rw (le-leb 64 (n .count) h) (number-full h a)) (λ h. rw (lt-leb 64 (n .count) h) (number-more h a)))
+      (by-bound mostVariables (n .count) (λ h. rw (le-leb mostVariables (n .count) h) (number-full h a)) (λ h. rw (lt-leb mostVariables (n .count) h) (number-more h a)))
 
   pub number-stored : NumberKept n name w (numberStored n name w)
   number-stored = number-way (way (n .names) (n .count) name (y .few))

@@ -9,7 +9,7 @@ use lib.ListN.{length, take, drop, getD, set, replicate, length-set, length-drop
 use lib.Seq.{length-take-le, take-append-seam, drop-append-seam, take-at, drop-at, take-add, drop-drop, getD-drop, getD-set-same, take-set-le}
 use Rattle.words.specs.declared.names.Telling.{Telling}
 use Rattle.space.proofs.Bounds.{by-bound}
-use Rattle.variables.specs.Variables.{setString, hasString, stringsFull}
+use Rattle.variables.specs.Variables.{setString, hasString, stringsFull, mostVariables}
 use Rattle.variables.specs.bridge.Memory.{stringsIn, stringsHeld, TidyStrings, withName, stringReplaced, stringStored, spaceReplaced, spaceStored}
 use Rattle.variables.specs.Tables.{namesFrom, sumOf}
 use Rattle.variables.specs.declared.tables.Strings.{Strings}
@@ -137,18 +137,18 @@ module _ (t : Strings) (used : ℕ) (name : Telling) (space : List ℕ) (len : �
           named = y .named;
           lengthy = simp length-set (y .lengthy);
           namesBlank = y .namesBlank;
-          lengthsBlank = values-behind ls 64 (t .count) len (y .lengthsBlank) i h;
+          lengthsBlank = values-behind ls mostVariables (t .count) len (y .lengthsBlank) i h;
         };
         sum = e;
         within = omega arith;
         long = replaced-length space used start gone len (omega arith) fits;
       }
 
-  string-full : 64 ≤ t .count → Absent name stringNames → StringKept t used name space len (record { ok = false; strings = t; used = used }) space
+  string-full : mostVariables ≤ t .count → Absent name stringNames → StringKept t used name space len (record { ok = false; strings = t; used = used }) space
   string-full h a =
-      let l : 64 ≤ length (stringsHeld t space) = rw (string-count stringNames (t .lengths) space lengthy, names-length) h in
+      let l : mostVariables ≤ length (stringsHeld t space) = rw (string-count stringNames (t .lengths) space lengthy, names-length) h in
       record {
-        ok = rw (absent-string a (t .lengths) space, le-leb 64 _ l);
+        ok = rw (absent-string a (t .lengths) space, le-leb mostVariables _ l);
         held = λ e. absurd (false≢true e);
         refused = λ _. (refl, refl, refl);
         tidy = y;
@@ -157,7 +157,7 @@ module _ (t : Strings) (used : ℕ) (name : Telling) (space : List ℕ) (len : �
         long = refl;
       }
 
-  string-more : t .count < 64 → Absent name stringNames
+  string-more : t .count < mostVariables → Absent name stringNames
       → StringKept t used name space len
       (record {
         ok = true;
@@ -167,15 +167,15 @@ module _ (t : Strings) (used : ℕ) (name : Telling) (space : List ℕ) (len : �
       space
   string-more h a =
       let ls = t .lengths in
-      let l : length (stringsHeld t space) < 64 = rw (string-count stringNames ls space lengthy, names-length) h in
+      let l : length (stringsHeld t space) < mostVariables = rw (string-count stringNames ls space lengthy, names-length) h in
       let k : 2 * t .count + 1 < length (t .names) = omega (arith, y .named) in
       let c = names-length (t .count) (t .names) in
       let m : t .count < length ls = omega (arith, y .lengthy) in
-      let z : getD ls (t .count) 0 ≡ 0 = blank-first ls (t .count) (64 - t .count) (omega arith) (y .lengthsBlank) in
+      let z : getD ls (t .count) 0 ≡ 0 = blank-first ls (t .count) (mostVariables - t .count) (omega arith) (y .lengthsBlank) in
       let s = sum-set ls (t .count) len m in
       let before = take-set-le (t .count) ls (t .count) len (omega arith) in
       record {
-        ok = rw (absent-string a ls space, lt-leb 64 _ l);
+        ok = rw (absent-string a ls space, lt-leb mostVariables _ l);
         held = λ _. rw (names-more (t .names) (t .count) name k)
             (strings-more stringNames name (set ls (t .count) len) space (simp length-set (omega arith))
             ∙ rw (c, getD-set-same ls (t .count) len 0 m, before, used-sum t y, all)
@@ -188,7 +188,7 @@ module _ (t : Strings) (used : ℕ) (name : Telling) (space : List ℕ) (len : �
           named = named-length (t .names) (t .count) name k ∙ y .named;
           lengthy = simp length-set (y .lengthy);
           namesBlank = names-after (t .names) (t .count) name k 128 (y .namesBlank);
-          lengthsBlank = values-after ls 64 (t .count) len (y .lengthsBlank);
+          lengthsBlank = values-after ls mostVariables (t .count) len (y .lengthsBlank);
         };
         sum = omega arith;
         within = fits;
@@ -200,7 +200,7 @@ module _ (t : Strings) (used : ℕ) (name : Telling) (space : List ℕ) (len : �
   string-way (old i e h f) = rw (string-old t used name len i e h, space-old t used name len space i e h) (string-replaced i h f)
   string-way (new x e u a) =
       rw (string-new t used name len x e u, space-new t used name len space x e u)
-      (by-bound 64 (t .count) (λ h. rw (le-leb 64 (t .count) h) (string-full h a)) (λ h. rw (lt-leb 64 (t .count) h) (string-more h a)))
+      (by-bound mostVariables (t .count) (λ h. rw (le-leb mostVariables (t .count) h) (string-full h a)) (λ h. rw (lt-leb mostVariables (t .count) h) (string-more h a)))
 
   pub string-stored : StringKept t used name space len (stringStored t used name len) (spaceStored t used name space len)
   string-stored = string-way (way (t .names) (t .count) name (y .few))

@@ -10,6 +10,7 @@ use Rattle.variables.specs.bridge.Memory.{stringsIn, numbersHeld, string
 use Rattle.variables.specs.Tables.{namesFrom, numbersIn, sumOf, nameBytes, numbersTable, stringsTable}
 use Rattle.variables.specs.declared.tables.Numbers.{Numbers}
 use Rattle.variables.specs.declared.tables.Strings.{Strings}
+use Rattle.variables.specs.Variables.{mostVariables}
 use Rattle.variables.proofs.Lookups.{names-length}
 use Rattle.variables.proofs.Holding.{number-count, string-count, used-sum}
 
@@ -76,7 +77,7 @@ numbers-told n y =
     table-numbers n _ _ _
     (rw (number-names ns (n .words) h, k, bytes-back (n .count) (n .names) (omega (arith, y .few, y .named)))
     (back-blank (n .names) (2 * n .count) (128 - 2 * n .count) (y .namesBlank)))
-    (rw (number-words ns (n .words) h, k, l) (back-blank (n .words) (n .count) (64 - n .count) (y .wordsBlank)))
+    (rw (number-words ns (n .words) h, k, l) (back-blank (n .words) (n .count) (mostVariables - n .count) (y .wordsBlank)))
     (sym k)
 
 pub strings-told : (t : Strings) (space : List ℕ) → TidyStrings t → sumOf (t .lengths) ≤ length space → t ≡ stringsTable (stringsHeld t space)
@@ -89,5 +90,5 @@ strings-told t space y u =
     table-strings t _ _ _
     (rw (string-names ns (t .lengths) space h, k, bytes-back (t .count) (t .names) (omega (arith, y .few, y .named)))
     (back-blank (t .names) (2 * t .count) (128 - 2 * t .count) (y .namesBlank)))
-    (rw (string-lengths ns (t .lengths) space h s, k, l) (back-blank (t .lengths) (t .count) (64 - t .count) (y .lengthsBlank)))
+    (rw (string-lengths ns (t .lengths) space h s, k, l) (back-blank (t .lengths) (t .count) (mostVariables - t .count) (y .lengthsBlank)))
     (sym k)

@@ -17,7 +17,9 @@ use Rattle.variables.specs.declared.tables.Numbers.{Numbers}
 use Rattle.variables.specs.declared.tables.Strings.{Strings}
 use Rattle.variables.specs.declared.tables.Slot.{Slot}
 use Rattle.variables.specs.declared.tables.Slot.the-variants as slot
+use Rattle.variables.specs.Variables.{mostVariables}
 use Rattle.variables.proofs.Lookups.{names-length, First, here, later, slot-first}
+use Rattle.whole.proofs.Never.{never}
 
 -- ---- names that are not among others
 
@@ -42,7 +44,7 @@ unfolding slotFrom
 missing-absent k [] b name e = none
 missing-absent k (n ∷ a) b name e =
     by-test (alike n name)
-    (λ t. let s : slot.At k ≡ slot.None = rw t at e in let z : _≡_ {A = ℕ} 0 1 = cc in absurd (omega arith))
+    (λ t. let s : slot.At k ≡ slot.None = rw t at e in never (cc))
     (λ t. also t (missing-absent (suc k) a b name (rw t at e)))
 
 -- ---- the entries in use, and those after them
@@ -55,10 +57,10 @@ names-split (suc n) m names =
     let f : 2 * suc n ≡ 2 + 2 * n = omega arith in
     rw (e, f, names-split n m (drop 2 names), drop-drop (2 * n) 2 names)
 
-pub names-used : (count : ℕ) (names : List ℕ) → count ≤ 64
-    → namesIn names ≡ namesFrom count names ++ namesFrom (64 - count) (drop (2 * count) names)
+pub names-used : (count : ℕ) (names : List ℕ) → count ≤ mostVariables
+    → namesIn names ≡ namesFrom count names ++ namesFrom (mostVariables - count) (drop (2 * count) names)
 unfolding namesIn
-names-used count names h = let e : 64 ≡ count + (64 - count) = omega arith in ap (λ n. namesFrom n names) e ∙ names-split count (64 - count) names
+names-used count names h = let e : mostVariables ≡ count + (mostVariables - count) = omega arith in ap (λ n. namesFrom n names) e ∙ names-split count (mostVariables - count) names
 
 -- ---- the ways
 
@@ -71,9 +73,9 @@ pub data Way (names : List ℕ) (count : ℕ) (name : Telling) : Type 0 where
   old : (i : ℕ) → slotIn names name ≡ slot.At i → i < count → First name (namesFrom count names) i → Way names count name
   new : (x : Slot) → slotIn names name ≡ x → Unfound count x → Absent name (namesFrom count names) → Way names count name
 
-module _ (names : List ℕ) (count : ℕ) (name : Telling) (few : count ≤ 64) where
+module _ (names : List ℕ) (count : ℕ) (name : Telling) (few : count ≤ mostVariables) where
   after : List Telling
-  after = namesFrom (64 - count) (drop (2 * count) names)
+  after = namesFrom (mostVariables - count) (drop (2 * count) names)
 
   way-by : (x : Slot) → slotIn names name ≡ x → Way names count name
   unfolding after

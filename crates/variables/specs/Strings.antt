@@ -1,4 +1,4 @@
--- The string space, as a count: a string holds 0 to 255 bytes; live bytes are the lengths of all variables and unfinished strings.
+-- The string space, as a count: live bytes are the lengths of all variables and unfinished strings.
 use mathlib.Core.Bool.{cond}
 use mathlib.Core.List.{List, [], _∷_}
 use Prim.Native.Nat.{ℕ, suc, _+_, _-_, max}
@@ -6,11 +6,16 @@ use lib.Dec.{ltb}
 use lib.ListN.{length}
 use Rattle.whole.specs.declared.errors.Error.{Error}
 use Rattle.whole.specs.declared.errors.Error.the-variants.{OutOfStringSpace, StringTooLong}
+use Rattle.whole.specs.Texts.{longestString}
 
 -- a whole number, by its word, or a text
 pub data Value : Type 0 where
   whole : ℕ → Value
   text : List ℕ → Value
+
+-- a string space has at most 16,384 bytes
+abbrev pub longestSpace : ℕ
+longestSpace = 16384
 
 -- the bytes lent, those that are live, how many strings are unfinished, and the most that ever were
 pub record Room : Type 0 where
@@ -59,4 +64,4 @@ letAllGo (v ∷ vs) room = letAllGo vs (letGo v room)
 -- an operator or function makes its result while its operands are still live, then lets them go; 15 is tested before 14
 unfoldable pub produced : List ℕ → List Value → Room → Outcome
 produced bytes operands room =
-    cond (ltb 255 (length bytes)) (fault StringTooLong room) (then (make bytes room) (λ v after. value v (letAllGo operands after)))
+    cond (ltb longestString (length bytes)) (fault StringTooLong room) (then (make bytes room) (λ v after. value v (letAllGo operands after)))

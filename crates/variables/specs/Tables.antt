@@ -5,7 +5,7 @@ use Prim.Native.Nat.{ℕ, zero, suc, _+_, _-_, _*_}
 use lib.ListN.{length, getD, drop, replicate}
 use Rattle.words.specs.Names.{alike}
 use Rattle.words.specs.declared.names.Telling.{Telling}
-use Rattle.variables.specs.Variables.{NumberVariable, StringVariable}
+use Rattle.variables.specs.Variables.{NumberVariable, StringVariable, mostVariables}
 use Rattle.variables.specs.declared.tables.Numbers.{Numbers}
 use Rattle.variables.specs.declared.tables.Strings.{Strings}
 use Rattle.variables.specs.declared.tables.Tables.{Tables}
@@ -22,21 +22,21 @@ nameBytes (n ∷ ns) = n .first ∷ n .second ∷ nameBytes ns
 abbrev pub numbersTable : List NumberVariable → Numbers
 numbersTable vs = record {
   names = nameBytes (map (λ v. v .name) vs) ++ replicate (128 - 2 * length vs) 0;
-  words = map (λ v. v .word) vs ++ replicate (64 - length vs) 0;
+  words = map (λ v. v .word) vs ++ replicate (mostVariables - length vs) 0;
   count = length vs;
 }
 
 abbrev pub stringsTable : List StringVariable → Strings
 stringsTable vs = record {
   names = nameBytes (map (λ v. v .name) vs) ++ replicate (128 - 2 * length vs) 0;
-  lengths = map (λ v. length (v .bytes)) vs ++ replicate (64 - length vs) 0;
+  lengths = map (λ v. length (v .bytes)) vs ++ replicate (mostVariables - length vs) 0;
   count = length vs;
 }
 
 abbrev pub emptyTables : Tables
 emptyTables = record {
-  numbers = record { names = replicate 128 0; words = replicate 64 0; count = 0 };
-  strings = record { names = replicate 128 0; lengths = replicate 64 0; count = 0 };
+  numbers = record { names = replicate 128 0; words = replicate mostVariables 0; count = 0 };
+  strings = record { names = replicate 128 0; lengths = replicate mostVariables 0; count = 0 };
 }
 
 -- ---- what stands in a table
@@ -48,7 +48,7 @@ namesFrom (suc n) names = record { first = getD names 0 0; second = getD names 1
 
 -- a table has 64
 unfoldable pub namesIn : List ℕ → List Telling
-namesIn names = namesFrom 64 names
+namesIn names = namesFrom mostVariables names
 
 unfoldable pub numbersIn : List Telling → List ℕ → List NumberVariable
 numbersIn [] ws = []

@@ -4,6 +4,8 @@ ghost use Prim.Native.Nat.{_+_, _≤_, _<_};
 ghost use lib.ListN.{length, take, drop};
 ghost use Rattle.space.specs.Moves.{cleared};
 ghost use Rattle.variables.specs.bridge.Memory.{numberAppended, numberStored, stringAppended, stringReplaced, stringStored, spaceReplaced, spaceStored, Storable};
+ghost use Rattle.variables.specs.Variables.{mostVariables};
+ghost use Rattle.whole.specs.Texts.{longestString};
 use crate::tables::Numbers;
 use crate::tables::Slot;
 use crate::tables::Strings;
@@ -15,6 +17,7 @@ use space::Offset;
 use space::clear_from;
 use space::copy_in;
 use space::move_bytes;
+use whole::Text;
 use words::Telling;
 
 // The table after an assignment, or no room for a new variable.
@@ -99,11 +102,11 @@ fn appended_string(strings: Strings, used: usize, name: Telling, len: u8) -> Str
 }
 
 // The new bytes, which stand right after all strings', as they are kept while the others move.
-fn kept_bytes(space: &[u8], from: usize, len: usize) -> [u8; 255]
-    requires { ⌜ (len < 256) × (from + len ≤ length (now space)) ⌝ }
+fn kept_bytes(space: &[u8], from: usize, len: usize) -> [u8; Text::LONGEST]
+    requires { ⌜ (len ≤ longestString) × (from + len ≤ length (now space)) ⌝ }
     ensures { λ r. ⌜ take len r ≡ take len (drop from (now (space .entry))) ⌝ }
 {
-    let mut bytes = [0; 255];
+    let mut bytes = [0; Text::LONGEST];
     let mut i = 0;
     while i < len {
         bytes[i] = space[from + i];
@@ -114,7 +117,7 @@ fn kept_bytes(space: &[u8], from: usize, len: usize) -> [u8; 255]
 
 // The new bytes take the old ones' place; the later strings' move up or down.
 fn replaced(strings: Strings, used: usize, slot: usize, space: &mut [u8], len: u8) -> StringStored
-    requires { ⌜ Storable strings used (now space) len × (slot < 64) ⌝ }
+    requires { ⌜ Storable strings used (now space) len × (slot < mostVariables) ⌝ }
     ensures { λ r. ⌜
         (r ≡ stringReplaced strings used slot len)
         × (now (space .exit) ≡ spaceReplaced (strings .lengths) used slot (now (space .entry)) len)

@@ -3,19 +3,20 @@ ghost use mathlib.Core.Path.{_≡_};
 ghost use Prim.Native.Nat.{_<_, min};
 ghost use lib.ListN.{take};
 ghost use Rattle.variables.specs.Tables.{slotIn, sumOf, emptyTables};
+ghost use Rattle.variables.specs.Variables.{mostVariables};
 use words::Telling;
 
 // The number variables: two bytes of name each, and a word.
 pub struct Numbers {
     pub names: [u8; 128],
-    pub words: [u16; 64],
+    pub words: [u16; Tables::MOST],
     pub count: usize,
 }
 
 // The string variables: two bytes of name each, and how many bytes they have in the string space, where they stand joined.
 pub struct Strings {
     pub names: [u8; 128],
-    pub lengths: [u8; 64],
+    pub lengths: [u8; Tables::MOST],
     pub count: usize,
 }
 
@@ -33,12 +34,12 @@ impl Tables {
     {
         let numbers = Numbers {
             names: [0; 128],
-            words: [0; 64],
+            words: [0; Tables::MOST],
             count: 0,
         };
         let strings = Strings {
             names: [0; 128],
-            lengths: [0; 64],
+            lengths: [0; Tables::MOST],
             count: 0,
         };
         Tables { numbers, strings }
@@ -69,16 +70,16 @@ pub fn slot_of(names: &[u8; 128], name: Telling) -> Slot
     Slot::None
 }
 
-// A length as it is added up.
-pub fn wide(len: u8) -> usize
-    ensures { λ r. ⌜ (r ≡ len) × (r < 256) ⌝ }
+// A byte that counts something, as a number to reckon with.
+pub fn wide(byte: u8) -> usize
+    ensures { λ r. ⌜ (r ≡ byte) × (r < 256) ⌝ }
 {
-    len as usize
+    byte as usize
 }
 
 // How many bytes the strings before an entry have together.
-pub fn offset_of(lengths: &[u8; 64], slot: usize) -> usize
-    ensures { λ r. ⌜ r ≡ sumOf (take (min slot 64) (now (lengths .entry))) ⌝ }
+pub fn offset_of(lengths: &[u8; Tables::MOST], slot: usize) -> usize
+    ensures { λ r. ⌜ r ≡ sumOf (take (min slot mostVariables) (now (lengths .entry))) ⌝ }
 {
     let mut sum = 0;
     let mut i = 0;

@@ -4,6 +4,7 @@ ghost use Prim.Native.Nat.{_+_};
 ghost use lib.Dec.{leb};
 ghost use lib.ListN.{length};
 ghost use Rattle.variables.specs.bridge.Memory.{answeredAs, textLength};
+use space::fits;
 use whole::Answer;
 use whole::Error;
 use words::Scanned;
@@ -40,9 +41,5 @@ pub fn text_length(worked: Worked) -> usize
 pub fn has_room(space: &[u8], live: usize, asked: usize) -> bool
     ensures { λ r. ⌜ r ≡ leb (live + asked) (length (now (space .entry))) ⌝ }
 {
-    let all = space.len();
-    if all < asked {
-        return false;
-    }
-    live <= all - asked
+    fits(space.len(), live, asked)
 }

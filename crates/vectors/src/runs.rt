@@ -118,7 +118,7 @@ fn string_bytes(strings: Strings) -> usize {
     let lengths = strings.lengths;
     let mut sum = 0;
     let mut i = 0;
-    while i < 64 {
+    while i < Tables::MOST {
         sum += wide(lengths[i]);
         i += 1;
     }

@@ -1,3 +1,4 @@
+pub mod Never
 pub mod Numbers
 pub mod Sizes
 pub mod Theorems

@@ -1,7 +1,7 @@
 -- What number a word holds, and what `fit` answers. `mag` is n for n and for -(n + 1): below 32768 for a whole number.
 use mathlib.Core.Path.{_≡_, refl, sym, ap, _∙_}
 use mathlib.Core.Logic.{_⊎_, inl, inr, ⊎-elim}
-use mathlib.Core.Bool.{Bool, true, false}
+use mathlib.Core.Bool.{Bool, true, false, false≢true}
 use Prim.Native.Nat.{ℕ, zero, suc, _+_, _-_, _≤_, _<_}
 use native.Mathlib.Omega.{arith}
 use borrow.Author.Tests.{lt-ltb, le-ltb, ltb-true, ltb-false}
@@ -19,9 +19,6 @@ less a b = go (ltb a b) refl
     go : (t : Bool) → ltb a b ≡ t → (a < b) ⊎ (b ≤ a)
     go true e = inl (ltb-true a b e)
     go false e = inr (ltb-false a b e)
-
-never : false ≡ true → ⊥
-never e = let z : _≡_ {A = ℕ} 0 1 = cc in omega arith
 
 -- ---- words and numbers
 
@@ -57,10 +54,10 @@ num-injective v w hv hw e = sym (word-num v hv) ∙ ap word e ∙ word-num w hw
 -- what a test of a number's range tells of its size
 pub size-over : (k : ℕ) (z : ℤ) → ltZ (pos k) z ≡ true → k < mag z
 size-over k (pos n) e = ltb-true k n e
-size-over k (negsuc n) e = absurd (never e)
+size-over k (negsuc n) e = absurd (false≢true e)
 
 pub size-under : (k : ℕ) (z : ℤ) → ltZ z (negsuc k) ≡ true → k < mag z
-size-under k (pos n) e = absurd (never e)
+size-under k (pos n) e = absurd (false≢true e)
 size-under k (negsuc n) e = ltb-true k n e
 
 pub size-within : (z : ℤ) → ltZ (pos 32767) z ≡ false → ltZ z (negsuc 32767) ≡ false → mag z < 32768

@@ -12,18 +12,19 @@ use lib.IntN.{natAbs}
 use lib.ListN.{length, replicate, length-append, length-map, replicate-append-replicate}
 use lib.Seq.{set-append-seam, append-snoc}
 use Rattle.whole.specs.declared.texts.Text.{Text}
-use Rattle.whole.specs.Texts.{held, withByte, places, trimmed, digitByte, numeral, shown}
+use Rattle.whole.specs.Bytes.{blank}
+use Rattle.whole.specs.Texts.{longestString, held, withByte, places, trimmed, digitByte, numeral, signedNumeral}
 use Rattle.whole.specs.Whole.{num}
 use Rattle.whole.proofs.Numbers.{less, num-low, num-high}
 
 -- ---- a text in its buffer
 
 -- a byte more, where there is room
-pub held-put : (l : List ℕ) (b : ℕ) → length l < 255 → withByte (held l) b ≡ held (l ++ (b ∷ []))
+pub held-put : (l : List ℕ) (b : ℕ) → length l < longestString → withByte (held l) b ≡ held (l ++ (b ∷ []))
 unfolding held withByte
 held-put l b h =
-    let room : 255 - length l ≡ suc (255 - (length l + 1)) = omega arith in
-    rw (lt-ltb (length l) 255 h, length-append l (b ∷ []), room, set-append-seam l 0, append-snoc l b)
+    let room : longestString - length l ≡ suc (longestString - (length l + 1)) = omega arith in
+    rw (lt-ltb (length l) longestString h, length-append l (b ∷ []), room, set-append-seam l 0, append-snoc l b)
 
 -- ---- numerals
 
@@ -114,30 +115,30 @@ module _ (base : ℕ) where
         rw (trim-more (places base k (n / base)) (n % base) s, map-append digitByte)
 
     -- the same of a text with a numeral after it, as `put_numeral` makes it
-    pub put-one : (l : List ℕ) (k n : ℕ) → n < base → length l + suc k ≤ 255
+    pub put-one : (l : List ℕ) (k n : ℕ) → n < base → length l + suc k ≤ longestString
         → withByte (held l) (digitByte n) ≡ held (l ++ numeral base (suc k) n)
     put-one l k n h r = rw (numeral-one k n h) (held-put l (digitByte n) (omega arith))
 
-    pub put-more : (l : List ℕ) (k n : ℕ) (front : Text) → base ≤ n → n < base ^ suc k → length l + suc k ≤ 255
-        → ((j : ℕ) → n / base < base ^ suc j → length l + suc j ≤ 255 → front ≡ held (l ++ numeral base (suc j) (n / base)))
+    pub put-more : (l : List ℕ) (k n : ℕ) (front : Text) → base ≤ n → n < base ^ suc k → length l + suc k ≤ longestString
+        → ((j : ℕ) → n / base < base ^ suc j → length l + suc j ≤ longestString → front ≡ held (l ++ numeral base (suc j) (n / base)))
         → withByte front (digitByte (n % base)) ≡ held (l ++ numeral base (suc k) n)
     put-more l zero n front m h r f = absurd (omega (arith, quotient-fits 0 n h, quotient-from n m, pow-zero base))
     put-more l (suc j) n front m h r f =
         let q = numeral base (suc j) (n / base) in
-        let s : length (l ++ q) < 255 = omega (arith, length-append l q, numeral-length (suc j) (n / base)) in
+        let s : length (l ++ q) < longestString = omega (arith, length-append l q, numeral-length (suc j) (n / base)) in
         rw (f j (quotient-fits (suc j) n h) (omega arith), numeral-more (suc j) n m h, ← append-assoc)
         (held-put (l ++ q) (digitByte (n % base)) s)
 
 -- ---- STR$, of a word that holds a number from 0 on, and of one that holds one below
 
-pub shown-low : (w : ℕ) → w < 32768 → shown w ≡ 32 ∷ numeral 10 5 w
-unfolding shown
+pub shown-low : (w : ℕ) → w < 32768 → signedNumeral w ≡ blank ∷ numeral 10 5 w
+unfolding signedNumeral
 shown-low w h = rw (num-low w h)
 
-pub shown-high : (w : ℕ) → 32768 ≤ w → w < 65536 → shown w ≡ 45 ∷ numeral 10 5 (65535 - w + 1)
-unfolding shown
+pub shown-high : (w : ℕ) → 32768 ≤ w → w < 65536 → signedNumeral w ≡ 45 ∷ numeral 10 5 (65535 - w + 1)
+unfolding signedNumeral
 shown-high w l h = rw (num-high w l h, add-one (65535 - w))
 
-pub shown-length : (w : ℕ) → length (shown w) ≤ 6
-unfolding shown
+pub shown-length : (w : ℕ) → length (signedNumeral w) ≤ 6
+unfolding signedNumeral
 shown-length w = suc-le-suc (numeral-length 10 5 (natAbs (num w)))

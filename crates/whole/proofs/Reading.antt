@@ -18,6 +18,7 @@ use Rattle.whole.specs.declared.digits.Digits.{Digits}
 use Rattle.whole.specs.declared.digits.Magnitude.{Magnitude}
 use Rattle.whole.specs.declared.digits.Magnitude.the-variants.{Fits, TooLarge}
 use Rattle.whole.proofs.Numbers.{less}
+use Rattle.whole.proofs.Never.{never}
 
 -- ---- the bytes at the front that pass a test
 
@@ -116,7 +117,7 @@ value-in n v e f = ⊎-elim (λ l. let g = capped-out n l in cc) (λ l. let g = 
 
 pub value-out : (n : ℕ) {m : Magnitude} → m ≡ TooLarge → m ≡ capped n → 65535 < n
 value-out n e f =
-    ⊎-elim (λ l. l) (λ l. let g = capped-in n l in let z : _≡_ {A = ℕ} 0 1 = cc in absurd (omega arith)) (less 65535 n)
+    ⊎-elim (λ l. l) (λ l. let g = capped-in n l in never (cc)) (less 65535 n)
 
 -- ---- VAL, from the first byte that is no blank
 

@@ -11,6 +11,9 @@ use lib.Dec.{eqb}
 abbrev pub is : Char → ℕ → Bool
 is c b = eqb b (code c)
 
+abbrev pub blank : ℕ
+blank = code " "
+
 -- the bytes of a text in plain letters
 unfoldable pub bytes : String → List ℕ
 bytes string.[] = []

@@ -19,19 +19,19 @@ use Rattle.whole.specs.declared.errors.Error.the-variants.{
   OutputFull,
 }
 
-abbrev pub numberOf : Error → ℕ
-numberOf NextWithoutFor = 1
-numberOf Syntax = 2
-numberOf ReturnWithoutGosub = 3
-numberOf IllegalFunctionCall = 5
-numberOf Overflow = 6
-numberOf OutOfMemory = 7
-numberOf UndefinedLine = 8
-numberOf DivisionByZero = 11
-numberOf TypeMismatch = 13
-numberOf OutOfStringSpace = 14
-numberOf StringTooLong = 15
-numberOf FormulaTooComplex = 16
-numberOf LineBufferOverflow = 23
-numberOf InputPastEnd = 62
-numberOf OutputFull = 110
+abbrev pub errorNumber : Error → ℕ
+errorNumber NextWithoutFor = 1
+errorNumber Syntax = 2
+errorNumber ReturnWithoutGosub = 3
+errorNumber IllegalFunctionCall = 5
+errorNumber Overflow = 6
+errorNumber OutOfMemory = 7
+errorNumber UndefinedLine = 8
+errorNumber DivisionByZero = 11
+errorNumber TypeMismatch = 13
+errorNumber OutOfStringSpace = 14
+errorNumber StringTooLong = 15
+errorNumber FormulaTooComplex = 16
+errorNumber LineBufferOverflow = 23
+errorNumber InputPastEnd = 62
+errorNumber OutputFull = 110

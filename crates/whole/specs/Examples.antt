@@ -5,7 +5,7 @@ use Prim.Native.Nat.{ℕ}
 use lib.IntN.{pos, negℤ}
 use Rattle.whole.specs.Bytes.{bytes, leading}
 use Rattle.whole.specs.Whole.{num, word, fit, applied, negated, magnitude}
-use Rattle.whole.specs.Texts.{places, trimmed, digitByte, numeral, shown, printed, hexadecimal}
+use Rattle.whole.specs.Texts.{places, trimmed, digitByte, numeral, signedNumeral, printedNumber, hexadecimal}
 use Rattle.whole.specs.Digits.{isDigit, valueFrom, signedValue, valOf}
 use Rattle.whole.specs.declared.errors.Error.the-variants.{Overflow, DivisionByZero}
 use Rattle.whole.specs.declared.arithmetic.Answer.{Answer}
@@ -55,16 +55,16 @@ arithmetic-holds = refl
 
 pub texts : List (Example (List ℕ))
 texts =
-    (shown 0 gives bytes " 0")
-    ∷ (shown (minus 32768) gives bytes "-32768")
-    ∷ (printed 120 gives bytes " 120 ")
+    (signedNumeral 0 gives bytes " 0")
+    ∷ (signedNumeral (minus 32768) gives bytes "-32768")
+    ∷ (printedNumber 120 gives bytes " 120 ")
     ∷ (hexadecimal 0 gives bytes "0")
     ∷ (hexadecimal (minus 1) gives bytes "FFFF")
     ∷ (hexadecimal 0x1A0 gives bytes "1A0")
     ∷ []
 
 pub texts-hold : map (λ (e : Example (List ℕ)). e .asked) texts ≡ map (λ (e : Example (List ℕ)). e .answered) texts
-unfolding texts num shown numeral trimmed places digitByte bytes
+unfolding texts num signedNumeral numeral trimmed places digitByte bytes
 texts-hold = refl
 
 -- ---- VAL

@@ -1,4 +1,4 @@
--- How a whole number is written, and how a string of at most 255 bytes is held.
+-- How a whole number is written, and how a string is held.
 use mathlib.Core.Bool.{cond}
 use mathlib.Core.List.{List, [], _∷_, _++_, map}
 use Prim.Native.Nat.{ℕ, zero, suc, _+_, _-_, _/_, _%_}
@@ -6,16 +6,21 @@ use Prim.Native.Char.{code}
 use lib.Dec.{ltb}
 use lib.IntN.{ℤ, pos, negsuc, natAbs}
 use lib.ListN.{length, replicate, set}
+use Rattle.whole.specs.Bytes.{blank}
 use Rattle.whole.specs.Whole.{num}
 use Rattle.whole.specs.declared.texts.Text.{Text}
 
+-- a string holds 0 to 255 bytes
+abbrev pub longestString : ℕ
+longestString = 255
+
 -- a string in its buffer: its bytes, zeros after them, and how many they are
 unfoldable pub held : List ℕ → Text
-held l = record { bytes = l ++ replicate (255 - length l) 0; len = length l }
+held l = record { bytes = l ++ replicate (longestString - length l) 0; len = length l }
 
--- a string with one byte more; one of 255 bytes has no room and stays as it is
+-- a string with one byte more; the longest has no room and stays as it is
 unfoldable pub withByte : Text → ℕ → Text
-withByte t b = cond (ltb (t .len) 255) (record { bytes = set (t .bytes) (t .len) b; len = t .len + 1 }) t
+withByte t b = cond (ltb (t .len) longestString) (record { bytes = set (t .bytes) (t .len) b; len = t .len + 1 }) t
 
 -- ---- numerals
 
@@ -43,16 +48,16 @@ numeral base count n = map digitByte (trimmed (places base count n))
 
 -- a blank, or a minus below zero
 abbrev pub signByte : ℤ → ℕ
-signByte (pos n) = code " "
+signByte (pos n) = blank
 signByte (negsuc n) = code "-"
 
 -- STR$: a blank or minus, then digits, of which a whole number has at most five
-unfoldable pub shown : ℕ → List ℕ
-shown w = signByte (num w) ∷ numeral 10 5 (natAbs (num w))
+unfoldable pub signedNumeral : ℕ → List ℕ
+signedNumeral w = signByte (num w) ∷ numeral 10 5 (natAbs (num w))
 
 -- PRINT: a blank or minus, its digits, a blank
-abbrev pub printed : ℕ → List ℕ
-printed w = shown w ++ (code " " ∷ [])
+abbrev pub printedNumber : ℕ → List ℕ
+printedNumber w = signedNumeral w ++ (blank ∷ [])
 
 -- HEX$: of the 16 bits; capitals, no leading zeros, 0 for 0
 abbrev pub hexadecimal : ℕ → List ℕ

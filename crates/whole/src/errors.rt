@@ -1,6 +1,6 @@
 // The errors that end a run, each by the name that GW-BASIC gives its number; `OutputFull` is the house's.
 ghost use mathlib.Core.Path.{_≡_};
-ghost use Rattle.whole.specs.Errors.{numberOf};
+ghost use Rattle.whole.specs.Errors.{errorNumber};
 
 pub enum Error {
     NextWithoutFor,
@@ -22,7 +22,7 @@ pub enum Error {
 
 // The number that the paper gives an error.
 pub fn number_of(error: Error) -> u8
-    ensures { λ r. ⌜ r ≡ numberOf error ⌝ }
+    ensures { λ r. ⌜ r ≡ errorNumber error ⌝ }
 {
     match error {
         Error::NextWithoutFor => 1,

@@ -1,24 +1,25 @@
-// The text of a whole number, built in a buffer by value: a string holds 0 to 255 bytes.
+// The text of a whole number, built in a buffer by value.
 ghost use mathlib.Core.Path.{_≡_};
 ghost use mathlib.Core.List.{List, [], _++_};
 ghost use Prim.Native.Nat.{ℕ, suc, _+_, _^_, _≤_, _<_};
 ghost use lib.ListN.{length};
-ghost use Rattle.whole.specs.Texts.{held, withByte, digitByte, numeral, shown, printed, hexadecimal};
+ghost use Rattle.whole.specs.Texts.{longestString, held, withByte, digitByte, numeral, signedNumeral, printedNumber, hexadecimal};
 
 // The bytes of a text stand first, zeros after them.
 pub struct Text {
-    pub bytes: [u8; 255],
+    pub bytes: [u8; Text::LONGEST],
     pub len: u8,
 }
 
 impl Text {
-    pub const LONGEST: u8 = 255;
+    // A string holds 0 to 255 bytes.
+    pub const LONGEST: usize = 255;
 
     pub fn empty() -> Text
         ensures { λ r. ⌜ r ≡ held [] ⌝ }
     {
         Text {
-            bytes: [0; 255],
+            bytes: [0; Text::LONGEST],
             len: 0,
         }
     }
@@ -28,11 +29,11 @@ impl Text {
         ensures { λ r. ⌜ r ≡ withByte self byte ⌝ }
     {
         let len = self.len;
-        if len == Text::LONGEST {
+        let at = len as usize;
+        if at == Text::LONGEST {
             return self;
         }
         let mut bytes = self.bytes;
-        let at = len as usize;
         bytes[at] = byte;
         Text {
             bytes,
@@ -57,7 +58,7 @@ fn digit_byte(digit: u8) -> u8
 fn put_numeral(text: Text, base: u16, value: u16) -> Text
     requires { ⌜ (2 ≤ base) × (base ≤ 16) ⌝ }
     ensures { λ r. ⌜
-        ((l : List ℕ) (k : ℕ) → text ≡ held l → value < base ^ suc k → length l + suc k ≤ 255
+        ((l : List ℕ) (k : ℕ) → text ≡ held l → value < base ^ suc k → length l + suc k ≤ longestString
         → r ≡ held (l ++ numeral base (suc k) value))
         ⌝ }
 {
@@ -72,7 +73,7 @@ fn put_numeral(text: Text, base: u16, value: u16) -> Text
 
 // A blank or a minus, then the digits: what STR$ gives.
 pub fn str_text(word: u16) -> Text
-    ensures { λ r. ⌜ r ≡ held (shown word) ⌝ }
+    ensures { λ r. ⌜ r ≡ held (signedNumeral word) ⌝ }
 {
     let empty = Text::empty();
     if word < 32768 {
@@ -86,10 +87,10 @@ pub fn str_text(word: u16) -> Text
 
 // STR$'s text and a blank: what PRINT shows.
 pub fn print_text(word: u16) -> Text
-    ensures { λ r. ⌜ r ≡ held (printed word) ⌝ }
+    ensures { λ r. ⌜ r ≡ held (printedNumber word) ⌝ }
 {
-    let shown = str_text(word);
-    shown.put(b' ')
+    let signed = str_text(word);
+    signed.put(b' ')
 }
 
 // The 16 bits in capitals, without leading zeros: what HEX$ gives.

@@ -1,4 +1,4 @@
--- A place of a text or a line, and the number of a line, from a plain number.
+-- A place of a text or a line, and the number of a line, from a plain number; how large a line's number is at most, and how long a line.
 use Prim.Native.Nat.{ℕ}
 use Rattle.words.specs.declared.places.Place.{Place}
 use Rattle.words.specs.declared.places.LineNumber.{LineNumber}
@@ -8,3 +8,11 @@ place n = record { 0 = n }
 
 abbrev pub lineNumber : ℕ → LineNumber
 lineNumber n = record { 0 = n }
+
+-- line numbers run from 0 to 65529
+abbrev pub largestLineNumber : ℕ
+largestLineNumber = 65529
+
+-- a line of a text has at most 255 bytes, its end not counted
+abbrev pub longestLine : ℕ
+longestLine = 255

@@ -8,7 +8,7 @@ use lib.Dec.{leb}
 use lib.ListN.{length}
 use Rattle.whole.specs.declared.errors.Error.the-variants.{OutOfMemory}
 use Rattle.words.specs.declared.names.Name.{Name}
-use Rattle.words.specs.Places.{place}
+use Rattle.words.specs.Places.{place, longestLine}
 use Rattle.words.specs.declared.names.Telling.{Telling}
 use Rattle.words.specs.declared.places.Place.{Place}
 use Rattle.words.specs.declared.symbols.Scanned.{Scanned}
@@ -64,7 +64,7 @@ stepOf s t = choose (isKeyword Step (t .token)) (λ _. formulaOf s (after s t)) 
 
 -- a FOR that reads from what follows its limit on
 pub record Stepped (line : List ℕ) (t : Scanned) : Type 0 where
-  pub short : length line ≤ 255
+  pub short : length line ≤ longestLine
   pub step : Formula
   pub end : Scanned
   pub reads : stepOf line t ≡ good step end
@@ -79,7 +79,7 @@ pub record Limited (line : List ℕ) (first : Scanned) : Type 0 where
 
 -- a FOR that reads from its equals sign on
 pub record Counts (line : List ℕ) (name : Name) (equals : Scanned) : Type 0 where
-  pub short : length line ≤ 255
+  pub short : length line ≤ longestLine
   pub scans : Scans line equals
   pub start : Formula
   pub limit : Formula

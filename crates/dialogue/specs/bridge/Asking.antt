@@ -5,6 +5,7 @@ use mathlib.Core.List.{List}
 use Prim.Native.Nat.{ℕ, _≤_}
 use lib.ListN.{length}
 use Rattle.words.specs.declared.symbols.Scanned.{Scanned}
+use Rattle.words.specs.Places.{longestLine}
 use Rattle.grammar.specs.Trees as tree
 use Rattle.grammar.specs.Trees.{Variable}
 use Rattle.statements.specs.Statements.{done, inputAt}
@@ -25,7 +26,7 @@ fillsIn v bytes after n = worked n (make bytes (roomOf n)) (λ b o. filled (v .k
 
 -- a LINE INPUT that reads from its text or variable on
 pub record Asks (line : List ℕ) (first : Scanned) : Type 0 where
-  pub short : length line ≤ 255
+  pub short : length line ≤ longestLine
   pub scans : Scans line first
   pub prompt : List ℕ
   pub target : Variable

@@ -10,6 +10,7 @@ use Rattle.whole.specs.declared.errors.Error.the-variants.{OutputFull}
 use Rattle.words.specs.declared.places.Place.{Place}
 use Rattle.words.specs.declared.symbols.Scanned.{Scanned}
 use Rattle.words.specs.declared.symbols.Sign.the-variants.{Comma, Semicolon}
+use Rattle.words.specs.Places.{longestLine}
 use Rattle.space.specs.Moves.{copied}
 use Rattle.grammar.specs.Tests.{isSymbol, endsStatement}
 use Rattle.grammar.specs.Trees.{Item, comma, semicolon, shown}
@@ -46,14 +47,14 @@ shownAs p t = cond (p .ok) (answer.On (p .printer) t) (answer.Fault OutputFull)
 abbrev pub ShowsWorked : Worked → ℕ → Printer → List ℕ → List ℕ → Shown → List ℕ → Type 0
 ShowsWorked (worked.Fault e) used p space room r room′ = (r ≡ answer.Fault e) × (room′ ≡ room)
 ShowsWorked (worked.Whole w t) used p space room r room′ =
-    (r ≡ shownAs (printedAs p (length room) (texts.printed w)) t) × (room′ ≡ copied room (p .written) (texts.printed w))
+    (r ≡ shownAs (printedAs p (length room) (texts.printedNumber w)) t) × (room′ ≡ copied room (p .written) (texts.printedNumber w))
 ShowsWorked (worked.Text len t) used p space room r room′ =
     (r ≡ shownAs (printedAs p (length room) (take len (drop used space))) t)
     × (room′ ≡ copied room (p .written) (take len (drop used space)))
 
 -- the items of a PRINT that read from a token of the line on, up to one that ends the statement
 pub record Itemed (line : List ℕ) (first : Scanned) : Type 0 where
-  pub short : length line ≤ 255
+  pub short : length line ≤ longestLine
   pub scans : Scans line first
   pub all : List Item
   pub end : Scanned

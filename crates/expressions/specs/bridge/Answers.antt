@@ -16,7 +16,7 @@ use Rattle.grammar.specs.Trees.{Arguments, none}
 use Rattle.grammar.specs.Functions.{takes}
 use Rattle.grammar.specs.Formulas as formulas
 use Rattle.grammar.specs.Formulas.{Reading, after, called, enough, formulaAt, climbAt, operandAt, argumentsAt}
-use Rattle.expressions.specs.Types.{wholeOnly, joinedSort, callSort, sortOf, sortsOf, depthOf, deepestOf}
+use Rattle.expressions.specs.Types.{wholeOnly, joinedSort, callSort, sortOf, sortsOf, depthOf, deepestOf, deepestNesting}
 use Rattle.expressions.specs.declared.calls.Sorts.{Sorts}
 use Rattle.expressions.specs.declared.calls.Sorts.the-variants as sorts
 use Rattle.expressions.specs.declared.calls.Fit.{Fit}
@@ -61,7 +61,7 @@ abbrev pub cappedDepth : ℕ → ℕ
 cappedDepth d = min 9 d
 
 abbrev pub deeper : ℕ → ℕ
-deeper d = cond (leb d 8) (d + 1) d
+deeper d = cond (leb d deepestNesting) (d + 1) d
 
 abbrev pub answerOf : Reading → FormulaRead
 answerOf formulas.bad = formula.Bad

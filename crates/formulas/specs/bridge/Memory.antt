@@ -4,11 +4,12 @@ use mathlib.Core.Path.{_≡_}
 use mathlib.Core.List.{List}
 use Prim.Native.Nat.{ℕ, _≤_}
 use lib.ListN.{length}
-use Rattle.variables.specs.Strings.{Room}
+use Rattle.variables.specs.Strings.{Room, longestSpace}
 use Rattle.variables.specs.Variables.{Variables}
 use Rattle.whole.specs.declared.errors.Error.the-variants.{TypeMismatch}
 use Rattle.words.specs.declared.symbols.Scanned.{Scanned}
 use Rattle.words.specs.declared.places.Place.{Place}
+use Rattle.words.specs.Places.{longestLine}
 use Rattle.scanner.specs.Tokens.{tokenAt}
 use Rattle.grammar.specs.Trees.{Formula}
 use Rattle.grammar.specs.Formulas.{Reading, good}
@@ -41,8 +42,8 @@ pub record OperandReads (line : List ℕ) (t : Scanned) : Type 0 where
 pub record Ready (line lengths space : List ℕ) (used : ℕ) : Type 0 where
   pub variables : sumOf lengths ≤ used
   pub within : used ≤ length space
-  pub small : length space ≤ 16384
-  pub short : length line ≤ 255
+  pub small : length space ≤ longestSpace
+  pub short : length line ≤ longestLine
 
 -- what it ends with: the answer agrees with the formula's value
 pub record Evaluated (numberNames words stringNames lengths : List ℕ) (f : Formula) (u : Scanned) (before : List ℕ) (used : ℕ) (r : Worked) (after : List ℕ) : Type 0 where

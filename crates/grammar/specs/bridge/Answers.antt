@@ -6,7 +6,7 @@ use Prim.Native.Nat.{ℕ}
 use Rattle.words.specs.declared.symbols.Function.{Function}
 use Rattle.words.specs.declared.symbols.Token.{Token}
 use Rattle.grammar.specs.Tests.{onLine}
-use Rattle.grammar.specs.Functions.{takes, wants}
+use Rattle.grammar.specs.Functions.{formsOf, formFor, anyFor}
 use Rattle.grammar.specs.declared.wanting.Want.{Want}
 use Rattle.grammar.specs.declared.wanting.Wanted.{Wanted}
 use Rattle.grammar.specs.declared.wanting.Wanted.the-variants as wanted
@@ -28,5 +28,8 @@ packedWants true (a ∷ b ∷ []) = wanted.Two a b
 packedWants true (a ∷ b ∷ c ∷ []) = wanted.Three a b c
 packedWants true (a ∷ b ∷ c ∷ d ∷ ws) = wanted.NoForm
 
+abbrev pub wantedIn : List (List Want) → ℕ → Wanted
+wantedIn forms n = packedWants (anyFor forms n) (formFor forms n)
+
 abbrev pub wantedOf : Function → ℕ → Wanted
-wantedOf f n = packedWants (takes f n) (wants f n)
+wantedOf f n = wantedIn (formsOf f) n

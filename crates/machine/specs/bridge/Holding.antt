@@ -15,6 +15,7 @@ use Rattle.statements.specs.Statements.{PartReading, badPart, goodPart, partOf}
 use Rattle.variables.specs.Variables.{Variables}
 use Rattle.variables.specs.bridge.Memory.{numbersHeld, stringsHeld, TidyNumbers, TidyStrings}
 use Rattle.variables.specs.Tables.{sumOf, emptyTables}
+use Rattle.variables.specs.Strings.{longestSpace}
 use Rattle.machine.specs.Machine as spec
 use Rattle.machine.specs.Machine.{loop, call, mostRecords, columnAfter}
 use Rattle.statements.specs.Parts.{Rest, nothing, part}
@@ -140,7 +141,7 @@ pub record Settled (m : Machine) (space : List ℕ) : Type 0 where
   pub strings : TidyStrings (m .tables .strings)
   pub all : sumOf (m .tables .strings .lengths) ≡ m .used
   pub within : m .used ≤ length space
-  pub small : length space ≤ 16384
+  pub small : length space ≤ longestSpace
 
 -- of its printer and the room
 pub record Fitting (p : Printer) (room : List ℕ) : Type 0 where

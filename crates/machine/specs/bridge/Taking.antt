@@ -9,12 +9,13 @@ use Rattle.whole.specs.declared.errors.Error.the-variants.{LineBufferOverflow, 
 use Rattle.loader.specs.Lines.{Line, linesFrom}
 use Rattle.machine.specs.declared.taking.InputLine.{InputLine}
 use Rattle.machine.specs.declared.taking.InputLine.the-variants.{Is, Fault}
+use Rattle.machine.specs.Machine.{longestInputLine}
 
 -- the first of the lines that are left: 62 if there is none, 23 if it has over 254 bytes
 abbrev pub firstTaken : List Line → InputLine
 firstTaken [] = Fault InputPastEnd
 firstTaken (l ∷ ls) =
-    cond (ltb 254 (length (l .bytes))) (Fault LineBufferOverflow) (Is (record { end = l .start + length (l .bytes); next = l .next }))
+    cond (ltb longestInputLine (length (l .bytes))) (Fault LineBufferOverflow) (Is (record { end = l .start + length (l .bytes); next = l .next }))
 
 abbrev pub takenAt : List ℕ → ℕ → InputLine
 takenAt input p = firstTaken (linesFrom p (drop p input))

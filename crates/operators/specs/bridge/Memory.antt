@@ -10,6 +10,7 @@ use Rattle.variables.specs.Strings.{Value, whole, text, Room}
 use Rattle.whole.specs.declared.arithmetic.Operator.{Operator}
 use Rattle.whole.specs.declared.arithmetic.Operator.the-variants as operator
 use Rattle.whole.specs.declared.errors.Error.the-variants.{StringTooLong, OutOfStringSpace}
+use Rattle.whole.specs.Texts.{longestString}
 use Rattle.words.specs.declared.symbols.Scanned.{Scanned}
 use Rattle.words.specs.declared.places.Place.{Place}
 use Rattle.grammar.specs.Formulas.{tightOperator}
@@ -88,7 +89,7 @@ turnAs level (worked.Fault e) = turn.Ends
 -- a text of so many bytes, or room for it is missing
 abbrev pub joinedLength : ℕ → ℕ → ℕ → ℕ → Scanned → Worked
 joinedLength limit used a b t =
-    cond (ltb 255 (a + b)) (worked.Fault StringTooLong)
+    cond (ltb longestString (a + b)) (worked.Fault StringTooLong)
     (cond (ltb limit (used + (a + b) + (a + b))) (worked.Fault OutOfStringSpace) (worked.Text (a + b) t))
 
 -- what an operator makes of a left value and the right side's answer, whose text stands from `next` on: its error, or what the

@@ -2,8 +2,6 @@
 use mathlib.Core.Path.{_≡_, refl, sym}
 use mathlib.Core.Bool.{Bool, true, false, _||_, false≢true}
 use mathlib.Core.List.{List, [], _∷_, _++_}
-use Prim.Native.Nat.{ℕ}
-use native.Mathlib.Omega.{arith}
 use Rattle.words.specs.declared.places.LineNumber.{LineNumber}
 use Rattle.words.proofs.Choices.{by-test, both}
 use Rattle.loader.specs.Lines.{Line, afterNumber}
@@ -20,6 +18,7 @@ use Rattle.machine.specs.Machine.{Position, Record, backOf}
 use Rattle.runner.specs.Run.{Entered, over, faulty, opened, judgedLine, enter}
 use Rattle.promises.proofs.Records as records
 use Rattle.promises.proofs.Checked.Operators.{Allowed}
+use Rattle.whole.proofs.Never.{never}
 
 -- neither of two
 neither : (x y : Bool) → x || y ≡ false → (x ≡ false) × (y ≡ false)
@@ -88,7 +87,7 @@ module _ (all : List Line) where
   -- a recipe that passes has no faulty line
   sound-later : (s : Soundness) (n : LineNumber) (later : Unit {0} → Verdict) → orElse s n later ≡ Passed → (s ≡ Sound) × (later tt ≡ Passed)
   sound-later Sound n later e = (refl, e)
-  sound-later (Fault error) n later e = let z : _≡_ {A = ℕ} 0 1 = cc in absurd (omega arith)
+  sound-later (Fault error) n later e = never (cc)
 
   pub passed-lines : (ls : List Line) → firstFault all ls ≡ Passed → LinesChecked ls
   unfolding firstFault
@@ -104,15 +103,15 @@ module _ (all : List Line) where
   EnteredChecked (opened p) = PartChecked p
 
   sound-reads : (g : Judgement) → faultIn all g ≡ Sound → EnteredChecked (judgedLine g)
-  sound-reads unreadable e = let z : _≡_ {A = ℕ} 0 1 = cc in absurd (omega arith)
-  sound-reads tooDeep e = let z : _≡_ {A = ℕ} 0 1 = cc in absurd (omega arith)
+  sound-reads unreadable e = never (cc)
+  sound-reads tooDeep e = never (cc)
   sound-reads (holds p) e =
       let xs = statementsOf p in
       by-test (allTyped xs)
       (λ t. by-test (anyMissing all xs)
-      (λ n. let f = rw (t, n) at e in let z : _≡_ {A = ℕ} 0 1 = cc in absurd (omega arith))
+      (λ n. let f = rw (t, n) at e in never (cc))
       (λ n. all-checked xs t n))
-      (λ t. let f = rw t at e in let z : _≡_ {A = ℕ} 0 1 = cc in absurd (omega arith))
+      (λ t. let f = rw t at e in never (cc))
 
   pub enter-checked : (ls : List Line) → LinesChecked ls → EnteredChecked (enter ls)
   unfolding enter

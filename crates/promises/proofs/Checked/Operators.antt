@@ -9,7 +9,7 @@ use lib.Signed.{ltZ, leZ}
 use lib.ListN.{length}
 use Rattle.whole.specs.Bytes.{is}
 use Rattle.whole.specs.Digits.{signedValue, valOf}
-use Rattle.whole.specs.Texts.{shown, hexadecimal}
+use Rattle.whole.specs.Texts.{signedNumeral, hexadecimal, longestString}
 use Rattle.whole.specs.Whole.{num, fit, say, unlessZero, applied, magnitude}
 use Rattle.whole.specs.declared.arithmetic.Answer.{Answer}
 use Rattle.whole.specs.declared.arithmetic.Answer.the-variants as answer
@@ -37,7 +37,7 @@ use Rattle.words.specs.declared.symbols.Function.the-variants.{
   Fre,
 }
 use Rattle.grammar.specs.Functions.{gives}
-use Rattle.expressions.specs.Types.{ofKind, wholeOnly, alike, compared, joinedSort}
+use Rattle.expressions.specs.Types.{ofKind, wholeOnly, commonSort, compared, joinedSort}
 use Rattle.expressions.specs.declared.sorts.Sort.{Sort}
 use Rattle.expressions.specs.declared.sorts.Sort.the-variants.{Whole, Text, Wrong}
 use Rattle.variables.specs.Strings.{Value, whole, text, Room, Outcome, value, fault, then, make, letAllGo, produced}
@@ -153,7 +153,7 @@ rightOf op a room right =
 module _ (op : Operator) (given : Sort → Sort) (wholes : given Whole ≡ Whole) (wrongs : given Wrong ≡ Wrong)
     (texts : (a : List ℕ) (room : Room) (right : Outcome) → Fits Text right → Fits (given Text) (rightOf op a room right)) where
   given-fits : (s t : Sort) (left : Outcome) (right : Room → Outcome) → Fits s left → ((room : Room) → Fits t (right room))
-      → Fits (given (alike s t)) (sides op left right)
+      → Fits (given (commonSort s t)) (sides op left right)
   given-fits Whole Whole left right h k =
       rw wholes
       (then-whole Whole left _ h (λ a room.
@@ -168,7 +168,7 @@ module _ (op : Operator) (given : Sort → Sort) (wholes : given Whole ≡ Whole
 module _ (op : Operator) where
   -- what wants whole numbers
   whole-fits : (s t : Sort) (left : Outcome) (right : Room → Outcome) → Fits s left → ((room : Room) → Fits t (right room))
-      → Fits (wholeOnly (alike s t)) (sides op left right)
+      → Fits (wholeOnly (commonSort s t)) (sides op left right)
   whole-fits = given-fits op wholeOnly refl refl (λ a room right h. tt)
 
   -- what takes texts too
@@ -178,7 +178,7 @@ module _ (op : Operator) where
 
   compared-fits : wantsWhole op ≡ false → ((a b : List ℕ) (room : Room) → Fits Whole (onTexts op a b room))
       → (s t : Sort) (left : Outcome) (right : Room → Outcome) → Fits s left → ((room : Room) → Fits t (right room))
-      → Fits (compared (alike s t)) (sides op left right)
+      → Fits (compared (commonSort s t)) (sides op left right)
   compared-fits e k = given-fits op compared refl refl (text-fits Whole e k)
 
 said-fits : (t : Bool) (a b : List ℕ) (room : Room) → Fits Whole (answered (say t) (text a ∷ text b ∷ []) room)
@@ -187,7 +187,7 @@ said-fits t a b room = answered-fits (say t) (text a ∷ text b ∷ []) room (sa
 produced-fits : (bytes : List ℕ) (operands : List Value) (room : Room) → Fits Text (produced bytes operands room)
 unfolding produced
 produced-fits bytes operands room =
-    by-choice (Fits Text) (ltb 255 (length bytes)) refl (then-text Text (make bytes room) _ (make-fits bytes room) (λ b after. tt))
+    by-choice (Fits Text) (ltb longestString (length bytes)) refl (then-text Text (make bytes room) _ (make-fits bytes room) (λ b after. tt))
 
 pub sides-fit : (op : Operator) (s t : Sort) (left : Outcome) (right : Room → Outcome) → Fits s left → ((room : Room) → Fits t (right room))
     → Fits (joinedSort op s t) (sides op left right)
@@ -222,14 +222,14 @@ word-ranged right w vs room = by-choice (Fits Whole) right tt refl
 pub called-fits : (f : Function) (vs : List Value) (room : Room) → Fits (ofKind (gives f)) (called f vs room)
 called-fits Len vs room = tt
 called-fits Asc vs room = word-ranged (leb 1 (length (bytes vs 0))) _ vs room
-called-fits Chr vs room = text-ranged (within 0 255 (word vs 0)) _ vs room
-called-fits Left vs room = text-ranged (within 0 255 (word vs 1)) _ vs room
-called-fits Right vs room = text-ranged (within 0 255 (word vs 1)) _ vs room
-called-fits Mid vs room = text-ranged (within 1 255 (word vs 1) && within 0 255 (midLength vs)) _ vs room
-called-fits Space vs room = text-ranged (within 0 255 (word vs 0)) _ vs room
-called-fits String vs room = text-ranged (within 0 255 (word vs 0) && fillRight (argument vs 1)) _ vs room
-called-fits Instr vs room = word-ranged (within 1 255 (instrStart vs)) _ vs room
-called-fits Str vs room = produced-fits (shown (word vs 0)) vs room
+called-fits Chr vs room = text-ranged (within 0 (word vs 0)) _ vs room
+called-fits Left vs room = text-ranged (within 0 (word vs 1)) _ vs room
+called-fits Right vs room = text-ranged (within 0 (word vs 1)) _ vs room
+called-fits Mid vs room = text-ranged (within 1 (word vs 1) && within 0 (midLength vs)) _ vs room
+called-fits Space vs room = text-ranged (within 0 (word vs 0)) _ vs room
+called-fits String vs room = text-ranged (within 0 (word vs 0) && fillRight (argument vs 1)) _ vs room
+called-fits Instr vs room = word-ranged (within 1 (instrStart vs)) _ vs room
+called-fits Str vs room = produced-fits (signedNumeral (word vs 0)) vs room
 called-fits Hex vs room = produced-fits (hexadecimal (word vs 0)) vs room
 called-fits Val vs room = answered-fits (valOf (bytes vs 0)) vs room (val-answers _)
 called-fits Abs vs room = answered-fits (magnitude (word vs 0)) vs room (fit-answers _)

@@ -44,6 +44,7 @@ use Rattle.machine.specs.Machine.{
   found,
   sought,
   passed,
+  longestInputLine,
 }
 use Rattle.turns.specs.Steps.{
   Next,
@@ -243,7 +244,7 @@ module _ (all : List Line) where
   input-checked [] m v go e r k = refl
   input-checked (b ∷ s) m v go e r k =
       let t = takeLine (b ∷ s) in
-      by-choice NextChecked (ltb 254 (length (t .bytes))) refl
+      by-choice NextChecked (ltb longestInputLine (length (t .bytes))) refl
       (worked-text _ (make (t .bytes) _) _ (make-fits (t .bytes) _) r
       (λ c n q. filled-checked (v .kind) (v .telling) (t .bytes) n go e q k))
 

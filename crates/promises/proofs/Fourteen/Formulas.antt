@@ -12,6 +12,7 @@ use Rattle.whole.specs.declared.arithmetic.Answer.{Answer}
 use Rattle.whole.specs.declared.arithmetic.Answer.the-variants.{Whole, Fault}
 use Rattle.whole.specs.declared.arithmetic.Operator.{Operator}
 use Rattle.whole.specs.declared.errors.Error.the-variants.{OutOfStringSpace}
+use Rattle.whole.specs.Texts.{longestString}
 use Rattle.words.specs.declared.names.Kind.the-variants as kind
 use Rattle.words.specs.declared.symbols.Function.{Function}
 use Rattle.words.proofs.Choices.{by-test}
@@ -43,7 +44,7 @@ use Rattle.operators.specs.Values.{
 use Rattle.promises.specs.Unfinished.{bytesHeld, stringsHeld, allBytes, Grown, LiveIsExact}
 use Rattle.promises.specs.StringSpace as asks
 use Rattle.promises.specs.StringSpace.{Ask, bytesIn, Exceeds, textsIn, behind, Asks, AsksAmong}
-use Rattle.promises.proofs.Never.{never}
+use Rattle.whole.proofs.Never.{never}
 use Rattle.promises.proofs.Fourteen.Rooms as rooms
 use Rattle.promises.proofs.Fourteen.Rooms.{
   Spares,
@@ -101,13 +102,13 @@ then-over vs (value v r) e = never (cc)
 then-over vs (fault x r) e = e
 
 produced-over : (b : List ℕ) (vs : List Value) (room : Room) {after : Room} → produced b vs room ≡ fault OutOfStringSpace after
-    → (length b ≤ 255) × (room .limit < room .live + length b)
+    → (length b ≤ longestString) × (room .limit < room .live + length b)
 unfolding produced
 produced-over b vs room e =
-    by-test (ltb 255 (length b)) (λ t. let f = rw t at e in never (cc))
+    by-test (ltb longestString (length b)) (λ t. let f = rw t at e in never (cc))
     (λ t. (ltb-false _ _ t, make-over b room (then-over vs (make b room) (rw t at e))))
 
-produced-refused : (b : List ℕ) (vs : List Value) (room : Room) → length b ≤ 255 → room .limit < room .live + length b
+produced-refused : (b : List ℕ) (vs : List Value) (room : Room) → length b ≤ longestString → room .limit < room .live + length b
     → produced b vs room ≡ fault OutOfStringSpace room
 unfolding produced
 produced-refused b vs room s h = rw (le-ltb _ _ s, make-refused b room h)

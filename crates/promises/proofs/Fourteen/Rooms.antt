@@ -9,9 +9,9 @@ use lib.Dec.{ltb, leb, eqb}
 use lib.IntN.{ℤ, pos, negsuc, _+ℤ_, _-ℤ_, _*ℤ_, negℤ, natAbs}
 use lib.Signed.{ltZ, leZ, quotZ, remZ}
 use lib.ListN.{length, take, drop, getD, replicate}
-use Rattle.whole.specs.Bytes.{is}
+use Rattle.whole.specs.Bytes.{is, blank}
 use Rattle.whole.specs.Digits.{leadingValue, signedValue, valOf}
-use Rattle.whole.specs.Texts.{shown, hexadecimal}
+use Rattle.whole.specs.Texts.{signedNumeral, hexadecimal, longestString}
 use Rattle.whole.specs.Whole.{num, fit, unlessZero, say, applied, negated, magnitude, signum}
 use Rattle.whole.specs.declared.arithmetic.Answer.{Answer}
 use Rattle.whole.specs.declared.arithmetic.Answer.the-variants.{Whole, Fault}
@@ -45,7 +45,7 @@ use Rattle.strings.specs.Functions.{
 }
 use Rattle.operators.specs.Values.{wholeThen, isBefore, onTexts, joined, leftRight, sides, Taken, taken, stopped, result, valueOf, valuesOf}
 use Rattle.promises.specs.StringSpace.{Produces}
-use Rattle.promises.proofs.Never.{never}
+use Rattle.whole.proofs.Never.{never}
 
 -- ---- an answer of the arithmetic is never 14
 
@@ -124,25 +124,25 @@ module _ (vs : List Value) where
   call-view function.Len = whole-view _ (length (bytes vs 0)) (λ room. refl)
   call-view function.Asc =
       by-test (leb 1 (length (bytes vs 0))) (λ e. whole-view _ (getD (bytes vs 0) 0 0) (λ room. rw e)) (λ e. refuses (λ room. rw e))
-  call-view function.Chr = by-test (within 0 255 (word vs 0)) (λ e. makes (word vs 0 ∷ []) (λ room. rw e)) (λ e. refuses (λ room. rw e))
+  call-view function.Chr = by-test (within 0 (word vs 0)) (λ e. makes (word vs 0 ∷ []) (λ room. rw e)) (λ e. refuses (λ room. rw e))
   call-view function.Left =
-      by-test (within 0 255 (word vs 1)) (λ e. makes (take (word vs 1) (bytes vs 0)) (λ room. rw e)) (λ e. refuses (λ room. rw e))
+      by-test (within 0 (word vs 1)) (λ e. makes (take (word vs 1) (bytes vs 0)) (λ room. rw e)) (λ e. refuses (λ room. rw e))
   call-view function.Right =
-      by-test (within 0 255 (word vs 1)) (λ e. makes (drop (length (bytes vs 0) - word vs 1) (bytes vs 0)) (λ room. rw e))
+      by-test (within 0 (word vs 1)) (λ e. makes (drop (length (bytes vs 0) - word vs 1) (bytes vs 0)) (λ room. rw e))
       (λ e. refuses (λ room. rw e))
   call-view function.Mid =
-      by-test (within 1 255 (word vs 1) && within 0 255 (midLength vs))
+      by-test (within 1 (word vs 1) && within 0 (midLength vs))
       (λ e. makes (take (midLength vs) (drop (word vs 1 - 1) (bytes vs 0))) (λ room. rw e)) (λ e. refuses (λ room. rw e))
   call-view function.Space =
-      by-test (within 0 255 (word vs 0)) (λ e. makes (replicate (word vs 0) 32) (λ room. rw e)) (λ e. refuses (λ room. rw e))
+      by-test (within 0 (word vs 0)) (λ e. makes (replicate (word vs 0) blank) (λ room. rw e)) (λ e. refuses (λ room. rw e))
   call-view function.String =
-      by-test (within 0 255 (word vs 0) && fillRight (argument vs 1))
+      by-test (within 0 (word vs 0) && fillRight (argument vs 1))
       (λ e. makes (replicate (word vs 0) (fillByte (argument vs 1))) (λ room. rw e)) (λ e. refuses (λ room. rw e))
   call-view function.Instr =
-      by-test (within 1 255 (instrStart vs))
+      by-test (within 1 (instrStart vs))
       (λ e. whole-view _ (placeOf (instrStart vs) (bytes vs (instrTexts vs)) (bytes vs (suc (instrTexts vs)))) (λ room. rw e))
       (λ e. refuses (λ room. rw e))
-  call-view function.Str = makes (shown (word vs 0)) (λ room. refl)
+  call-view function.Str = makes (signedNumeral (word vs 0)) (λ room. refl)
   call-view function.Hex = makes (hexadecimal (word vs 0)) (λ room. refl)
   call-view function.Val = answer-view _ (valOf (bytes vs 0)) (signed-spares _) (λ room. refl)
   call-view function.Abs = answer-view _ (magnitude (word vs 0)) (fit-spares (pos (natAbs (num (word vs 0))))) (λ room. refl)
@@ -219,7 +219,7 @@ let-go-fits vs (fault e room) h = tt
 
 produced-fits : (b : List ℕ) (vs : List Value) (room : Room) → TextFits (produced b vs room)
 unfolding produced
-produced-fits b vs room = by-test (ltb 255 (length b)) (λ e. rw e tt) (λ e. rw e (let-go-fits vs (make b room) (make-fits b room)))
+produced-fits b vs room = by-test (ltb longestString (length b)) (λ e. rw e tt) (λ e. rw e (let-go-fits vs (make b room) (make-fits b room)))
 
 answered-fits : (a : Answer) (vs : List Value) (room : Room) → TextFits (answered a vs room)
 answered-fits (Whole w) vs room = tt

@@ -4,25 +4,22 @@ use mathlib.Core.List.{List, [], _∷_}
 use mathlib.Core.Logic.{_↔_}
 use Prim.Native.Nat.{ℕ, zero, suc}
 use borrow.Author.Tests.{le-ltb}
-use lib.Dec.{ltb}
-use lib.ListN.{length, drop}
-use Rattle.whole.specs.Digits.{leadingDigits}
 use Rattle.whole.specs.declared.errors.Error.the-variants.{OutOfStringSpace}
 use Rattle.words.specs.declared.places.LineNumber.{LineNumber}
-use Rattle.words.proofs.Choices.{by-test}
-use Rattle.loader.specs.Lines.{Line, linesOf, nextLine}
+use Rattle.loader.specs.Lines.{Line, linesOf, afterNumber, nextLine}
 use Rattle.grammar.specs.Trees.{Statement, Part}
-use Rattle.statements.specs.Statements.{LineReading, doesNotRead, reads, readLine}
-use Rattle.statements.specs.Parts.{statementsOf, deepestIn, Rest, nothing, part, headOf, tailOf, placeOf}
+use Rattle.reader.specs.Lines.{Judgement, unreadable, tooDeep, holds, judgement}
+use Rattle.statements.specs.Parts.{Rest, nothing, part, headOf, tailOf, placeOf}
 use Rattle.variables.specs.Variables.{stringBytes}
 use Rattle.machine.specs.Machine.{Position, Machine, Lent, fresh, withStep}
+use Rattle.variables.specs.Strings.{longestSpace}
 use Rattle.turns.specs.Steps.{Next, goesOn, enters, ends, stops, fails, doStatement}
 use Rattle.runner.specs.Run.{Ran, endsWith, lineNumberOf, judgedLine, enter, Standing, finished, at, byEntered, entering, onward, following, turn, running, runOf}
 use Rattle.runner.specs.declared.running.Outcome.the-variants.{Failed}
 use Rattle.promises.specs.Unfinished.{LiveIsExact}
 use Rattle.promises.specs.StringSpace as asks
 use Rattle.promises.specs.StringSpace.{Ask, Exceeds, StatementAsks, Begins, AsksTooMuch}
-use Rattle.promises.proofs.Never.{never}
+use Rattle.whole.proofs.Never.{never}
 use Rattle.promises.proofs.Limits.Keeping.{Keeps}
 use Rattle.promises.proofs.Limits.Bounds.{Stands, entering-stands, turn-stands, RunView, long, unloaded, runs, run-view}
 use Rattle.promises.proofs.Fourteen.Statements.{told, StatementOver, statement-tells, StatementFails, statement-fails}
@@ -34,14 +31,15 @@ Unfailed (finished r) = (l : LineNumber) → r .ending ≡ Failed OutOfStringSpa
 Unfailed (at m lines p) = Unit {0}
 
 -- a line is judged 2 or 16
-judged-unfailed : (x : LineReading) (m : Machine) (lines : List Line) → Unfailed (byEntered (judgedLine x) m lines)
-judged-unfailed doesNotRead m lines = λ l e. never (cc)
-judged-unfailed (reads p) m lines = by-test (ltb 8 (deepestIn (statementsOf p))) (λ t. rw t (λ l e. never (cc))) (λ t. rw t tt)
+judged-unfailed : (g : Judgement) (m : Machine) (lines : List Line) → Unfailed (byEntered (judgedLine g) m lines)
+judged-unfailed unreadable m lines = λ l e. never (cc)
+judged-unfailed tooDeep m lines = λ l e. never (cc)
+judged-unfailed (holds p) m lines = tt
 
 entering-unfailed : (m : Machine) (lines : List Line) → Unfailed (entering m lines)
 unfolding enter
 entering-unfailed m [] = λ l e. never (cc)
-entering-unfailed m (l ∷ ls) = judged-unfailed (readLine (drop (length (leadingDigits (l .bytes))) (l .bytes))) m (l ∷ ls)
+entering-unfailed m (l ∷ ls) = judged-unfailed (judgement (afterNumber l)) m (l ∷ ls)
 
 onward-unfailed : (m : Machine) (lines : List Line) (rest : Rest) → Unfailed (onward m lines rest)
 onward-unfailed m lines nothing = entering-unfailed m (nextLine lines)
@@ -188,7 +186,7 @@ module _ (exact : LiveIsExact) (text input : List ℕ) (lent : Lent) (budget : �
   unfolding runOf
   asked-fails l a =
       let same = begun-space text (lent .space) budget start (a .from) (a .place) (a .statement) (a .machine) (a .begins) start-space in
-      rw (le-ltb 16384 (lent .space) (a .small), a .loads, ← (a .numbered))
+      rw (le-ltb longestSpace (lent .space) (a .small), a .loads, ← (a .numbered))
       (running-fails exact text (lent .space) budget start (a .from) (a .place) (a .statement) (a .machine) (a .begins)
       (λ rest. statement-fails exact text (a .place) (a .statement) (a .machine) (record { lines = a .from; rest = rest }) (a .ask) (a .asks) (rw same (a .exceeds))))
 

@@ -48,6 +48,7 @@ use Rattle.machine.specs.Machine.{
   found,
   sought,
   passed,
+  longestInputLine,
 }
 use Rattle.turns.specs.Steps.{
   Next,
@@ -87,7 +88,7 @@ use Rattle.turns.specs.Steps.{
 use Rattle.promises.specs.Unfinished.{LiveIsExact}
 use Rattle.promises.specs.StringSpace as asks
 use Rattle.promises.specs.StringSpace.{Ask, bytesIn, Exceeds, FormulaAsks, PrintAsks, StatementAsks}
-use Rattle.promises.proofs.Never.{never}
+use Rattle.whole.proofs.Never.{never}
 use Rattle.promises.proofs.Fourteen.Rooms.{Spares, applied-spares}
 use Rattle.promises.proofs.Fourteen.Formulas.{make-over, make-refused, formula-over, formula-fails}
 
@@ -213,16 +214,16 @@ module _ (X : Type 0) where
 
   -- the line of input that was taken asks for its bytes
   taken-tells : (m : Machine) (v : Variable) (t : Taken) (go : Machine → Next)
-      → (length (t .bytes) ≤ 254 → m .space < stringBytes (m .variables .strings) + length (t .bytes) → X)
+      → (length (t .bytes) ≤ longestInputLine → m .space < stringBytes (m .variables .strings) + length (t .bytes) → X)
       → ((n : Machine) → Tells X (go n)) → Tells X (lineTaken m v t go)
   taken-tells m v t go over h =
-      by-test (ltb 254 (length (t .bytes))) (λ e. rw e (λ x. never (cc)))
+      by-test (ltb longestInputLine (length (t .bytes))) (λ e. rw e (λ x. never (cc)))
       (λ e. rw e
       (worked-tells _ (make (t .bytes) (roomOf m)) _ (λ room f. over (ltb-false _ _ e) (make-over (t .bytes) (roomOf m) f))
       (λ b room f. filled-tells (v .kind) (v .telling) (t .bytes) _ go h)))
 
   input-tells : (given : List ℕ) (m : Machine) (v : Variable) (go : Machine → Next)
-      → ((b : ℕ) (s : List ℕ) → given ≡ b ∷ s → length (takeLine (b ∷ s) .bytes) ≤ 254
+      → ((b : ℕ) (s : List ℕ) → given ≡ b ∷ s → length (takeLine (b ∷ s) .bytes) ≤ longestInputLine
       → m .space < stringBytes (m .variables .strings) + length (takeLine (b ∷ s) .bytes) → X)
       → ((n : Machine) → Tells X (go n)) → Tells X (inputLine given m v go)
   input-tells [] m v go over h = λ t. never (cc)
@@ -342,4 +343,4 @@ module _ (exact : LiveIsExact) where
       let taken = withInput n (line .left) (n .taken + (length (n .input) - length (line .left))) in
       let x = over-after {m = m} {n = n} (record { unfinished = []; bytes = line .bytes }) (write-same m t n w) h in
       let refused = make-refused (line .bytes) (roomOf taken) (omega (arith, x)) in
-      (noting taken (roomOf taken), rw (w, e, le-ltb 254 (length (line .bytes)) short, refused))
+      (noting taken (roomOf taken), rw (w, e, le-ltb longestInputLine (length (line .bytes)) short, refused))

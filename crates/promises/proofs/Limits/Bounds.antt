@@ -19,7 +19,7 @@ use Rattle.loader.specs.declared.refusals.Refusal.{Refusal}
 use Rattle.loader.specs.declared.refusals.Refusal.the-variants.{SpaceTooLong}
 use Rattle.grammar.specs.Trees.{Formula, Part}
 use Rattle.variables.specs.Strings as string
-use Rattle.variables.specs.Strings.{Room, value}
+use Rattle.variables.specs.Strings.{Room, value, longestSpace}
 use Rattle.variables.specs.Variables.{stringBytes}
 use Rattle.operators.specs.Values.{valueOf}
 use Rattle.machine.specs.Machine.{Machine, Lent, fresh, roomOf, withStep}
@@ -77,20 +77,20 @@ running-keeps P k step (suc n) program (at m lines p) h =
 -- ---- a whole run: it is refused, or it is the turns from the first line on
 
 pub data RunView (text input : List ℕ) (lent : Lent) (budget : ℕ) : Type 0 where
-  long : 16384 < lent .space → runOf text input lent budget ≡ endsWith (Refused SpaceTooLong (place 0)) (fresh input lent)
+  long : longestSpace < lent .space → runOf text input lent budget ≡ endsWith (Refused SpaceTooLong (place 0)) (fresh input lent)
       → RunView text input lent budget
-  unloaded : (r : Refusal) (p : Place) → lent .space ≤ 16384 → loadOf text ≡ loaded.Refused r p
+  unloaded : (r : Refusal) (p : Place) → lent .space ≤ longestSpace → loadOf text ≡ loaded.Refused r p
       → runOf text input lent budget ≡ endsWith (Refused r p) (fresh input lent) → RunView text input lent budget
-  runs : lent .space ≤ 16384 → loadOf text ≡ loaded.Fine
+  runs : lent .space ≤ longestSpace → loadOf text ≡ loaded.Fine
       → runOf text input lent budget ≡ running budget text (entering (fresh input lent) (linesOf text))
       → RunView text input lent budget
 
 pub run-view : (text input : List ℕ) (lent : Lent) (budget : ℕ) → RunView text input lent budget
 unfolding runOf
 run-view text input lent budget =
-    by-test (ltb 16384 (lent .space)) (λ t. long (ltb-true _ _ t) (rw t)) (λ t. loads (loadOf text) refl t)
+    by-test (ltb longestSpace (lent .space)) (λ t. long (ltb-true _ _ t) (rw t)) (λ t. loads (loadOf text) refl t)
   where
-    loads : (x : Loaded) → loadOf text ≡ x → ltb 16384 (lent .space) ≡ false → RunView text input lent budget
+    loads : (x : Loaded) → loadOf text ≡ x → ltb longestSpace (lent .space) ≡ false → RunView text input lent budget
     loads loaded.Fine e t = runs (ltb-false _ _ t) e (rw (t, e))
     loads (loaded.Refused r p) e t = unloaded r p (ltb-false _ _ t) e (rw (t, e))
 

@@ -44,6 +44,7 @@ use Rattle.machine.specs.Machine.{
   found,
   sought,
   passed,
+  longestInputLine,
 }
 use Rattle.turns.specs.Steps.{
   Next,
@@ -81,7 +82,7 @@ use Rattle.turns.specs.Steps.{
   lineOver,
   doStatement,
 }
-use Rattle.promises.proofs.Never.{never}
+use Rattle.whole.proofs.Never.{never}
 
 -- what holds of the machine that a statement leaves, wherever it leads
 abbrev pub Leaves : (Machine → Type 0) → Next → Type 0
@@ -230,7 +231,7 @@ module _ (P : Machine → Type 0) (k : Keeps P) where
   taken-keeps : (m : Machine) (v : Variable) (t : Taken) (go : Machine → Next) → length (t .left) ≤ length (m .input) → P m
       → ((n : Machine) → P n → Leaves P (go n)) → Leaves P (lineTaken m v t go)
   taken-keeps m v t go less p h =
-      by-test (ltb 254 (length (t .bytes))) (λ e. rw e p)
+      by-test (ltb longestInputLine (length (t .bytes))) (λ e. rw e p)
       (λ e. rw e (filled-keeps _ (t .bytes) (v .kind) (v .telling) go (k .takes m (t .left) less p) h))
 
   input-keeps : (input : List ℕ) (m : Machine) (v : Variable) (go : Machine → Next) → m .input ≡ input → P m

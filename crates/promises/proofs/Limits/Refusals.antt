@@ -17,8 +17,9 @@ use Rattle.runner.specs.Run.{endsWith, lineNumberOf, Entered, over, faulty, ope
 use Rattle.runner.specs.declared.running.Outcome.{Outcome}
 use Rattle.runner.specs.declared.running.Outcome.the-variants.{Refused}
 use Rattle.promises.specs.Demands.{RefusedFor, longSpace, notLoaded}
-use Rattle.promises.proofs.Never.{never}
+use Rattle.whole.proofs.Never.{never}
 use Rattle.promises.proofs.Limits.Bounds.{RunView, long, unloaded, runs, run-view}
+use Rattle.variables.specs.Strings.{longestSpace}
 
 -- ---- a run that was begun
 
@@ -76,8 +77,8 @@ module _ (text input : List ℕ) (lent : Lent) (budget : ℕ) where
   for-view : (r : Refusal) (p : Place) → RefusedFor text lent r p
       → runOf text input lent budget ≡ endsWith (Refused r p) (fresh input lent)
   unfolding runOf
-  for-view r p (longSpace h) = rw (lt-ltb 16384 (lent .space) h)
-  for-view r p (notLoaded h l) = rw (le-ltb 16384 (lent .space) h, l)
+  for-view r p (longSpace h) = rw (lt-ltb longestSpace (lent .space) h)
+  for-view r p (notLoaded h l) = rw (le-ltb longestSpace (lent .space) h, l)
 
   pub refused-exactly : (r : Refusal) (p : Place) → (runOf text input lent budget .ending ≡ Refused r p) ↔ RefusedFor text lent r p
   refused-exactly r p = (refused-view (run-view text input lent budget) r p, λ h. ap (λ x. x .ending) (for-view r p h))

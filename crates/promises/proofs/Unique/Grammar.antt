@@ -7,14 +7,8 @@ use Rattle.promises.proofs.Unique.{same}
 pub gives : Unique grammar.gives.Kinds.ps grammar.gives.Kinds.r grammar.gives.Reads.Pre grammar.gives.Reads.Post
 gives κs a p z z′ ws ws′ e e′ = (same e e′, refl)
 
-pub wants-one : Unique grammar.wants_one.Kinds.ps grammar.wants_one.Kinds.r grammar.wants_one.Reads.Pre grammar.wants_one.Reads.Post
-wants-one κs a p z z′ ws ws′ e e′ = (same e e′, refl)
-
-pub wants-two : Unique grammar.wants_two.Kinds.ps grammar.wants_two.Kinds.r grammar.wants_two.Reads.Pre grammar.wants_two.Reads.Post
-wants-two κs a p z z′ ws ws′ e e′ = (same e e′, refl)
-
-pub wants-three : Unique grammar.wants_three.Kinds.ps grammar.wants_three.Kinds.r grammar.wants_three.Reads.Pre grammar.wants_three.Reads.Post
-wants-three κs a p z z′ ws ws′ e e′ = (same e e′, refl)
+pub wants : Unique grammar.wants.Kinds.ps grammar.wants.Kinds.r grammar.wants.Reads.Pre grammar.wants.Reads.Post
+wants κs a p z z′ ws ws′ e e′ = (same e e′, refl)
 
 pub is-symbol : Unique grammar.is_symbol.Kinds.ps grammar.is_symbol.Kinds.r grammar.is_symbol.Reads.Pre grammar.is_symbol.Reads.Post
 is-symbol κs a p z z′ ws ws′ e e′ = (same e e′, refl)

@@ -4,6 +4,9 @@ use Rattle.space.proofs as space
 use Rattle.promises.specs.Calls.{Unique}
 use Rattle.promises.proofs.Unique.{same, pair}
 
+pub fits : Unique space.fits.Kinds.ps space.fits.Kinds.r space.fits.Reads.Pre space.fits.Reads.Post
+fits κs a p z z′ ws ws′ e e′ = (same e e′, refl)
+
 pub copy-in : Unique space.copy_in.Kinds.ps space.copy_in.Kinds.r space.copy_in.Reads.Pre space.copy_in.Reads.Post
 copy-in κs a p z z′ ws ws′ e e′ = (refl, pair (same e e′) refl)
 

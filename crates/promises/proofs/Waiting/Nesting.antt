@@ -16,7 +16,7 @@ use Rattle.words.proofs.Choices.{by-test, both}
 use Rattle.grammar.specs.Trees.{Formula, number, variable, text, inside, minus, complement, twoSided, call, Arguments, none, also}
 use Rattle.grammar.specs.Functions.{formsOf, formFor, anyFor, wants, takes}
 use Rattle.grammar.specs.Formulas.{levelOf, notLevel, tightest, countOf}
-use Rattle.expressions.specs.Types.{depthOf, deepestOf}
+use Rattle.expressions.specs.Types.{depthOf, deepestOf, deepestNesting}
 use Rattle.grammar.specs.declared.wanting.Want.{Want}
 use Rattle.grammar.specs.declared.wanting.Want.the-variants as want
 use Rattle.expressions.proofs.Levelled.{Levelled, AllLevelled}
@@ -157,7 +157,7 @@ mutual
 -- a formula whose operators stand in their order, whose functions have as many arguments as they take, and that nests at most 8 deep
 pub record Fine (f : Formula) : Type 0 where
   pub level : Levelled 0 f
-  pub deep : depthOf f ≤ 8
+  pub deep : depthOf f ≤ deepestNesting
 
 -- eight deep, 2 + 3 · 8 + 2 is the most
 pub needs-few : {f : Formula} → Fine f → needs f ≤ mostUnfinished

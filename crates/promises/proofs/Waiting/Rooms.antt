@@ -8,10 +8,11 @@ use lib.Dec.{leb, ltb}
 use lib.IntN.{pos}
 use lib.ListN.{length, take, drop, getD, replicate}
 use Rattle.whole.specs.Digits.{valOf}
-use Rattle.whole.specs.Texts.{shown, hexadecimal}
+use Rattle.whole.specs.Texts.{signedNumeral, hexadecimal, longestString}
 use Rattle.whole.specs.Whole.{fit, magnitude, signum}
 use Rattle.whole.specs.declared.arithmetic.Answer.{Answer}
 use Rattle.whole.specs.declared.arithmetic.Answer.the-variants.{Whole, Fault}
+use Rattle.whole.specs.Bytes.{blank}
 use Rattle.words.specs.declared.symbols.Function.{Function}
 use Rattle.words.specs.declared.symbols.Function.the-variants.{Len, Asc, Chr, Left, Right, Mid, Space, String, Instr, Str, Hex, Val, Abs, Sgn, Fre}
 use Rattle.words.proofs.Choices.{by-test}
@@ -79,7 +80,7 @@ module _ (top : ℕ) where
       unfolding produced make
       produced-good b =
           let g = k .grown in
-          by-test (ltb 255 (length b)) (λ e. rw e (k .low)) λ e. rw e
+          by-test (ltb longestString (length b)) (λ e. rw e (k .low)) λ e. rw e
           (by-test (ltb (after .limit) (after .live + length b)) (λ f. rw f (k .low)) λ f. rw f
           (let-go-kept vs
           (record { grown = record { limit = g .limit; live = omega arith; unfinished = omega arith }; low = omega (arith, k .low) })))
@@ -87,21 +88,21 @@ module _ (top : ℕ) where
       pub called-good : (f : Function) → Good before (called f vs after)
       called-good Len = answered-good (Whole (length (bytes vs 0)))
       called-good Asc = ranged-good (leb 1 (length (bytes vs 0))) _ (answered-good (Whole (getD (bytes vs 0) 0 0)))
-      called-good Chr = ranged-good (within 0 255 (word vs 0)) _ (produced-good (word vs 0 ∷ []))
-      called-good Left = ranged-good (within 0 255 (word vs 1)) _ (produced-good (take (word vs 1) (bytes vs 0)))
+      called-good Chr = ranged-good (within 0 (word vs 0)) _ (produced-good (word vs 0 ∷ []))
+      called-good Left = ranged-good (within 0 (word vs 1)) _ (produced-good (take (word vs 1) (bytes vs 0)))
       called-good Right =
-          ranged-good (within 0 255 (word vs 1)) _ (produced-good (drop (length (bytes vs 0) - word vs 1) (bytes vs 0)))
+          ranged-good (within 0 (word vs 1)) _ (produced-good (drop (length (bytes vs 0) - word vs 1) (bytes vs 0)))
       called-good Mid =
-          ranged-good (within 1 255 (word vs 1) && within 0 255 (midLength vs)) _
+          ranged-good (within 1 (word vs 1) && within 0 (midLength vs)) _
           (produced-good (take (midLength vs) (drop (word vs 1 - 1) (bytes vs 0))))
-      called-good Space = ranged-good (within 0 255 (word vs 0)) _ (produced-good (replicate (word vs 0) 32))
+      called-good Space = ranged-good (within 0 (word vs 0)) _ (produced-good (replicate (word vs 0) blank))
       called-good String =
-          ranged-good (within 0 255 (word vs 0) && fillRight (argument vs 1)) _
+          ranged-good (within 0 (word vs 0) && fillRight (argument vs 1)) _
           (produced-good (replicate (word vs 0) (fillByte (argument vs 1))))
       called-good Instr =
-          ranged-good (within 1 255 (instrStart vs)) _
+          ranged-good (within 1 (instrStart vs)) _
           (answered-good (Whole (placeOf (instrStart vs) (bytes vs (instrTexts vs)) (bytes vs (suc (instrTexts vs))))))
-      called-good Str = produced-good (shown (word vs 0))
+      called-good Str = produced-good (signedNumeral (word vs 0))
       called-good Hex = produced-good (hexadecimal (word vs 0))
       called-good Val = answered-good (valOf (bytes vs 0))
       called-good Abs = answered-good (magnitude (word vs 0))

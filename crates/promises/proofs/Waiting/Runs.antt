@@ -20,6 +20,7 @@ use Rattle.promises.specs.Unfinished.{mostUnfinished, fewUnfinished, mos
 use Rattle.promises.proofs.Waiting.Nesting.{Fine}
 use Rattle.promises.proofs.Waiting.Reading.{Each, Every, parts-split, PartFine, EnteredFine, line-fine}
 use Rattle.promises.proofs.Waiting.Turns.{RestFine, Sound, NextFine, statement-sound}
+use Rattle.variables.specs.Strings.{longestSpace}
 
 abbrev StandingFine : Standing → Type 0
 StandingFine (finished r) = r .machine .highest ≤ mostUnfinished
@@ -86,7 +87,7 @@ unfolding runOf
 run-few text input lent budget =
     let m = fresh input lent in
     let s = fresh-sound input lent in
-    by-test (ltb 16384 (lent .space)) (λ e. rw e (s .few)) λ e. rw e
+    by-test (ltb longestSpace (lent .space)) (λ e. rw e (s .few)) λ e. rw e
     (loaded-few (loadOf text) m _ (s .few) (running-few budget text (entering m (linesOf text)) (entering-fine m (linesOf text) s)))
 
 pub few-unfinished : fewUnfinished

@@ -20,7 +20,7 @@ use Rattle.statements.specs.Parts.{itemFormulas, formulasOf, Rest, nothing, par
 use Rattle.variables.specs.Strings.{Value, whole, text, Room, Outcome, value, fault, make}
 use Rattle.variables.specs.Variables.{wordOf, numbersFull, stringsFull}
 use Rattle.operators.specs.Values.{valueOf}
-use Rattle.machine.specs.Machine.{Position, Record, loop, call, Machine, mostRecords, roomOf, withInput, noting, write, commaBlanks, Search, missing, found, sought, passed, isCall, isLoop, isLoopOf, backOf}
+use Rattle.machine.specs.Machine.{Position, Record, loop, call, Machine, mostRecords, roomOf, withInput, noting, write, commaBlanks, Search, missing, found, sought, passed, isCall, isLoop, isLoopOf, backOf, longestInputLine}
 use Rattle.turns.specs.Steps.{Next, goesOn, enters, ends, stops, fails, worked, wholeOnly, workedWhole, withNumber, assigned, written, shownValue, printItems, toLine, pushed, returned, turned, nextOn, takeLine, filled, inputLine, isWholeKind, doStatement, cleared, begun}
 use Rattle.promises.specs.Unfinished.{mostUnfinished}
 use Rattle.promises.proofs.Records as records
@@ -166,7 +166,7 @@ input-sound (b ∷ rest) m v after s h =
     let t = takeLine (b ∷ rest) in
     let n = withInput m (t .left) (m .taken + (length (m .input) - length (t .left))) in
     let i : Sound n = record { few = s .few; held = s .held } in
-    either-fine (ltb 254 (length (t .bytes))) _ _ s
+    either-fine (ltb longestInputLine (length (t .bytes))) _ _ s
     (worked-sound (make (t .bytes) (roomOf n)) _ i
     (make-good mostUnfinished (t .bytes) (roomOf n) (s .few) (omega arith))
     (λ x o u. filled-sound (v .kind) (v .telling) (t .bytes) after u h))

@@ -13,6 +13,7 @@ use Rattle.words.specs.declared.symbols.Word.the-variants.{Else}
 use Rattle.scanner.specs.Tokens.{tokenAt}
 use Rattle.grammar.specs.Tests.{choose, isSymbol, isKeyword, endsLine}
 use Rattle.grammar.specs.Trees.{Part}
+use Rattle.expressions.specs.Types.{deepestNesting}
 use Rattle.expressions.specs.bridge.Answers.{weight}
 use Rattle.statements.specs.Parts.{partsOf}
 use Rattle.statements.specs.Statements.{PartReading, badPart, goodPart, partOf}
@@ -122,7 +123,7 @@ Further s p start.None = Unit {0}
 -- ---- judging
 
 abbrev pub verdictOf : Tally → Judged
-verdictOf t = cond (ltb 8 (t .deepest)) TooDeep (Reads (t .typed))
+verdictOf t = cond (ltb deepestNesting (t .deepest)) TooDeep (Reads (t .typed))
 
 -- one statement more
 abbrev pub withOwn : Tally → Own → Tally

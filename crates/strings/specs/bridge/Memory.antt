@@ -6,7 +6,7 @@ use Prim.Native.Nat.{ℕ, _+_, _≤_}
 use lib.ListN.{length, take, drop}
 use Rattle.words.specs.declared.symbols.Scanned.{Scanned}
 use Rattle.variables.specs.bridge.Memory.{Made}
-use Rattle.variables.specs.Strings.{Value, whole, text, Room, Outcome}
+use Rattle.variables.specs.Strings.{Value, whole, text, Room, Outcome, longestSpace}
 use Rattle.variables.specs.declared.values.Worked.{Worked}
 use Rattle.variables.specs.declared.values.Worked.the-variants as worked
 use Rattle.strings.specs.declared.arguments.Argument.{Argument}
@@ -70,7 +70,7 @@ valuesIn (given.Three a b c) s =
 -- the arguments' texts lie in the space
 pub record Placed (space : List ℕ) (used : ℕ) (g : Given) : Type 0 where
   pub within : used + givenLength g ≤ length space
-  pub small : length space ≤ 16384
+  pub small : length space ≤ longestSpace
 
 -- what a function makes of the arguments' values, which are live until it has made it
 abbrev pub MadeOf : (List Value → Room → Outcome) → List ℕ → ℕ → Given → Scanned → Worked → List ℕ → Type 0

@@ -10,6 +10,7 @@ use Rattle.words.specs.declared.names.Telling.{Telling}
 use Rattle.words.specs.declared.places.Place.{Place}
 use Rattle.words.specs.declared.symbols.Scanned.{Scanned}
 use Rattle.words.specs.declared.symbols.Sign.the-variants.{Colon}
+use Rattle.words.specs.Places.{longestLine}
 use Rattle.grammar.specs.Tests.{isSymbol}
 use Rattle.grammar.specs.Trees.{Formula}
 use Rattle.grammar.specs.Formulas.{formulaOf}
@@ -35,6 +36,7 @@ use Rattle.machine.specs.declared.records.Record.{Record}
 use Rattle.machine.specs.declared.records.Found.{Found}
 use Rattle.machine.specs.declared.records.Found.the-variants as found
 use Rattle.machine.specs.declared.records.Sought.{Sought}
+use Rattle.machine.specs.Machine.{mostRecords}
 use Rattle.turns.specs.Steps as step
 use Rattle.turns.specs.declared.setting.Stored.{Stored}
 use Rattle.turns.specs.Steps.{goesOn, enters, ends, stops, fails}
@@ -103,7 +105,7 @@ anyRecords rs = Unit {0}
 
 -- a formula that reads from a token of the line on
 pub record Formed (line : List ℕ) (first : Scanned) : Type 0 where
-  pub short : length line ≤ 255
+  pub short : length line ≤ longestLine
   pub scans : Scans line first
   pub reads : Reads (formulaOf line first)
 
@@ -115,7 +117,7 @@ pub record Valued (m : Machine) (f : Formula) (u : Scanned) (before : List ℕ) 
 
 -- the line of a text that begins at a place, after its number
 pub record Standing (text line : List ℕ) (here : Place) : Type 0 where
-  pub short : length line ≤ 255
+  pub short : length line ≤ longestLine
   pub begins : Begins text (here .0)
   pub is : line ≡ bodyOf (linesAt text (here .0))
 

@@ -10,9 +10,10 @@ use Rattle.words.specs.Names.{alike}
 use Rattle.words.specs.declared.names.Telling.{Telling}
 use Rattle.variables.specs.Strings.{whole, text, Room, Outcome, value, fault}
 use Rattle.variables.specs.Tables.{namesFrom, namesIn, numbersIn, slotIn, sumOf}
-use Rattle.variables.specs.Variables.{NumberVariable, StringVariable, Variables, wordOf, bytesOf}
+use Rattle.variables.specs.Variables.{NumberVariable, StringVariable, Variables, wordOf, bytesOf, mostVariables}
 use Rattle.whole.specs.declared.arithmetic.Answer.{Answer}
 use Rattle.whole.specs.declared.arithmetic.Answer.the-variants.{Whole, Fault}
+use Rattle.whole.specs.Texts.{longestString}
 use Rattle.words.specs.declared.symbols.Scanned.{Scanned}
 use Rattle.space.specs.Moves.{copied, moved}
 use Rattle.variables.specs.declared.tables.Numbers.{Numbers}
@@ -95,7 +96,7 @@ pub record Framed (before : List ℕ) (used : ℕ) (r : Worked) (after : List �
   pub long : length after ≡ length before
   pub kept : take used after ≡ take used before
   pub fits : used + textLength r ≤ length after
-  pub short : textLength r ≤ 255
+  pub short : textLength r ≤ longestString
 
 -- and the answer agrees with what is made of any room that holds so many live bytes
 pub record Made (before : List ℕ) (used live : ℕ) (outcome : Room → Outcome) (ahead : Scanned) (r : Worked) (after : List ℕ) : Type 0 where
@@ -114,18 +115,18 @@ stringsHeld t space = stringsIn (namesFrom (t .count) (t .names)) (t .lengths) s
 
 -- unused entries are zeros
 pub record TidyNumbers (n : Numbers) : Type 0 where
-  pub few : n .count ≤ 64
+  pub few : n .count ≤ mostVariables
   pub named : length (n .names) ≡ 128
-  pub worded : length (n .words) ≡ 64
+  pub worded : length (n .words) ≡ mostVariables
   pub namesBlank : drop (2 * n .count) (n .names) ≡ replicate (128 - 2 * n .count) 0
-  pub wordsBlank : drop (n .count) (n .words) ≡ replicate (64 - n .count) 0
+  pub wordsBlank : drop (n .count) (n .words) ≡ replicate (mostVariables - n .count) 0
 
 pub record TidyStrings (t : Strings) : Type 0 where
-  pub few : t .count ≤ 64
+  pub few : t .count ≤ mostVariables
   pub named : length (t .names) ≡ 128
-  pub lengthy : length (t .lengths) ≡ 64
+  pub lengthy : length (t .lengths) ≡ mostVariables
   pub namesBlank : drop (2 * t .count) (t .names) ≡ replicate (128 - 2 * t .count) 0
-  pub lengthsBlank : drop (t .count) (t .lengths) ≡ replicate (64 - t .count) 0
+  pub lengthsBlank : drop (t .count) (t .lengths) ≡ replicate (mostVariables - t .count) 0
 
 -- a name in a table
 abbrev pub withName : List ℕ → ℕ → Telling → List ℕ
@@ -133,7 +134,7 @@ withName names i name = set (set names (2 * i) (name .first)) (2 * i + 1) (name 
 
 abbrev pub numberAppended : Numbers → Telling → ℕ → NumberStored
 numberAppended n name w =
-    cond (leb 64 (n .count)) (record { ok = false; numbers = n })
+    cond (leb mostVariables (n .count)) (record { ok = false; numbers = n })
     (record { ok = true; numbers = record { names = withName (n .names) (n .count) name; words = set (n .words) (n .count) w; count = n .count + 1 } })
 
 abbrev pub numberReplaced : Numbers → ℕ → ℕ → NumberStored
@@ -148,7 +149,7 @@ numberStored n name w = numberInto (slotIn (n .names) name) n name w
 
 abbrev pub stringAppended : Strings → ℕ → Telling → ℕ → StringStored
 stringAppended t used name len =
-    cond (leb 64 (t .count)) (record { ok = false; strings = t; used = used })
+    cond (leb mostVariables (t .count)) (record { ok = false; strings = t; used = used })
     (record { ok = true; strings = record { names = withName (t .names) (t .count) name; lengths = set (t .lengths) (t .count) len; count = t .count + 1 }; used = used + len })
 
 abbrev pub stringReplaced : Strings → ℕ → ℕ → ℕ → StringStored

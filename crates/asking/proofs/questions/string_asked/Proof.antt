@@ -11,17 +11,17 @@ use Rattle.asking.proofs.questions.string_asked.Tie as tie
 returns : tie.Need-returns
 returns c =
     let w = c .before in let s = w .before .before .before .before in let e = sym (s .before .before .slot-of .ensures) ∙ s .slot .given .1 in
-    string-outside _ _ _ _ _ e (slot-below _ _ _ e) (w .before .offset-of .ensures) (w .wide .ensures) (omega arith)
+    string-outside _ _ _ _ _ e (slot-below _ _ _ e) (w .before .offset-of .ensures) (w .wide .ensures .0) (omega arith)
 
 returns-2 : tie.Need-returns-2
 returns-2 c =
     let w = c .before .before in let s = w .before .before .before .before in let e = sym (s .before .before .slot-of .ensures) ∙ s .slot .given .1 in
-    string-outside _ _ _ _ _ e (slot-below _ _ _ e) (w .before .offset-of .ensures) (w .wide .ensures) (omega arith)
+    string-outside _ _ _ _ _ e (slot-below _ _ _ e) (w .before .offset-of .ensures) (w .wide .ensures .0) (omega arith)
 
 returns-4 : tie.Need-returns-4
 returns-4 c =
     let w = c .before .before in let s = w .before .before .before .before in let e = sym (s .before .before .slot-of .ensures) ∙ s .slot .given .1 in
-    string-inside _ _ _ _ _ e (slot-below _ _ _ e) (w .before .offset-of .ensures) (w .wide .ensures) (omega arith)
+    string-inside _ _ _ _ _ e (slot-below _ _ _ e) (w .before .offset-of .ensures) (w .wide .ensures .0) (omega arith)
 
 pub string-asked-spec : {M : Type 1} → statement M
 string-asked-spec =

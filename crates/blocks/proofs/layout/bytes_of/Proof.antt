@@ -9,12 +9,13 @@ use borrow.Author.Needs.{needs}
 use Rattle.blocks.proofs.Words.{word-written}
 use Rattle.blocks.proofs.layout.bytes_of.Statement.{statement}
 use Rattle.blocks.proofs.layout.bytes_of.Tie as tie
+use Rattle.variables.specs.Variables.{mostVariables}
 
 abbrev Inv-loop : tie.InvT-loop
-Inv-loop words bytes₀ i₀ bytes i = (i ≤ 64) × (length words ≡ 64) × (length bytes ≡ 128) × (take (2 * i) bytes ≡ wordBytes (take i words))
+Inv-loop words bytes₀ i₀ bytes i = (i ≤ mostVariables) × (length words ≡ mostVariables) × (length bytes ≡ 128) × (take (2 * i) bytes ≡ wordBytes (take i words))
 
 abbrev μ-loop : tie.MeasureT-loop
-μ-loop words bytes₀ i₀ bytes i = 64 - i
+μ-loop words bytes₀ i₀ bytes i = mostVariables - i
 
 loop-holds : tie.Need-loop-holds Inv-loop μ-loop
 unfolding wordBytes
@@ -33,9 +34,9 @@ loop-again c =
 returns : tie.Need-returns Inv-loop μ-loop
 returns c =
     let l = c .before in
-    let e : l .loop .i ≡ 64 = omega arith in
+    let e : l .loop .i ≡ mostVariables = omega arith in
     sym (take-all 128 (l .loop .bytes) (omega (arith, l .loop .inv .2))) ∙ (rw e at (l .loop .inv .3))
-    ∙ ap wordBytes (take-all 64 (l .before .args .t1) (omega (arith, l .loop .inv .1)))
+    ∙ ap wordBytes (take-all mostVariables (l .before .args .t1) (omega (arith, l .loop .inv .1)))
 
 pub bytes-of-spec : {M : Type 1} → statement M
 bytes-of-spec =

@@ -5,11 +5,12 @@ use borrow.Author.Needs.{needs}
 use Rattle.blocks.proofs.Parts.{part-copied}
 use Rattle.blocks.proofs.layout.lengths_at.Statement.{statement}
 use Rattle.blocks.proofs.layout.lengths_at.Tie as tie
+use Rattle.variables.specs.Variables.{mostVariables}
 
 returns : tie.Need-returns
 returns c =
     let s = c .before .before .before .before .before in
-    c .before .copy-in .ensures ∙ part-copied (s .args .block .now) (s .args .from) 64 (s .pre)
+    c .before .copy-in .ensures ∙ part-copied (s .args .block .now) (s .args .from) mostVariables (s .pre)
 
 pub lengths-at-spec : {M : Type 1} → statement M
 lengths-at-spec =

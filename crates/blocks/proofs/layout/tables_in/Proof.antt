@@ -14,8 +14,8 @@ returns c =
       w .before .bytes-at2 .ensures,
       l .before .before .bytes-at3 .ensures,
       l .lengths-at .ensures,
-      c .before .before .wide .ensures,
-      c .wide2 .ensures,
+      c .before .before .wide .ensures .0,
+      c .wide2 .ensures .0,
     )
 
 pub tables-in-spec : {M : Type 1} → statement M

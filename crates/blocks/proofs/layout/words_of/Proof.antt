@@ -8,12 +8,13 @@ use Rattle.blocks.specs.Blocks.{wordsFrom}
 use Rattle.blocks.proofs.Words.{word-read}
 use Rattle.blocks.proofs.layout.words_of.Statement.{statement}
 use Rattle.blocks.proofs.layout.words_of.Tie as tie
+use Rattle.variables.specs.Variables.{mostVariables}
 
 abbrev Inv-loop : tie.InvT-loop
-Inv-loop bytes words₀ i₀ words i = (i ≤ 64) × (length words ≡ 64) × (take i words ≡ wordsFrom i bytes)
+Inv-loop bytes words₀ i₀ words i = (i ≤ mostVariables) × (length words ≡ mostVariables) × (take i words ≡ wordsFrom i bytes)
 
 abbrev μ-loop : tie.MeasureT-loop
-μ-loop bytes words₀ i₀ words i = 64 - i
+μ-loop bytes words₀ i₀ words i = mostVariables - i
 
 loop-holds : tie.Need-loop-holds Inv-loop μ-loop
 unfolding wordsFrom
@@ -30,8 +31,8 @@ loop-again c =
 returns : tie.Need-returns Inv-loop μ-loop
 returns c =
     let l = c .before in
-    let e : l .loop .i ≡ 64 = omega arith in
-    sym (take-all 64 (l .loop .words) (omega (arith, l .loop .inv .1))) ∙ (rw e at (l .loop .inv .2))
+    let e : l .loop .i ≡ mostVariables = omega arith in
+    sym (take-all mostVariables (l .loop .words) (omega (arith, l .loop .inv .1))) ∙ (rw e at (l .loop .inv .2))
 
 pub words-of-spec : {M : Type 1} → statement M
 words-of-spec =

@@ -4,6 +4,7 @@ use borrow.Author.Tests.{le-leb, lt-leb}
 use Rattle.machine.specs.Machine.{mostRecords}
 use Rattle.control.proofs.jumping.push.Statement.{statement}
 use Rattle.control.proofs.jumping.push.Tie as tie
+use Rattle.machine.specs.Machine.{mostRecords}
 
 pub push-spec : {M : Type 1} → statement M
 push-spec =

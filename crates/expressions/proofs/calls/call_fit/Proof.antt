@@ -16,21 +16,21 @@ returns : tie.Need-returns
 returns c l e =
     let k = c .before .before .before in let s = k .sorts .given in
     rw (fit-packed, ← e, s .1)
-    (sym (other-wanted (k .before .before .args .function) (s .0 .0 ∷ []) (c .before .wants-one .ensures)
+    (sym (other-wanted (k .before .before .args .function) (s .0 .0 ∷ []) (c .before .wants .ensures)
     (λ z. ⊎-elim (λ h. omega arith) (⊎-elim (λ h. omega arith) (λ h. omega arith)) (c .match2 .keys2))))
 
 returns-2 : tie.Need-returns-2
 returns-2 c l e =
     let k = c .before .before .before in let s = k .sorts2 .given in
     rw (fit-packed, ← e, s .1)
-    (sym (other-wanted (k .before .before .args .function) (s .0 .0 ∷ s .0 .1 .0 ∷ []) (c .before .wants-two .ensures)
+    (sym (other-wanted (k .before .before .args .function) (s .0 .0 ∷ s .0 .1 .0 ∷ []) (c .before .wants2 .ensures)
     (λ z. ⊎-elim (λ h. omega arith) (⊎-elim (λ h. omega arith) (λ h. omega arith)) (c .match3 .keys2))))
 
 returns-3 : tie.Need-returns-3
 returns-3 c l e =
     let k = c .before .before .before in let s = k .sorts3 .given in
     rw (fit-packed, ← e, s .1)
-    (sym (other-wanted (k .before .before .args .function) (s .0 .0 ∷ s .0 .1 .0 ∷ s .0 .1 .1 .0 ∷ []) (c .before .wants-three .ensures)
+    (sym (other-wanted (k .before .before .args .function) (s .0 .0 ∷ s .0 .1 .0 ∷ s .0 .1 .1 .0 ∷ []) (c .before .wants3 .ensures)
     (λ z. ⊎-elim (λ h. omega arith) (⊎-elim (λ h. omega arith) (λ h. omega arith)) (c .match4 .keys2))))
 
 -- ---- that number is
@@ -39,14 +39,14 @@ returns-5 : tie.Need-returns-5
 unfolding allMeet
 returns-5 c l e =
     let m = c .before in let v = m .before .before in let k = v .before .before in
-    rw (fit-packed, ← e, k .before .before .sorts .given .1, all-wanted _ (_ ∷ []) (sym (v .v .given .1) ∙ k .wants-one .ensures) (omega arith), and-true, ← (m .meets .ensures))
+    rw (fit-packed, ← e, k .before .before .sorts .given .1, all-wanted _ (_ ∷ []) (sym (v .v .given .1) ∙ k .wants .ensures) (omega arith), and-true, ← (m .meets .ensures))
     (c .call-sort .ensures)
 
 returns-6 : tie.Need-returns-6
 unfolding allMeet
 returns-6 c l e =
     let m = c .before .before in let v = m .before .before in let k = v .before .before in
-    rw (fit-packed, ← e, k .before .before .sorts2 .given .1, all-wanted _ (_ ∷ _ ∷ []) (sym (v .v2 .given .1) ∙ k .wants-two .ensures) (omega arith), and-true, ← (m .meets2 .ensures))
+    rw (fit-packed, ← e, k .before .before .sorts2 .given .1, all-wanted _ (_ ∷ _ ∷ []) (sym (v .v2 .given .1) ∙ k .wants2 .ensures) (omega arith), and-true, ← (m .meets2 .ensures))
     (⊎-elim
     (λ w. rw (w .0 .taken, ← (w .1 .ensures), ← (w .2)) (c .call-sort2 .ensures))
     (λ w. rw (w .0 .left) (rw (w .1, w .0 .left) at (c .call-sort2 .ensures)))
@@ -56,7 +56,7 @@ returns-7 : tie.Need-returns-7
 unfolding allMeet
 returns-7 c l e =
     let m = c .before .before .before in let v = m .before .before in let k = v .before .before in
-    rw (fit-packed, ← e, k .before .before .sorts3 .given .1, all-wanted _ (_ ∷ _ ∷ _ ∷ []) (sym (v .v3 .given .1) ∙ k .wants-three .ensures) (omega arith), and-true, ← (m .meets4 .ensures))
+    rw (fit-packed, ← e, k .before .before .sorts3 .given .1, all-wanted _ (_ ∷ _ ∷ _ ∷ []) (sym (v .v3 .given .1) ∙ k .wants3 .ensures) (omega arith), and-true, ← (m .meets4 .ensures))
     (⊎-elim
     (λ w. rw (w .0 .taken, ← (w .1 .ensures), ← (w .2)) (⊎-elim
     (λ x. rw (x .0 .taken, ← (x .1 .ensures), ← (x .2)) (c .call-sort3 .ensures))

@@ -4,6 +4,7 @@ use borrow.Author.Needs.{needs, length-unmapped}
 use Rattle.host.proofs.Kept.{refused-run, finished-run}
 use Rattle.host.proofs.calls.quernhem_run.Statement.{statement}
 use Rattle.host.proofs.calls.quernhem_run.Tie as tie
+use Rattle.variables.specs.Variables.{mostVariables}
 
 -- in each, a is where the answer is known, and r where the run is; `owned` is what the type of the tables tells of their arrays
 returns : tie.Need-returns
@@ -27,9 +28,9 @@ returns-2 c =
     finished-run _ (r .run .result) _ (r .run .ensures .0) (p .space .now) (p .room .now) (p .tables .now) _ _ _ (r .run .ensures .1 .0)
     (r .run .ensures .1 .1) (a .answer-of .ensures) _ (sym (i .before .is-refused .ensures) ∙ i .if1 .left) (c .block-of .ensures)
     (length-unmapped _ (t .numbers .names) 128 (numbers .0 .1 .0 .1))
-    (length-unmapped _ (t .numbers .words) 64 (numbers .1 .0 .1 .0 .1))
+    (length-unmapped _ (t .numbers .words) mostVariables (numbers .1 .0 .1 .0 .1))
     (length-unmapped _ (t .strings .names) 128 (strings .0 .1 .0 .1))
-    (length-unmapped _ (t .strings .lengths) 64 (strings .1 .0 .1 .0 .1))
+    (length-unmapped _ (t .strings .lengths) mostVariables (strings .1 .0 .1 .0 .1))
 
 pub quernhem-run-spec : {M : Type 1} → statement M
 quernhem-run-spec =

@@ -6,17 +6,18 @@ use lib.ListN.{length}
 use Rattle.loader.specs.Loading.{judged}
 use Rattle.loader.proofs.loading.judge.Statement.{statement}
 use Rattle.loader.proofs.loading.judge.Tie as tie
+use Rattle.words.specs.Places.{longestLine}
 
 returns : tie.Need-returns
 unfolding judged
-returns c = rw (lt-ltb 255 (length (c .before .before .args .line .now)) (c .if1 .taken))
+returns c = rw (lt-ltb longestLine (length (c .before .before .args .line .now)) (c .if1 .taken))
 
 returns-2 : tie.Need-returns-2
 unfolding judged
 returns-2 c =
     let p = c .before in let size = length (p .before .before .before .args .line .now) in
     rw (
-      le-ltb 255 size (p .before .if1 .left),
+      le-ltb longestLine size (p .before .if1 .left),
       ← (p .plain-length .ensures),
       lt-ltb (p .plain-length .result) size (c .if2 .taken),
     )
@@ -26,7 +27,7 @@ unfolding judged
 returns-3 c =
     let p = c .before .before .before .before in let size = length (p .before .before .before .args .line .now) in
     rw (
-      le-ltb 255 size (p .before .if1 .left),
+      le-ltb longestLine size (p .before .if1 .left),
       ← (p .plain-length .ensures),
       le-ltb (p .plain-length .result) size (c .before .before .before .if2 .left),
       sym (c .before .before .number-of .ensures) ∙ c .enum-told .given .1,
@@ -37,7 +38,7 @@ unfolding judged
 returns-4 c =
     let p = c .before .before .before .before .before .before in let size = length (p .before .before .before .args .line .now) in
     rw (
-      le-ltb 255 size (p .before .if1 .left),
+      le-ltb longestLine size (p .before .if1 .left),
       ← (p .plain-length .ensures),
       le-ltb (p .plain-length .result) size (c .before .before .before .before .before .if2 .left),
       sym (c .before .before .before .before .number-of .ensures) ∙ c .before .before .number .given .1,

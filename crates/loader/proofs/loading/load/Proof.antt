@@ -5,7 +5,7 @@ use native.Mathlib.Omega.{arith}
 use borrow.Author.Needs.{needs}
 use borrow.Author.Tests.{lt-ltb, le-ltb}
 use lib.ListN.{length}
-use Rattle.loader.specs.Loading.{loadLines, loadOf}
+use Rattle.loader.specs.Loading.{loadLines, loadOf, longestText}
 use Rattle.loader.proofs.Extents.{linesAt, passed, lines-out, walked, walked-size}
 use Rattle.loader.proofs.Rising.{load-good, load-bad, judged-good, judged-bad}
 use Rattle.loader.proofs.loading.load.Statement.{statement}
@@ -19,11 +19,11 @@ abbrev μ-loop : tie.MeasureT-loop
 
 returns : tie.Need-returns Inv-loop μ-loop
 unfolding loadOf
-returns c = rw (lt-ltb 16384 (length (c .before .before .args .text .now)) (c .if1 .taken))
+returns c = rw (lt-ltb longestText (length (c .before .before .args .text .now)) (c .if1 .taken))
 
 loop-holds : tie.Need-loop-holds Inv-loop μ-loop
 unfolding loadOf
-loop-holds c = rw (le-ltb 16384 (length (c .before .before .args .text .now)) (c .if1 .left))
+loop-holds c = rw (le-ltb longestText (length (c .before .before .args .text .now)) (c .if1 .left))
 
 add-place : tie.Need-add-place Inv-loop μ-loop
 add-place c =

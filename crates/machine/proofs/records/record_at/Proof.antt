@@ -5,6 +5,7 @@ use borrow.Author.Needs.{needs}
 use lib.ListN.{length, List·getD-eq-default}
 use Rattle.machine.specs.Machine.{mostRecords}
 use Rattle.machine.specs.bridge.Holding.{blankRecord}
+use Rattle.machine.specs.Machine.{mostRecords}
 use Rattle.machine.proofs.Stacking.{length-mapped}
 use Rattle.machine.proofs.records.record_at.Statement.{statement}
 use Rattle.machine.proofs.records.record_at.Tie as tie

@@ -7,6 +7,7 @@ use Rattle.machine.specs.Machine.{mostRecords}
 use Rattle.machine.proofs.Stacking.{length-mapped, records-past}
 use Rattle.machine.proofs.records.with_record.Statement.{statement}
 use Rattle.machine.proofs.records.with_record.Tie as tie
+use Rattle.machine.specs.Machine.{mostRecords}
 
 returns-2 : tie.Need-returns-2
 returns-2 c =

@@ -5,20 +5,21 @@ use borrow.Author.Needs.{needs}
 use borrow.Author.Tests.{lt-ltb, le-ltb, leb-true, leb-false, not-true, not-false}
 use Rattle.words.specs.declared.symbols.Scanned.{Scanned}
 use Rattle.whole.specs.declared.errors.Error.the-variants.{StringTooLong, OutOfStringSpace}
+use Rattle.whole.specs.Texts.{longestString}
 use Rattle.operators.specs.bridge.Memory.{joinedLength}
 use Rattle.variables.specs.declared.values.Worked.the-variants as worked
 use Rattle.operators.proofs.applying.join.Statement.{statement}
 use Rattle.operators.proofs.applying.join.Tie as tie
 
 module _ (limit used a b : ℕ) (t : Scanned) where
-  too-long : 255 < a + b → worked.Fault StringTooLong ≡ joinedLength limit used a b t
-  too-long h = rw (lt-ltb 255 (a + b) h)
+  too-long : longestString < a + b → worked.Fault StringTooLong ≡ joinedLength limit used a b t
+  too-long h = rw (lt-ltb longestString (a + b) h)
 
-  no-room : a + b ≤ 255 → limit < used + (a + b) + (a + b) → worked.Fault OutOfStringSpace ≡ joinedLength limit used a b t
-  no-room h l = rw (le-ltb 255 (a + b) h, lt-ltb limit (used + (a + b) + (a + b)) l)
+  no-room : a + b ≤ longestString → limit < used + (a + b) + (a + b) → worked.Fault OutOfStringSpace ≡ joinedLength limit used a b t
+  no-room h l = rw (le-ltb longestString (a + b) h, lt-ltb limit (used + (a + b) + (a + b)) l)
 
-  room : a + b ≤ 255 → used + (a + b) + (a + b) ≤ limit → worked.Text (a + b) t ≡ joinedLength limit used a b t
-  room h l = rw (le-ltb 255 (a + b) h, le-ltb limit (used + (a + b) + (a + b)) l)
+  room : a + b ≤ longestString → used + (a + b) + (a + b) ≤ limit → worked.Text (a + b) t ≡ joinedLength limit used a b t
+  room h l = rw (le-ltb longestString (a + b) h, le-ltb limit (used + (a + b) + (a + b)) l)
 
 returns-2 : tie.Need-returns-2
 returns-2 c =

@@ -9,6 +9,7 @@ use lib.ListN.{length, drop}
 use Rattle.whole.specs.Digits.{isDigit, leadingDigits, leadingValue, capped, digitsOf}
 use Rattle.whole.proofs.Reading.{part-from, value-in, value-out}
 use Rattle.words.proofs.Runs.{run-within}
+use Rattle.words.specs.Places.{largestLineNumber}
 use Rattle.scanner.specs.Tokens.{numberToken}
 use Rattle.scanner.proofs.tokens.number_at.Statement.{statement}
 use Rattle.scanner.proofs.tokens.number_at.Tie as tie
@@ -42,7 +43,7 @@ unfolding numberToken
 returns c =
     let d = c .before .before .before .before in
     let h = value-out (number d) (c .before .enum-told .given .1) (worth d) in
-    rw (lt-leb (number d) 32767 (omega arith), lt-leb (number d) 65529 (omega arith)) (c .unreadable .ensures)
+    rw (lt-leb (number d) 32767 (omega arith), lt-leb (number d) largestLineNumber (omega arith)) (c .unreadable .ensures)
 
 returns-2 : tie.Need-returns-2
 unfolding numberToken
@@ -58,7 +59,7 @@ returns-3 c =
     let m = c .before .before .before .before in
     let d = m .before .before .before in
     let e = value-in (number d) (m .magnitude .given .0 .0) (m .magnitude .given .1) (worth d) in
-    rw (lt-leb (number d) 32767 (omega arith), le-leb (number d) 65529 (omega arith), e, ← (count d)) (c .up-to2 .ensures)
+    rw (lt-leb (number d) 32767 (omega arith), le-leb (number d) largestLineNumber (omega arith), e, ← (count d)) (c .up-to2 .ensures)
 
 returns-4 : tie.Need-returns-4
 unfolding numberToken
@@ -66,7 +67,7 @@ returns-4 c =
     let m = c .before .before .before .before in
     let d = m .before .before .before in
     let e = value-in (number d) (m .magnitude .given .0 .0) (m .magnitude .given .1) (worth d) in
-    rw (lt-leb (number d) 32767 (omega arith), lt-leb (number d) 65529 (omega arith)) (c .unreadable2 .ensures)
+    rw (lt-leb (number d) 32767 (omega arith), lt-leb (number d) largestLineNumber (omega arith)) (c .unreadable2 .ensures)
 
 pub number-at-spec : {M : Type 1} → statement M
 number-at-spec =

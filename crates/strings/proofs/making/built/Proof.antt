@@ -9,11 +9,12 @@ use lib.Seq.{length-take-le}
 use Rattle.strings.proofs.Produced.{no-room-built, built-made}
 use Rattle.strings.proofs.making.built.Statement.{statement}
 use Rattle.strings.proofs.making.built.Tie as tie
+use Rattle.whole.specs.Texts.{longestString}
 
-long : (c : tie.After-struct-known) → length (c .before .before .args .text .bytes) ≡ 255
+long : (c : tie.After-struct-known) → length (c .before .before .args .text .bytes) ≡ longestString
 long c = search needs
 
-short : (c : tie.After-struct-known) → c .before .before .args .text .len ≤ 255
+short : (c : tie.After-struct-known) → c .before .before .args .text .len ≤ longestString
 short c = search needs
 
 array-share-prefix-bytes : tie.Need-array-share-prefix-bytes

@@ -4,7 +4,7 @@ use Prim.Native.Nat.{ℕ, _+_, _-_, _≤_, _<_}
 use native.Mathlib.Omega.{arith}
 use borrow.Author.Needs.{needs}
 use lib.ListN.{replicate, length-replicate, replicate-append-replicate}
-use Rattle.whole.specs.Texts.{held, withByte}
+use Rattle.whole.specs.Texts.{held, withByte, longestString}
 use Rattle.whole.proofs.Numerals.{held-put}
 use Rattle.strings.proofs.making.repeated.Statement.{statement}
 use Rattle.strings.proofs.making.repeated.Tie as tie
@@ -16,7 +16,7 @@ abbrev μ-loop : tie.MeasureT-loop
 μ-loop byte count text₀ i₀ text i = count - i
 
 -- one more
-more : (i b : ℕ) → i < 255 → withByte (held (replicate i b)) b ≡ held (replicate (i + 1) b)
+more : (i b : ℕ) → i < longestString → withByte (held (replicate i b)) b ≡ held (replicate (i + 1) b)
 more i b h =
     let l = length-replicate i b in
     held-put (replicate i b) b (omega arith) ∙ ap held (replicate-append-replicate i 1 b)

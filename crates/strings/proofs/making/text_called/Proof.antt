@@ -1,7 +1,7 @@
 -- Each arm is a clause of the definition, and the last one is what no other arm takes.
 use mathlib.Core.Path.{_≡_}
 use borrow.Author.Needs.{needs}
-use Rattle.whole.specs.Texts.{shown, hexadecimal}
+use Rattle.whole.specs.Texts.{signedNumeral, hexadecimal}
 use Rattle.words.specs.declared.symbols.Function.the-variants.{Hex}
 use Rattle.strings.proofs.Calls.{space-made, str-made, hex-made, last-text}
 use Rattle.strings.proofs.making.text_called.Statement.{statement}
@@ -20,7 +20,7 @@ returns-7 c ahead =
     let k = c .before .before .before .before .before in let w = k .before .before in let s = w .before .before in let p = s .args in
     rw (k .enum-told7 .given .1)
     (str-made (p .space .now) (p .used) (p .given) (s .pre .0) ahead (w .first-word .ensures)
-    (c .before .before .built .ensures (shown (w .first-word .result)) (c .before .before .before .str-text .ensures) ahead))
+    (c .before .before .built .ensures (signedNumeral (w .first-word .result)) (c .before .before .before .str-text .ensures) ahead))
 
 -- HEX$
 returns-8 : tie.Need-returns-8

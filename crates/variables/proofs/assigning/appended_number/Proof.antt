@@ -3,12 +3,13 @@ use borrow.Author.Needs.{needs}
 use borrow.Author.Tests.{le-leb, lt-leb}
 use Rattle.variables.proofs.assigning.appended_number.Statement.{statement}
 use Rattle.variables.proofs.assigning.appended_number.Tie as tie
+use Rattle.variables.specs.Variables.{mostVariables}
 
 pub appended-number-spec : {M : Type 1} → statement M
 appended-number-spec =
     tie.close
     (tie.spec
-    (λ c. rw (le-leb 64 _ (c .if1 .taken)))
+    (λ c. rw (le-leb mostVariables _ (c .if1 .taken)))
     (λ c. search needs)
     (λ c. search needs)
     (λ c. search needs)
@@ -16,4 +17,4 @@ appended-number-spec =
     (λ c. search needs)
     (λ c. search needs)
     (λ c. search needs)
-    (λ c. rw (lt-leb 64 _ (c .if1 .left))))
+    (λ c. rw (lt-leb mostVariables _ (c .if1 .left))))

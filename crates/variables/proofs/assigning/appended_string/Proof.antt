@@ -3,12 +3,13 @@ use borrow.Author.Needs.{needs}
 use borrow.Author.Tests.{le-leb, lt-leb}
 use Rattle.variables.proofs.assigning.appended_string.Statement.{statement}
 use Rattle.variables.proofs.assigning.appended_string.Tie as tie
+use Rattle.variables.specs.Variables.{mostVariables}
 
 pub appended-string-spec : {M : Type 1} → statement M
 appended-string-spec =
     tie.close
     (tie.spec
-    (λ c. rw (le-leb 64 _ (c .if1 .taken)))
+    (λ c. rw (le-leb mostVariables _ (c .if1 .taken)))
     (λ c. search needs)
     (λ c. search needs)
     (λ c. search needs)
@@ -17,4 +18,4 @@ appended-string-spec =
     (λ c. search needs)
     (λ c κs. search needs)
     (λ c. search needs)
-    (λ c. rw (lt-leb 64 _ (c .before .if1 .left), c .wide .ensures .0)))
+    (λ c. rw (lt-leb mostVariables _ (c .before .if1 .left), c .wide .ensures .0)))

@@ -6,9 +6,10 @@ use lib.ListN.{length, take, drop, length-set}
 use Rattle.variables.proofs.Replacing.{kept-next}
 use Rattle.variables.proofs.assigning.kept_bytes.Statement.{statement}
 use Rattle.variables.proofs.assigning.kept_bytes.Tie as tie
+use Rattle.whole.specs.Texts.{longestString}
 
 abbrev Inv-loop : tie.InvT-loop
-Inv-loop space from len bytes₀ i₀ bytes i = (i ≤ len) × (length bytes ≡ 255) × (take i bytes ≡ take i (drop from space))
+Inv-loop space from len bytes₀ i₀ bytes i = (i ≤ len) × (length bytes ≡ longestString) × (take i bytes ≡ take i (drop from space))
 
 abbrev μ-loop : tie.MeasureT-loop
 μ-loop space from len bytes₀ i₀ bytes i = len - i

@@ -5,13 +5,15 @@ use native.Mathlib.Omega.{arith}
 use borrow.Author.Tests.{ltb-true, ltb-false}
 use lib.ListN.{take}
 use Rattle.variables.specs.Tables.{sumOf}
+use Rattle.variables.specs.Variables.{mostVariables}
 use Rattle.variables.proofs.Lookups.{sum-next}
 use borrow.Author.Needs.{needs}
 use Rattle.variables.proofs.tables.offset_of.Statement.{statement}
 use Rattle.variables.proofs.tables.offset_of.Tie as tie
+use Rattle.whole.specs.Texts.{longestString}
 
 abbrev Inv-loop : tie.InvT-loop
-Inv-loop lengths slot sum₀ i₀ sum i = (i ≤ slot) × (i ≤ 64) × (sum ≡ sumOf (take i lengths)) × (sum ≤ 255 * i)
+Inv-loop lengths slot sum₀ i₀ sum i = (i ≤ slot) × (i ≤ mostVariables) × (sum ≡ sumOf (take i lengths)) × (sum ≤ longestString * i)
 
 abbrev μ-loop : tie.MeasureT-loop
 μ-loop lengths slot sum₀ i₀ sum i = slot - i
@@ -27,11 +29,11 @@ loop-again c =
 
 returns : tie.Need-returns Inv-loop μ-loop
 returns c =
-    let l = c .before .before in let e : l .loop .i ≡ min (l .before .args .slot) 64 = omega (arith, ltb-false) in rw (l .loop .inv .2, e)
+    let l = c .before .before in let e : l .loop .i ≡ min (l .before .args .slot) mostVariables = omega (arith, ltb-false) in rw (l .loop .inv .2, e)
 
 returns-2 : tie.Need-returns-2 Inv-loop μ-loop
 returns-2 c =
-    let l = c .before in let e : l .loop .i ≡ min (l .before .args .slot) 64 = omega arith in rw (l .loop .inv .2, e)
+    let l = c .before in let e : l .loop .i ≡ min (l .before .args .slot) mostVariables = omega arith in rw (l .loop .inv .2, e)
 
 pub offset-of-spec : {M : Type 1} → statement M
 offset-of-spec =

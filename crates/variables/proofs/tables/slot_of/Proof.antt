@@ -8,17 +8,18 @@ use borrow.Author.Tests.{eq-eqb, ne-eqb}
 use lib.ListN.{drop}
 use Rattle.variables.proofs.Lookups.{slot-here, slot-next}
 use Rattle.variables.specs.Tables.{namesIn, namesFrom, slotFrom}
+use Rattle.variables.specs.Variables.{mostVariables}
 use Rattle.variables.proofs.tables.slot_of.Statement.{statement}
 use Rattle.variables.proofs.tables.slot_of.Tie as tie
 
 abbrev Inv-loop : tie.InvT-loop
 Inv-loop names first second i₀ i =
-    (i ≤ 64)
+    (i ≤ mostVariables)
     × (slotFrom 0 (namesIn names) (record { first = first; second = second })
-    ≡ slotFrom i (namesFrom (64 - i) (drop (2 * i) names)) (record { first = first; second = second }))
+    ≡ slotFrom i (namesFrom (mostVariables - i) (drop (2 * i) names)) (record { first = first; second = second }))
 
 abbrev μ-loop : tie.MeasureT-loop
-μ-loop names first second i₀ i = 64 - i
+μ-loop names first second i₀ i = mostVariables - i
 
 loop-holds : tie.Need-loop-holds Inv-loop μ-loop
 unfolding namesIn
@@ -42,7 +43,7 @@ loop-again c =
 
 returns-2 : tie.Need-returns-2 Inv-loop μ-loop
 unfolding namesFrom slotFrom
-returns-2 c = let e : c .before .loop .i ≡ 64 = omega arith in sym (c .before .loop .inv .1 ∙ rw e)
+returns-2 c = let e : c .before .loop .i ≡ mostVariables = omega arith in sym (c .before .loop .inv .1 ∙ rw e)
 
 pub slot-of-spec : {M : Type 1} → statement M
 slot-of-spec =

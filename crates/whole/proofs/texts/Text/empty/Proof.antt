@@ -1,4 +1,4 @@
--- Rests on nothing: the empty text is 255 zeros.
+-- Rests on nothing: the empty text is zeros.
 use mathlib.Core.Path.{refl}
 use Rattle.whole.specs.Texts.{held}
 use Rattle.whole.proofs.texts.Text.empty.Statement.{statement}

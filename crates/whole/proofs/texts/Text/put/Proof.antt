@@ -1,7 +1,7 @@
--- Rests on: a byte that is not 255 is less.
+-- Rests on: a length that is not the longest is less.
 use borrow.Author.Needs.{needs}
 use borrow.Author.Tests.{lt-ltb}
-use Rattle.whole.specs.Texts.{withByte}
+use Rattle.whole.specs.Texts.{longestString, withByte}
 use Rattle.whole.proofs.texts.Text.put.Statement.{statement}
 use Rattle.whole.proofs.texts.Text.put.Tie as tie
 
@@ -11,7 +11,7 @@ returns c = rw (c .if1 .taken)
 
 returns-2 : tie.Need-returns-2
 unfolding withByte
-returns-2 c = rw (lt-ltb (c .before .before .args .self .len) 255 (search needs))
+returns-2 c = rw (lt-ltb (c .before .before .args .self .len) longestString (search needs))
 
 pub put-spec : {M : Type 1} → statement M
-put-spec = tie.close (tie.spec returns (λ c. search needs) (λ c. search needs) (λ c. search needs) returns-2)
+put-spec = tie.close (tie.spec (λ c. search needs) returns (λ c. search needs) (λ c. search needs) returns-2)
