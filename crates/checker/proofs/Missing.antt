@@ -1,9 +1,8 @@
 -- Lines that are named but missing: what the search for a line tells of it, and the walk over the statements that name lines.
 use mathlib.Core.Path.{_≡_, refl, sym, _∙_, ap}
 use mathlib.Core.Bool.{Bool, true, false, not, _||_, false≢true}
-use mathlib.Core.List.{List, [], _∷_, _++_}
-use Prim.Native.Nat.{ℕ, _+_}
-use native.Mathlib.Omega.{arith}
+use mathlib.Core.List.{List, [], _∷_}
+use Prim.Native.Nat.{ℕ}
 use Rattle.whole.proofs.Never.{never}
 use Rattle.words.specs.declared.symbols.Scanned.{Scanned}
 use Rattle.words.specs.declared.places.LineNumber.{LineNumber}
@@ -27,7 +26,7 @@ use Rattle.reader.proofs.Judging.{held}
 use Rattle.reader.proofs.Walks.{Itself}
 use Rattle.reader.proofs.Visits.{line-onto, Visit, visit}
 use Rattle.grammar.specs.declared.tests.NamedLine.{NamedLine}
-use Rattle.grammar.specs.declared.tests.NamedLine.the-variants.{Names, NoLine}
+use Rattle.grammar.specs.declared.tests.NamedLine.the-variants.{Names}
 use Rattle.checker.specs.Check.{present, missing, anyMissing}
 use Rattle.checker.specs.bridge.Answers.{namesOf}
 

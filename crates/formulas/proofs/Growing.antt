@@ -7,7 +7,7 @@ use lib.ListN.{take, drop}
 use Rattle.space.proofs.Parts.{part-below}
 use Rattle.grammar.specs.declared.wanting.Want.{Want}
 use Rattle.grammar.specs.declared.wanting.Want.the-variants as want
-use Rattle.variables.specs.Strings.{text, value}
+use Rattle.variables.specs.Strings.{text}
 use Rattle.operators.specs.Values.{meets}
 use Rattle.functions.specs.bridge.Memory.{countOf, withArgument, meetsWant}
 use Rattle.strings.specs.bridge.Memory.{argumentLength, argumentIn, givenLength, valuesIn}

@@ -5,7 +5,6 @@ use mathlib.Core.Bool.{Bool, true, false, cond, not}
 use mathlib.Core.List.{List, [], _∷_, _++_}
 use Prim.Native.Nat.{ℕ, zero, suc}
 use lib.Dec.{ltb, eqb}
-use lib.ListN.{length}
 use Rattle.whole.specs.Whole.{applied, negated, flipped, say}
 use Rattle.whole.specs.declared.arithmetic.Answer.the-variants.{Whole}
 use Rattle.whole.specs.declared.arithmetic.Operator.{Operator}

@@ -1,9 +1,8 @@
 -- A line that passes, and the step from one of its statements to the next.
-use mathlib.Core.Path.{_≡_, refl, sym, _∙_}
+use mathlib.Core.Path.{_≡_, sym}
 use mathlib.Core.Bool.{Bool, true, false, not, false≢true}
 use mathlib.Core.List.{List, [], _∷_}
-use Prim.Native.Nat.{ℕ, _+_}
-use native.Mathlib.Omega.{arith}
+use Prim.Native.Nat.{ℕ}
 use Rattle.grammar.specs.Trees.{Part}
 use Rattle.words.specs.Places.{place}
 use Rattle.scanner.specs.Tokens.{tokenAt}

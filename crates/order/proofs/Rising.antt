@@ -6,7 +6,6 @@ use mathlib.Core.List.{List, [], _∷_, _++_}
 use Prim.Native.Nat.{ℕ, _+_, _≤_, _<_}
 use native.Mathlib.Omega.{arith}
 use borrow.Author.Tests.{lt-ltb, le-ltb}
-use lib.Dec.{ltb}
 use Rattle.whole.proofs.Numbers.{less}
 use Rattle.words.specs.Places.{place}
 use Rattle.words.specs.declared.symbols.Scanned.{Scanned}
@@ -28,7 +27,6 @@ use Rattle.statements.proofs.Beginning.{begun-within}
 use Rattle.statements.proofs.Parts.{weightAt}
 use Rattle.reader.specs.Lines.{Judgement, unreadable, tooDeep, holds, judgement}
 use Rattle.reader.specs.bridge.Walking.{followsDone, followOf, startOf, Onto, StartsAs}
-use Rattle.reader.specs.declared.branches.Start.{Start}
 use Rattle.reader.specs.declared.branches.Start.the-variants as start
 use Rattle.reader.specs.declared.walking.Follow.{Follow}
 use Rattle.reader.specs.declared.walking.Follow.the-variants as follow

@@ -1,9 +1,8 @@
 -- The word that leads a statement is the one that the definition says.
-use mathlib.Core.Path.{_≡_, refl, sym, _∙_, ap}
+use mathlib.Core.Path.{_≡_, refl, sym, _∙_}
 use mathlib.Core.Bool.{true}
-use mathlib.Core.List.{List, [], _∷_}
-use Prim.Native.Nat.{ℕ, _+_}
-use native.Mathlib.Omega.{arith}
+use mathlib.Core.List.{List}
+use Prim.Native.Nat.{ℕ}
 use Rattle.whole.proofs.Never.{never}
 use Rattle.words.specs.Places.{place}
 use Rattle.words.specs.declared.symbols.Scanned.{Scanned}

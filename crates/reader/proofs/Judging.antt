@@ -8,7 +8,6 @@ use borrow.Author.Tests.{lt-ltb, le-ltb, ltb-true, ltb-false}
 use lib.Dec.{ltb}
 use Rattle.whole.proofs.Never.{never}
 use Rattle.words.specs.declared.places.Place.{Place}
-use Rattle.words.specs.declared.symbols.Scanned.{Scanned}
 use Rattle.words.specs.declared.symbols.Word.the-variants.{Else}
 use Rattle.words.proofs.Choices.{by-test}
 use Rattle.grammar.specs.Tests.{isKeyword, endsLine}
@@ -17,7 +16,7 @@ use Rattle.grammar.proofs.Endings.{else-goes-on}
 use Rattle.expressions.specs.Types.{isWhole, sortOf, depthOf, deepestNesting}
 use Rattle.expressions.specs.bridge.Answers.{cappedDepth}
 use Rattle.expressions.proofs.Answering.{max-assoc}
-use Rattle.statements.specs.Parts.{formulasOf, deepest, rightlyTyped, headOf, heads, partsOf, statementsOf, deepestIn, allTyped}
+use Rattle.statements.specs.Parts.{formulasOf, deepest, rightlyTyped, headOf, heads, statementsOf, deepestIn, allTyped}
 use Rattle.statements.specs.Statements.{Begun, bad, done, choice, begunAt, PartReading, badPart, goodPart, LineReading, doesNotRead, reads, whole, readLine, partOf}
 use Rattle.statements.specs.bridge.Answers.{begunAnswer}
 use Rattle.statements.specs.declared.reading.StatementRead.{StatementRead}

@@ -3,7 +3,6 @@ use mathlib.Core.Path.{_≡_, refl, sym, _∙_, ap}
 use mathlib.Core.Bool.{true, false, false≢true}
 use mathlib.Core.List.{List, [], _∷_, _++_, append-nil}
 use Prim.Native.Nat.{ℕ, zero, suc, _+_}
-use native.Mathlib.Omega.{arith}
 use Rattle.whole.proofs.Never.{never}
 use Rattle.words.specs.declared.symbols.Scanned.{Scanned}
 use Rattle.words.specs.declared.symbols.Word.the-variants.{Else}
@@ -18,7 +17,7 @@ use Rattle.statements.specs.declared.reading.StatementRead.{StatementRead}
 use Rattle.statements.proofs.Firsts.{true-part}
 use Rattle.statements.proofs.Parts.{weightAt}
 use Rattle.statements.proofs.Views.{line-view}
-use Rattle.reader.specs.bridge.Walking.{followOf, startOf, onwardOf, Ending, over, stray, Visited, stuck, visited, ahead, restAt, resume, walkFrom, walkOn, Onto, StartsAs, Further}
+use Rattle.reader.specs.bridge.Walking.{followOf, startOf, onwardOf, over, Visited, stuck, visited, ahead, restAt, resume, walkFrom, walkOn, Onto, StartsAs, Further}
 use Rattle.reader.specs.declared.branches.Start.{Start}
 use Rattle.reader.specs.declared.walking.Follow.{Follow}
 use Rattle.reader.specs.declared.walking.Follow.the-variants as follow

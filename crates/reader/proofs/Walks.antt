@@ -10,7 +10,7 @@ use Rattle.words.specs.declared.symbols.Scanned.{Scanned}
 use Rattle.words.specs.declared.symbols.Sign.the-variants.{Colon}
 use Rattle.words.specs.declared.symbols.Word.the-variants.{Else}
 use Rattle.words.proofs.Choices.{by-test}
-use Rattle.grammar.specs.Tests.{isSymbol, isKeyword, endsStatement, endsLine}
+use Rattle.grammar.specs.Tests.{isSymbol, isKeyword, endsLine}
 use Rattle.grammar.specs.Trees.{Formula, Statement, empty, ifThen, ifElse, Part, last, more}
 use Rattle.grammar.specs.declared.tests.NamedLine.the-variants.{NoLine}
 use Rattle.grammar.proofs.Endings.{statement-ends, else-goes-on}

@@ -1,10 +1,7 @@
 // Where statements of a line begin: the next one in text order, and the part after the ELSE of an IF.
 ghost use mathlib.Core.Path.{_≡_};
 ghost use mathlib.Core.Bool.{true};
-ghost use mathlib.Core.List.{List, _∷_};
 ghost use Rattle.grammar.specs.Trees.{Part};
-ghost use Rattle.statements.specs.Statements.{begunAt};
-ghost use Rattle.statements.specs.bridge.Answers.{begunAnswer};
 ghost use Rattle.reader.specs.Lines.{elseOf};
 ghost use Rattle.reader.specs.bridge.Walking.{followOf, startOf};
 use crate::walking::Follow;

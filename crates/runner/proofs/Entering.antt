@@ -3,7 +3,6 @@ use mathlib.Core.Path.{_≡_, refl, sym, ap, _∙_}
 use mathlib.Core.Bool.{Bool, true, false}
 use mathlib.Core.List.{List, _∷_}
 use Prim.Native.Nat.{ℕ, _-_}
-use native.Mathlib.Omega.{arith}
 use lib.ListN.{take, drop}
 use Rattle.whole.specs.declared.errors.Error.the-variants.{Syntax, FormulaTooComplex}
 use Rattle.whole.proofs.Never.{never}
@@ -28,7 +27,7 @@ use Rattle.machine.specs.declared.positions.Position.{Position}
 use Rattle.statements.proofs.Firsts.{true-part}
 use Rattle.machine.proofs.Standing.{Reaches, reaches-next, Told, line-told, told-as, reached-some, reached-none}
 use Rattle.runner.specs.Run as run
-use Rattle.runner.specs.Run.{enter, judgedLine, faulty, opened}
+use Rattle.runner.specs.Run.{enter, judgedLine, faulty}
 use Rattle.runner.specs.bridge.Standings.{Reached, AtAs, OverAs, StandsAs}
 use Rattle.runner.specs.declared.running.Outcome.the-variants.{Ended, Failed}
 use Rattle.runner.specs.declared.running.Standing.{Standing}

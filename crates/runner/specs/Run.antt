@@ -16,7 +16,7 @@ use Rattle.loader.specs.declared.loading.Loaded.the-variants as loaded
 use Rattle.loader.specs.declared.refusals.Refusal.the-variants.{SpaceTooLong}
 use Rattle.words.specs.Places.{place, lineNumber}
 use Rattle.words.specs.declared.places.LineNumber.{LineNumber}
-use Rattle.grammar.specs.Trees.{Part, more}
+use Rattle.grammar.specs.Trees.{Part}
 use Rattle.reader.specs.Lines.{Judgement, unreadable, tooDeep, holds, judgement}
 use Rattle.statements.specs.Parts.{Rest, nothing, part, headOf, tailOf, placeOf}
 use Rattle.variables.specs.Variables.{Variables, stringBytes, joinedStrings}

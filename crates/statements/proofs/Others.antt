@@ -16,7 +16,6 @@ use Rattle.words.specs.declared.symbols.Word.the-variants.{Let, Print, If, Then
 use Rattle.grammar.specs.Tests.{isKeyword}
 use Rattle.grammar.specs.Formulas.{after}
 use Rattle.statements.specs.Statements.{bad, byWord, ledBySign, ledByNumber, ledByToken}
-use Rattle.statements.specs.declared.leading.Lead.{Lead}
 use Rattle.statements.specs.declared.leading.Lead.the-variants.{Nothing}
 use Rattle.statements.specs.Parts.{deepest}
 use Rattle.statements.specs.bridge.Answers.{nameOf, isQuoted, formedRead, begunAnswer}

@@ -4,7 +4,6 @@ use mathlib.Core.Bool.{Bool, true, false, _&&_, and-true, and-assoc}
 use mathlib.Core.List.{List, []}
 use Prim.Native.Nat.{ℕ, max}
 use native.Mathlib.Nat.{max-zero}
-use native.Mathlib.Omega.{arith}
 use Rattle.whole.proofs.Never.{never}
 use Rattle.words.specs.declared.symbols.Scanned.{Scanned}
 use Rattle.words.specs.declared.symbols.Sign.the-variants.{Semicolon}

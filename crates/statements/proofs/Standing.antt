@@ -17,10 +17,10 @@ use Rattle.words.specs.declared.symbols.Word.the-variants.{Let, Print, If, Then
 use Rattle.words.proofs.Choices.{by-test}
 use Rattle.scanner.specs.Tokens.{tokenAt}
 use Rattle.grammar.specs.Tests.{choose, isSymbol, isKeyword, endsStatement, onText}
-use Rattle.grammar.specs.Trees.{Formula, number, Variable, Item, semicolon, Statement, empty, assign, print, ifThen, ifElse, goto, gosub, return, for, next, nextOf, lineInput, end, stop, remark}
+use Rattle.grammar.specs.Trees.{Formula, number, Variable, Item, Statement, empty, assign, print, ifThen, ifElse, goto, gosub, return, for, next, nextOf, lineInput, end, stop, remark}
 use Rattle.grammar.specs.Formulas as formulas
 use Rattle.grammar.specs.Formulas.{Reading, good, after, quotedBytes, enough, formulaOf}
-use Rattle.statements.specs.Statements.{Begun, bad, done, choice, onFormula, variableOf, assignAt, Items, noItems, items, itemsAt, printed, printAt, ifAt, forAt, targetAt, inputAt, byWord, ledByWord, ledBySign, ledByNumber, ledByToken, begunBy, begunAt}
+use Rattle.statements.specs.Statements.{Begun, bad, done, choice, onFormula, variableOf, assignAt, Items, noItems, items, itemsAt, printed, printAt, ifAt, forAt, targetAt, inputAt, ledByWord, ledBySign, ledByNumber, ledByToken, begunBy, begunAt}
 use Rattle.grammar.specs.bridge.Answers.{lineOf}
 use Rattle.statements.specs.bridge.Answers.{isQuoted, itemsOf}
 use Rattle.grammar.specs.declared.tests.NamedLine.the-variants.{Names}

@@ -4,7 +4,6 @@ use mathlib.Core.Path.{_≡_, refl, _∙_}
 use mathlib.Core.Bool.{Bool, true, false}
 use mathlib.Core.List.{List, [], _∷_, _++_, append-nil}
 use Prim.Native.Nat.{ℕ, _+_}
-use native.Mathlib.Omega.{arith}
 use Rattle.whole.proofs.Never.{never}
 use Rattle.words.specs.Places.{place}
 use Rattle.words.specs.declared.symbols.Scanned.{Scanned}

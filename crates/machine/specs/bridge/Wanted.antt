@@ -1,4 +1,4 @@
--- The record that a statement asks for, in numbers, and the search for it. Nothing here needs to be believed.
+-- Bridge: what a statement asks the records for, as plain numbers, and the search that the code makes for it.
 use mathlib.Core.Bool.{Bool, true, false, cond, not}
 use mathlib.Core.List.{List}
 use Prim.Native.Nat.{ℕ, zero, suc}

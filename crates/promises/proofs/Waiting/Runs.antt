@@ -11,7 +11,7 @@ use Rattle.loader.specs.Loading.{loadOf}
 use Rattle.loader.specs.declared.loading.Loaded.{Loaded}
 use Rattle.loader.specs.declared.loading.Loaded.the-variants as loaded
 use Rattle.grammar.specs.Trees.{Part, last, more}
-use Rattle.statements.specs.Parts.{formulasOf, headOf, tailOf, Rest, nothing, part, partsOf, partsWithin, heads, statementsOf, placeOf}
+use Rattle.statements.specs.Parts.{formulasOf, headOf, tailOf, Rest, nothing, part, partsOf, partsWithin, heads, placeOf}
 use Rattle.machine.specs.Machine.{Position, Machine, Lent, fresh, withStep}
 use Rattle.turns.specs.Steps.{Next, goesOn, enters, ends, stops, fails, doStatement}
 use Rattle.runner.specs.Run.{Ran, lineNumberOf, Entered, over, faulty, opened, enter, Standing, finished, at, byEntered, entering, onward, following, turn, running, ifLoaded, runOf}

@@ -16,7 +16,7 @@ use Rattle.words.proofs.Choices.{by-test}
 use Rattle.loader.specs.Lines.{Line, linesOf, fromNumber}
 use Rattle.grammar.specs.Trees as tree
 use Rattle.grammar.specs.Trees.{Formula, Variable, Item, Statement}
-use Rattle.statements.specs.Parts.{itemFormulas, formulasOf, Rest, nothing, part, partsOf, partsWithin, heads, statementsOf}
+use Rattle.statements.specs.Parts.{itemFormulas, formulasOf, Rest, nothing, part, partsOf, partsWithin, heads}
 use Rattle.variables.specs.Strings.{Value, whole, text, Room, Outcome, value, fault, make}
 use Rattle.variables.specs.Variables.{wordOf, numbersFull, stringsFull}
 use Rattle.operators.specs.Values.{valueOf}

@@ -2,7 +2,7 @@
 -- cite it; no demand and no promise of `run`, `check_recipe` or `ask` rests on it.
 use mathlib.Core.Path.{_≡_}
 use mathlib.Core.Bool.{Bool, true, false, cond, _&&_}
-use mathlib.Core.List.{List, [], _∷_, _++_}
+use mathlib.Core.List.{List, [], _++_}
 use Prim.Native.Nat.{ℕ, zero, suc, _+_, _≤_, max}
 use lib.Dec.{ltb}
 use Rattle.words.specs.Places.{place}

@@ -2,12 +2,12 @@
 -- The contracts of functions that crates use among themselves cite it; no demand and no promise of run, check_recipe or ask rests on it.
 use mathlib.Core.Bool.{Bool, true, false, _&&_}
 use mathlib.Core.List.{List}
-use Prim.Native.Nat.{ℕ, _-_, max}
+use Prim.Native.Nat.{ℕ, max}
 use Rattle.words.specs.declared.symbols.Scanned.{Scanned}
 use Rattle.words.specs.declared.symbols.Token.{Token}
 use Rattle.grammar.specs.Tests.{onName, onText}
 use Rattle.grammar.specs.Formulas as formulas
-use Rattle.grammar.specs.Formulas.{Reading, after, enough}
+use Rattle.grammar.specs.Formulas.{Reading, enough}
 use Rattle.expressions.specs.bridge.Answers.{cappedDepth}
 use Rattle.expressions.specs.Types.{sortOf, depthOf}
 use Rattle.statements.specs.Statements as statements

@@ -2,11 +2,10 @@
 -- The contracts of functions that crates use among themselves cite it; no demand and no promise of run, check_recipe or ask rests on it.
 use mathlib.Core.Path.{_≡_}
 use mathlib.Core.Bool.{true, false, cond}
-use mathlib.Core.List.{List, [], _∷_, _++_, map}
-use Prim.Native.Nat.{ℕ, zero, suc, _+_, _-_, _*_, _≤_, _<_}
+use mathlib.Core.List.{List, [], _∷_}
+use Prim.Native.Nat.{ℕ, _+_, _-_, _*_, _≤_, _<_}
 use lib.Dec.{leb}
 use lib.ListN.{length, getD, set, take, drop, replicate}
-use Rattle.words.specs.Names.{alike}
 use Rattle.words.specs.declared.names.Telling.{Telling}
 use Rattle.variables.specs.Strings.{whole, text, Room, Outcome, value, fault}
 use Rattle.variables.specs.Tables.{namesFrom, namesIn, numbersIn, slotIn, sumOf}
@@ -18,7 +17,6 @@ use Rattle.words.specs.declared.symbols.Scanned.{Scanned}
 use Rattle.space.specs.Moves.{copied, moved}
 use Rattle.variables.specs.declared.tables.Numbers.{Numbers}
 use Rattle.variables.specs.declared.tables.Strings.{Strings}
-use Rattle.variables.specs.declared.tables.Tables.{Tables}
 use Rattle.variables.specs.declared.assigning.NumberStored.{NumberStored}
 use Rattle.variables.specs.declared.assigning.StringStored.{StringStored}
 use Rattle.variables.specs.declared.tables.Slot.{Slot}

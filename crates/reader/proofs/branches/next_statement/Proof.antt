@@ -1,5 +1,4 @@
 -- Each arm is a clause of the definition.
-use mathlib.Core.Path.{sym}
 use borrow.Author.Needs.{needs}
 use Rattle.reader.proofs.branches.next_statement.Statement.{statement}
 use Rattle.reader.proofs.branches.next_statement.Tie as tie
