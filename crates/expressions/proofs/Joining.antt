@@ -5,24 +5,7 @@ use Prim.Native.Nat.{ℕ}
 use denote.Enum.Declared.{tagOf}
 use types.Run.{OneOf, miss}
 use Rattle.whole.specs.declared.arithmetic.Operator.{Operator}
-use Rattle.whole.specs.declared.arithmetic.Operator.the-variants.{
-  Multiply,
-  Divide,
-  Modulo,
-  Add,
-  Subtract,
-  Equal,
-  Unequal,
-  Less,
-  Greater,
-  AtMost,
-  AtLeast,
-  And,
-  Or,
-  Xor,
-  Eqv,
-  Imp,
-}
+use Rattle.whole.specs.declared.arithmetic.Operator.the-variants.{Multiply, Divide, Modulo, Add, Subtract, Equal, Unequal, Less, Greater, AtMost, AtLeast, And, Or, Xor, Eqv, Imp}
 use Rattle.expressions.specs.Types.{commonSort, compared, wholeOnly, joinedSort}
 use Rattle.expressions.specs.declared.sorts.Sort.{Sort}
 

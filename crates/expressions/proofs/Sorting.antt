@@ -9,23 +9,7 @@ use lib.Dec.{eqb, leb}
 use lib.ListN.{length}
 use Rattle.words.proofs.Choices.{by-test, both}
 use Rattle.words.specs.declared.symbols.Function.{Function}
-use Rattle.words.specs.declared.symbols.Function.the-variants.{
-  Len,
-  Asc,
-  Chr,
-  Left,
-  Right,
-  Mid,
-  Space,
-  String,
-  Instr,
-  Str,
-  Hex,
-  Val,
-  Abs,
-  Sgn,
-  Fre,
-}
+use Rattle.words.specs.declared.symbols.Function.the-variants.{Len, Asc, Chr, Left, Right, Mid, Space, String, Instr, Str, Hex, Val, Abs, Sgn, Fre}
 use Rattle.grammar.specs.Functions.{formsOf, formFor, anyFor, takes, wants}
 use Rattle.expressions.specs.Types.{meets, allMeet, callGives}
 use Rattle.grammar.specs.bridge.Answers.{packedWants, wantedOf}

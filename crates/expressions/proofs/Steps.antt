@@ -14,16 +14,7 @@ use Rattle.words.specs.declared.symbols.Function.{Function}
 use Rattle.words.specs.declared.symbols.Quotation.{Quotation}
 use Rattle.words.specs.declared.symbols.Scanned.{Scanned}
 use Rattle.words.specs.declared.symbols.Sign.{Sign}
-use Rattle.words.specs.declared.symbols.Sign.the-variants.{
-  Open,
-  Close,
-  Comma,
-  Semicolon,
-  Colon,
-  Question,
-  Equal,
-  Minus,
-}
+use Rattle.words.specs.declared.symbols.Sign.the-variants.{Open, Close, Comma, Semicolon, Colon, Question, Equal, Minus}
 use Rattle.words.specs.declared.symbols.Token.{Token}
 use Rattle.words.specs.declared.symbols.Token.the-variants as token
 use Rattle.scanner.specs.Tokens.{reads}

@@ -11,20 +11,7 @@ use Rattle.words.specs.declared.places.Place.{Place}
 use Rattle.words.specs.declared.symbols.Scanned.{Scanned}
 use Rattle.words.specs.declared.symbols.Sign.{Sign}
 use Rattle.words.specs.declared.symbols.Token.{Token}
-use Rattle.words.specs.declared.symbols.Token.the-variants.{
-  EndOfLine,
-  Keyword,
-  Not,
-  Infix,
-  Call,
-  Named,
-  Number,
-  Hexadecimal,
-  LineOnly,
-  Quoted,
-  Symbol,
-  Unreadable,
-}
+use Rattle.words.specs.declared.symbols.Token.the-variants.{EndOfLine, Keyword, Not, Infix, Call, Named, Number, Hexadecimal, LineOnly, Quoted, Symbol, Unreadable}
 use Rattle.words.specs.declared.symbols.Word.{Word}
 use Rattle.words.proofs.Choices.{by-test}
 use Rattle.scanner.specs.Tokens.{reads, tokenAt}

@@ -10,23 +10,7 @@ use Rattle.whole.specs.declared.errors.Error.{Error}
 use Rattle.whole.specs.declared.errors.Error.the-variants.{TypeMismatch}
 use Rattle.words.specs.declared.places.Place.{Place}
 use Rattle.words.specs.declared.symbols.Function.{Function}
-use Rattle.words.specs.declared.symbols.Function.the-variants.{
-  Len,
-  Asc,
-  Chr,
-  Left,
-  Right,
-  Mid,
-  Space,
-  String,
-  Instr,
-  Str,
-  Hex,
-  Val,
-  Abs,
-  Sgn,
-  Fre,
-}
+use Rattle.words.specs.declared.symbols.Function.the-variants.{Len, Asc, Chr, Left, Right, Mid, Space, String, Instr, Str, Hex, Val, Abs, Sgn, Fre}
 use Rattle.words.specs.declared.symbols.Scanned.{Scanned}
 use Rattle.words.specs.declared.symbols.Sign.the-variants.{Comma}
 use Rattle.words.proofs.Choices.{by-test}

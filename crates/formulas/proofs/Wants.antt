@@ -9,23 +9,7 @@ use lib.Dec.{eqb}
 use Rattle.whole.proofs.Numbers.{less}
 use Rattle.words.proofs.Choices.{by-test}
 use Rattle.words.specs.declared.symbols.Function.{Function}
-use Rattle.words.specs.declared.symbols.Function.the-variants.{
-  Len,
-  Asc,
-  Chr,
-  Left,
-  Right,
-  Mid,
-  Space,
-  String,
-  Instr,
-  Str,
-  Hex,
-  Val,
-  Abs,
-  Sgn,
-  Fre,
-}
+use Rattle.words.specs.declared.symbols.Function.the-variants.{Len, Asc, Chr, Left, Right, Mid, Space, String, Instr, Str, Hex, Val, Abs, Sgn, Fre}
 use Rattle.grammar.specs.Functions.{formFor, anyFor, takes, wants}
 use Rattle.operators.specs.Values.{wantAt}
 use Rattle.functions.specs.bridge.Memory.{wantBy}

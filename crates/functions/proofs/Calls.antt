@@ -16,23 +16,7 @@ use Rattle.whole.specs.declared.arithmetic.Answer.the-variants.{Whole}
 use Rattle.whole.proofs.Numbers.{fit-in}
 use Rattle.words.specs.declared.names.Kind.the-variants as kind
 use Rattle.words.specs.declared.symbols.Function.{Function}
-use Rattle.words.specs.declared.symbols.Function.the-variants.{
-  Len,
-  Asc,
-  Chr,
-  Left,
-  Right,
-  Mid,
-  Space,
-  String,
-  Instr,
-  Str,
-  Hex,
-  Val,
-  Abs,
-  Sgn,
-  Fre,
-}
+use Rattle.words.specs.declared.symbols.Function.the-variants.{Len, Asc, Chr, Left, Right, Mid, Space, String, Instr, Str, Hex, Val, Abs, Sgn, Fre}
 use Rattle.words.specs.declared.symbols.Scanned.{Scanned}
 use Rattle.grammar.specs.Functions.{gives}
 use Rattle.variables.specs.bridge.Memory.{answeredAs}

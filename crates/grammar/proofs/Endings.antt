@@ -2,20 +2,7 @@
 use mathlib.Core.Path.{_≡_, refl, sym}
 use mathlib.Core.Bool.{true, false, _||_, or-false, false≢true}
 use Rattle.words.specs.declared.symbols.Token.{Token}
-use Rattle.words.specs.declared.symbols.Token.the-variants.{
-  EndOfLine,
-  Keyword,
-  Not,
-  Infix,
-  Call,
-  Named,
-  Number,
-  Hexadecimal,
-  LineOnly,
-  Quoted,
-  Symbol,
-  Unreadable,
-}
+use Rattle.words.specs.declared.symbols.Token.the-variants.{EndOfLine, Keyword, Not, Infix, Call, Named, Number, Hexadecimal, LineOnly, Quoted, Symbol, Unreadable}
 use Rattle.words.specs.declared.symbols.Sign.the-variants.{Colon}
 use Rattle.words.specs.declared.symbols.Word.the-variants.{Else}
 use Rattle.grammar.specs.Tests.{isSymbol, isKeyword, endsStatement, endsLine}

@@ -12,38 +12,9 @@ use Rattle.checker.specs.Check.{checkOf}
 use Rattle.runner.specs.Run as run
 use Rattle.runner.specs.Run.{isRefused, answerOf}
 use Rattle.runner.specs.declared.running.Ran.{Ran}
-use Rattle.promises.specs.Calls.{
-  RunCall,
-  textOf,
-  inputOf,
-  spaceBefore,
-  spaceAfter,
-  roomBefore,
-  roomAfter,
-  lentOf,
-  budgetOf,
-  tablesBefore,
-  recipeOf,
-  tablesHanded,
-  spaceHanded,
-  nameAsked,
-}
+use Rattle.promises.specs.Calls.{RunCall, textOf, inputOf, spaceBefore, spaceAfter, roomBefore, roomAfter, lentOf, budgetOf, tablesBefore, recipeOf, tablesHanded, spaceHanded, nameAsked}
 use Rattle.promises.proofs.Waiting.Runs.{few-unfinished}
-use Rattle.promises.specs.Demands.{
-  ranOf,
-  answersAlways,
-  stopsWithinBudget,
-  refusesExactly,
-  refusalsChangeNothing,
-  staysWithinMemory,
-  askedPartsLieInside,
-  runsAsDefined,
-  madeExactly,
-  fourteenExactly,
-  checksExactly,
-  passedRecipesEndWell,
-  fewAtOnce,
-}
+use Rattle.promises.specs.Demands.{ranOf, answersAlways, stopsWithinBudget, refusesExactly, refusalsChangeNothing, staysWithinMemory, askedPartsLieInside, runsAsDefined, madeExactly, fourteenExactly, checksExactly, passedRecipesEndWell, fewAtOnce}
 use Rattle.promises.specs.Passing.{endsWell}
 use Rattle.promises.proofs.Limits.Bounds.{steps-within, output-within, input-within, strings-within}
 use Rattle.promises.proofs.Fourteen.Formulas.{make-over, make-refused}

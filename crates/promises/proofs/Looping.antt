@@ -27,35 +27,7 @@ use Rattle.variables.specs.Variables.{NumberVariable, wordOf, setNumber, hasNum
 use Rattle.operators.specs.Values.{valueOf}
 use Rattle.machine.specs.Machine.{Position, Record, loop, call, Machine, mostRecords, fresh, roomOf, withStep, noting, write, commaBlanks, isCall, isLoop, isLoopOf, Search, missing, found, sought, passed, longestInputLine}
 use Rattle.statements.specs.Parts.{Rest, nothing, part, headOf, tailOf, placeOf}
-use Rattle.turns.specs.Steps.{
-  Next,
-  goesOn,
-  enters,
-  ends,
-  stops,
-  fails,
-  wholeOnly,
-  worked,
-  workedWhole,
-  withNumber,
-  storeNumber,
-  storeString,
-  assigned,
-  written,
-  printItems,
-  toLine,
-  pushed,
-  returned,
-  cleared,
-  begun,
-  turned,
-  nextOn,
-  takeLine,
-  filled,
-  inputLine,
-  isWholeKind,
-  doStatement,
-}
+use Rattle.turns.specs.Steps.{Next, goesOn, enters, ends, stops, fails, wholeOnly, worked, workedWhole, withNumber, storeNumber, storeString, assigned, written, printItems, toLine, pushed, returned, cleared, begun, turned, nextOn, takeLine, filled, inputLine, isWholeKind, doStatement}
 use Rattle.runner.specs.Run.{lineNumberOf, Entered, over, faulty, opened, enter, Standing, finished, at, byEntered, entering, onward, following, turn}
 use Rattle.promises.specs.Passing.{standsAfter, isNext, lacksRoom, nextHasRoom}
 use Rattle.promises.proofs.Checked.Operators.{by-choice}

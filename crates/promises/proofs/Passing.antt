@@ -20,16 +20,7 @@ use Rattle.turns.specs.Steps.{Next, goesOn, enters, ends, stops, fails, doState
 use Rattle.runner.specs.Run.{Ran, lineNumberOf, Entered, over, faulty, opened, enter, Standing, finished, at, byEntered, entering, onward, following, turn, running, ifLoaded, runOf}
 use Rattle.promises.specs.Passing.{endsWell, checkedRunsEndWell}
 use Rattle.promises.proofs.Checked.Operators.{by-choice}
-use Rattle.promises.proofs.Checked.Lines.{
-  PartChecked,
-  part-apart,
-  LinesChecked,
-  RestChecked,
-  RecordsChecked,
-  passed-lines,
-  EnteredChecked,
-  enter-checked,
-}
+use Rattle.promises.proofs.Checked.Lines.{PartChecked, part-apart, LinesChecked, RestChecked, RecordsChecked, passed-lines, EnteredChecked, enter-checked}
 use Rattle.promises.proofs.Checked.Statements.{NextChecked, statement-checked}
 use Rattle.variables.specs.Strings.{longestSpace}
 

@@ -28,40 +28,13 @@ use Rattle.words.specs.declared.names.Name.{Name}
 use Rattle.words.specs.declared.symbols.Quotation.{Quotation}
 use Rattle.words.specs.declared.symbols.Scanned.{Scanned}
 use Rattle.words.specs.declared.symbols.Token.{Token}
-use Rattle.words.specs.declared.symbols.Token.the-variants.{
-  EndOfLine,
-  Keyword,
-  Not,
-  Infix,
-  Call,
-  Named,
-  Number,
-  Hexadecimal,
-  LineOnly,
-  Quoted,
-  Symbol,
-  Unreadable,
-}
+use Rattle.words.specs.declared.symbols.Token.the-variants.{EndOfLine, Keyword, Not, Infix, Call, Named, Number, Hexadecimal, LineOnly, Quoted, Symbol, Unreadable}
 use Rattle.words.proofs.Choices.{by-test}
 use Rattle.words.proofs.Tables.{every, meaning-passes}
 use Rattle.words.proofs.Runs.{in-line, run-some}
 use Rattle.words.specs.Places.{largestLineNumber}
 use Rattle.scanner.specs.Runs.{passes}
-use Rattle.scanner.specs.Tokens.{
-  markOf,
-  markLength,
-  marked,
-  wordToken,
-  numberToken,
-  hexToken,
-  textToken,
-  paired,
-  signToken,
-  otherToken,
-  begun,
-  tokenAt,
-  reads,
-}
+use Rattle.scanner.specs.Tokens.{markOf, markLength, marked, wordToken, numberToken, hexToken, textToken, paired, signToken, otherToken, begun, tokenAt, reads}
 use Rattle.scanner.specs.declared.runs.Run.the-variants.{Word, Unquoted}
 use Rattle.scanner.specs.declared.tokens.Mark.{Mark}
 use Rattle.scanner.specs.declared.tokens.Mark.the-variants.{Dollar, Percent, Bare}

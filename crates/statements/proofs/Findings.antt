@@ -8,20 +8,7 @@ use Rattle.words.specs.declared.places.LineNumber.{LineNumber}
 use Rattle.words.specs.declared.symbols.Quotation.{Quotation}
 use Rattle.words.specs.declared.symbols.Scanned.{Scanned}
 use Rattle.words.specs.declared.symbols.Token.{Token}
-use Rattle.words.specs.declared.symbols.Token.the-variants.{
-  EndOfLine,
-  Keyword,
-  Not,
-  Infix,
-  Call,
-  Named,
-  Number,
-  Hexadecimal,
-  LineOnly,
-  Quoted,
-  Symbol,
-  Unreadable,
-}
+use Rattle.words.specs.declared.symbols.Token.the-variants.{EndOfLine, Keyword, Not, Infix, Call, Named, Number, Hexadecimal, LineOnly, Quoted, Symbol, Unreadable}
 use Rattle.scanner.specs.Tokens.{reads}
 use Rattle.grammar.specs.Tests.{onName, onText, onLine}
 use Rattle.grammar.specs.Trees.{goto, gosub}

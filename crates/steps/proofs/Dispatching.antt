@@ -11,45 +11,9 @@ use Rattle.words.specs.Places.{place}
 use Rattle.words.specs.declared.symbols.Sign.{Sign}
 use Rattle.words.specs.declared.symbols.Sign.the-variants.{Open, Close, Comma, Semicolon, Colon, Question, Equal, Minus}
 use Rattle.words.specs.declared.symbols.Token.{Token}
-use Rattle.words.specs.declared.symbols.Token.the-variants.{
-  EndOfLine,
-  Keyword,
-  Not,
-  Infix,
-  Call,
-  Named,
-  Number,
-  Hexadecimal,
-  LineOnly,
-  Quoted,
-  Symbol,
-  Unreadable,
-}
+use Rattle.words.specs.declared.symbols.Token.the-variants.{EndOfLine, Keyword, Not, Infix, Call, Named, Number, Hexadecimal, LineOnly, Quoted, Symbol, Unreadable}
 use Rattle.words.specs.declared.symbols.Word.{Word}
-use Rattle.words.specs.declared.symbols.Word.the-variants.{
-  Let,
-  Print,
-  If,
-  Then,
-  Else,
-  Goto,
-  Gosub,
-  Return,
-  For,
-  To,
-  Step,
-  Next,
-  Line,
-  Input,
-  End,
-  Stop,
-  Rem,
-  While,
-  Wend,
-  Data,
-  Read,
-  Restore,
-}
+use Rattle.words.specs.declared.symbols.Word.the-variants.{Let, Print, If, Then, Else, Goto, Gosub, Return, For, To, Step, Next, Line, Input, End, Stop, Rem, While, Wend, Data, Read, Restore}
 use Rattle.words.proofs.Choices.{by-test}
 use Rattle.scanner.specs.Tokens.{tokenAt}
 use Rattle.grammar.specs.Tests.{isSymbol, isKeyword, endsStatement}

@@ -19,23 +19,7 @@ use Rattle.whole.specs.declared.errors.Error.{Error}
 use Rattle.whole.specs.declared.errors.Error.the-variants.{TypeMismatch}
 use Rattle.words.specs.Spellings.{sameBytes}
 use Rattle.words.specs.declared.symbols.Function.{Function}
-use Rattle.words.specs.declared.symbols.Function.the-variants.{
-  Len,
-  Asc,
-  Chr,
-  Left,
-  Right,
-  Mid,
-  Space,
-  String,
-  Instr,
-  Str,
-  Hex,
-  Val,
-  Abs,
-  Sgn,
-  Fre,
-}
+use Rattle.words.specs.declared.symbols.Function.the-variants.{Len, Asc, Chr, Left, Right, Mid, Space, String, Instr, Str, Hex, Val, Abs, Sgn, Fre}
 use Rattle.grammar.specs.Functions.{gives}
 use Rattle.expressions.specs.Types.{ofKind, wholeOnly, commonSort, compared, joinedSort}
 use Rattle.expressions.specs.declared.sorts.Sort.{Sort}

@@ -25,68 +25,13 @@ use Rattle.checker.specs.Check.{present}
 use Rattle.variables.specs.Strings.{Value, whole, text, Outcome, value, fault, make}
 use Rattle.variables.specs.Variables.{wordOf, numbersFull, stringsFull}
 use Rattle.operators.specs.Values.{valueOf}
-use Rattle.machine.specs.Machine.{
-  Position,
-  Record,
-  loop,
-  call,
-  Machine,
-  mostRecords,
-  roomOf,
-  noting,
-  write,
-  commaBlanks,
-  isCall,
-  isLoop,
-  isLoopOf,
-  Search,
-  missing,
-  found,
-  sought,
-  passed,
-  longestInputLine,
-}
-use Rattle.turns.specs.Steps.{
-  Next,
-  goesOn,
-  enters,
-  ends,
-  stops,
-  fails,
-  worked,
-  workedWhole,
-  storeNumber,
-  storeString,
-  assigned,
-  written,
-  printItems,
-  toLine,
-  pushed,
-  returned,
-  cleared,
-  begun,
-  turned,
-  nextOn,
-  takeLine,
-  filled,
-  inputLine,
-  isWholeKind,
-  doStatement,
-}
+use Rattle.machine.specs.Machine.{Position, Record, loop, call, Machine, mostRecords, roomOf, noting, write, commaBlanks, isCall, isLoop, isLoopOf, Search, missing, found, sought, passed, longestInputLine}
+use Rattle.turns.specs.Steps.{Next, goesOn, enters, ends, stops, fails, worked, workedWhole, storeNumber, storeString, assigned, written, printItems, toLine, pushed, returned, cleared, begun, turned, nextOn, takeLine, filled, inputLine, isWholeKind, doStatement}
 use Rattle.promises.proofs.Records as records
 use Rattle.promises.proofs.Records.{sought-each, below-each}
 use Rattle.promises.proofs.Checked.Operators.{by-choice, Allowed, Answers, applied-answers, Fits, make-fits}
 use Rattle.promises.proofs.Checked.Formulas.{formula-fits}
-use Rattle.promises.proofs.Checked.Lines.{
-  Checked,
-  AllChecked,
-  PartChecked,
-  parts-apart,
-  LinesChecked,
-  PositionChecked,
-  RecordChecked,
-  RecordsChecked,
-}
+use Rattle.promises.proofs.Checked.Lines.{Checked, AllChecked, PartChecked, parts-apart, LinesChecked, PositionChecked, RecordChecked, RecordsChecked}
 
 -- ---- formulas of the type that a statement wants
 

@@ -24,38 +24,13 @@ use Rattle.grammar.specs.declared.wanting.Want.{Want}
 use Rattle.variables.specs.Strings.{Value, whole, text, Room, Outcome, value, fault, then, make, letAllGo, produced}
 use Rattle.variables.specs.Variables.{Variables, bytesOf}
 use Rattle.strings.specs.Functions.{answered, called}
-use Rattle.operators.specs.Values.{
-  wholeThen,
-  onTexts,
-  joined,
-  leftRight,
-  sides,
-  Taken,
-  taken,
-  stopped,
-  meets,
-  wantAt,
-  tested,
-  further,
-  result,
-  valueOf,
-  valuesOf,
-}
+use Rattle.operators.specs.Values.{wholeThen, onTexts, joined, leftRight, sides, Taken, taken, stopped, meets, wantAt, tested, further, result, valueOf, valuesOf}
 use Rattle.promises.specs.Unfinished.{bytesHeld, stringsHeld, allBytes, Grown, LiveIsExact}
 use Rattle.promises.specs.StringSpace as asks
 use Rattle.promises.specs.StringSpace.{Ask, bytesIn, Exceeds, textsIn, behind, Asks, AsksAmong}
 use Rattle.whole.proofs.Never.{never}
 use Rattle.promises.proofs.Fourteen.Rooms as rooms
-use Rattle.promises.proofs.Fourteen.Rooms.{
-  Spares,
-  negated-spares,
-  applied-spares,
-  say-spares,
-  CallView,
-  call-view,
-  TextsView,
-  texts-view,
-}
+use Rattle.promises.proofs.Fourteen.Rooms.{Spares, negated-spares, applied-spares, say-spares, CallView, call-view, TextsView, texts-view}
 
 -- ---- what is asked for while values wait
 

@@ -29,20 +29,7 @@ use Rattle.grammar.specs.Functions.{wants}
 use Rattle.grammar.specs.Formulas.{countOf}
 use Rattle.variables.specs.Strings.{Value, whole, text, Room, Outcome, value, fault, then, make, letGo, letAllGo, produced}
 use Rattle.variables.specs.Variables.{Variables, bytesOf}
-use Rattle.strings.specs.Functions.{
-  argument,
-  word,
-  bytes,
-  answered,
-  within,
-  placeOf,
-  fillRight,
-  fillByte,
-  midLength,
-  instrStart,
-  instrTexts,
-  called,
-}
+use Rattle.strings.specs.Functions.{argument, word, bytes, answered, within, placeOf, fillRight, fillByte, midLength, instrStart, instrTexts, called}
 use Rattle.operators.specs.Values.{wholeThen, isBefore, onTexts, joined, leftRight, sides, Taken, taken, stopped, result, valueOf, valuesOf}
 use Rattle.promises.specs.StringSpace.{Produces}
 use Rattle.whole.proofs.Never.{never}

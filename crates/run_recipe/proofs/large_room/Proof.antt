@@ -5,8 +5,8 @@ use lib.ListN.{length-replicate}
 use Rattle.run_recipe.proofs.large_room.Statement.{statement}
 use Rattle.run_recipe.proofs.large_room.Tie as tie
 
-returns : tie.Need-returns
-returns c = sym (length-replicate {0} {A = ℕ} 1048576 0)
-
 pub large-room-spec : {M : Type 1} → statement M
-large-room-spec = tie.close (tie.spec returns)
+large-room-spec =
+    tie.close
+    (tie.spec
+    (λ c. sym (length-replicate {0} {A = ℕ} 1048576 0)))

@@ -6,8 +6,10 @@ use Rattle.check_recipe.specs.Answers.{lineOf}
 use Rattle.check_recipe.proofs.verdicts.line_of.Statement.{statement}
 use Rattle.check_recipe.proofs.verdicts.line_of.Tie as tie
 
-returns : tie.Need-returns
-returns c = c .told .ensures ∙ ap (λ v. held (lineOf v)) (c .before .check-recipe .ensures)
-
 pub line-of-spec : {M : Type 1} → statement M
-line-of-spec = tie.close (tie.spec (λ c κs. search needs) (λ c κs. search needs) returns)
+line-of-spec =
+    tie.close
+    (tie.spec
+    (λ c κs. search needs)
+    (λ c κs. search needs)
+    (λ c. c .told .ensures ∙ ap (λ v. held (lineOf v)) (c .before .check-recipe .ensures)))

@@ -54,9 +54,6 @@ returns-3 c =
     let l = f .before .before .before .before .before .before .before in
     fault-here (linesOf (text l)) (text l) (at-line l) (sym (c .before .error .given .1) ∙ f .fault-in .ensures) ∙ l .before .before .before .loop .inv .1
 
-loop-less : tie.Need-loop-less Inv-loop μ-loop
-loop-less c = let r = at-line (c .before .before .before .before .before .before .before .before .before) in omega (arith, r .onward, r .within)
-
 loop-again : tie.Need-loop-again Inv-loop μ-loop
 loop-again c =
     let f = c .before .before in
@@ -86,5 +83,5 @@ check-recipe-spec =
     (λ c. search needs)
     returns-3
     (λ c. search needs)
-    loop-less
+    (λ c. let r = at-line (c .before .before .before .before .before .before .before .before .before) in omega (arith, r .onward, r .within))
     loop-again)

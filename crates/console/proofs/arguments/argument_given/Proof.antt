@@ -4,9 +4,6 @@ use Rattle.console.proofs.Values.{given-limited}
 use Rattle.console.proofs.arguments.argument_given.Statement.{statement}
 use Rattle.console.proofs.arguments.argument_given.Tie as tie
 
-returns-2 : tie.Need-returns-2
-returns-2 c = rw (c .number-given .ensures) (given-limited _ _)
-
 pub argument-given-spec : {M : Type 1} → statement M
 argument-given-spec =
     tie.close
@@ -19,4 +16,4 @@ argument-given-spec =
     (λ c. search needs)
     (λ c. search needs)
     (λ c κs. search needs)
-    returns-2)
+    (λ c. rw (c .number-given .ensures) (given-limited _ _)))

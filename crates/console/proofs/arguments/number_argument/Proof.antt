@@ -3,9 +3,6 @@ use borrow.Author.Needs.{needs}
 use Rattle.console.proofs.arguments.number_argument.Statement.{statement}
 use Rattle.console.proofs.arguments.number_argument.Tie as tie
 
-returns-2 : tie.Need-returns-2
-returns-2 c h = rw (c .before .value .given .1) at (c .before .before .before .argument-given .ensures)
-
 pub number-argument-spec : {M : Type 1} → statement M
 number-argument-spec =
     tie.close
@@ -18,6 +15,6 @@ number-argument-spec =
     (λ c κs. search needs)
     (λ c. search needs)
     (λ c κs. search needs)
-    returns-2
+    (λ c h. rw (c .before .value .given .1) at (c .before .before .before .argument-given .ensures))
     (λ c. search needs)
     (λ c. search needs))

@@ -14,9 +14,6 @@ counted : (c : tie.After-leading-digits)
 unfolding digitsOf
 counted c = ap (λ (d : Digits). d .count) (c .leading-digits .ensures)
 
-returns : tie.Need-returns
-returns c = let d = c .before in no-digit _ _ (sym (counted d) ∙ c .if1 .taken)
-
 returns-2 : tie.Need-returns-2
 returns-2 c =
     let d = c .before .before in
@@ -39,7 +36,7 @@ number-given-spec =
     tie.close
     (tie.spec
     (λ c κs. search needs)
-    returns
+    (λ c. let d = c .before in no-digit _ _ (sym (counted d) ∙ c .if1 .taken))
     returns-2
     (λ c κs. search needs)
     returns-3

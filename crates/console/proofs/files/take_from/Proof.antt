@@ -3,9 +3,6 @@ use borrow.Author.Needs.{needs}
 use Rattle.console.proofs.files.take_from.Statement.{statement}
 use Rattle.console.proofs.files.take_from.Tie as tie
 
-returns : tie.Need-returns
-returns c = c .taken-of .ensures _ (c .before .before .before .before .before .before .read-full .ensures)
-
 pub take-from-spec : {M : Type 1} → statement M
 take-from-spec =
     tie.close
@@ -15,4 +12,4 @@ take-from-spec =
     (λ c κs. search needs)
     (λ c κs. search needs)
     (λ c. search needs)
-    returns)
+    (λ c. c .taken-of .ensures _ (c .before .before .before .before .before .before .read-full .ensures)))

@@ -4,9 +4,6 @@ use Rattle.io.proofs.Counting.{counts}
 use Rattle.console.proofs.files.take_front.Statement.{statement}
 use Rattle.console.proofs.files.take_front.Tie as tie
 
-returns : tie.Need-returns
-returns c = counts _ _ (search needs)
-
 pub take-front-spec : {M : Type 1} → statement M
 take-front-spec =
     tie.close
@@ -14,6 +11,6 @@ take-front-spec =
     (λ c κs. search needs)
     (λ c. search needs)
     (λ c. search needs)
-    returns
+    (λ c. counts _ _ (search needs))
     (λ c. search needs)
     (λ c. search needs))

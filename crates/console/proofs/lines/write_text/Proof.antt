@@ -14,18 +14,12 @@ long c = search needs
 short : (c : tie.After-struct-known) → c .before .before .args .text .len ≤ 255
 short c = search needs
 
-array-share-prefix-bytes : tie.Need-array-share-prefix-bytes
-array-share-prefix-bytes c = omega (arith, long c, short c)
-
-slice-aggregate-write : tie.Need-slice-aggregate-write
-slice-aggregate-write c = let s = c .before in sym (length-take-le _ _ (omega (arith, long s, short s)))
-
 pub write-text-spec : {M : Type 1} → statement M
 write-text-spec =
     tie.close
     (tie.spec
     (λ c. search needs)
-    array-share-prefix-bytes
-    slice-aggregate-write
+    (λ c. omega (arith, long c, short c))
+    (λ c. let s = c .before in sym (length-take-le _ _ (omega (arith, long s, short s))))
     (λ c κs. search needs)
     (λ c. search needs))

@@ -4,9 +4,6 @@ use Rattle.control.proofs.Jumps.{back-missing, back-found}
 use Rattle.control.proofs.jumping.come_back.Statement.{statement}
 use Rattle.control.proofs.jumping.come_back.Tie as tie
 
-returns : tie.Need-returns
-returns c text input space room at after s = rw (c .fails .ensures, c .before .enum-told .given .1) (back-missing at after s)
-
 returns-2 : tie.Need-returns-2
 returns-2 c text input space room at after s =
     let f = c .before .before .before .found .given in
@@ -21,5 +18,5 @@ come-back-spec =
     (λ c. search needs)
     (λ c κs. search needs)
     (λ c κs. search needs)
-    returns
+    (λ c text input space room at after s. rw (c .fails .ensures, c .before .enum-told .given .1) (back-missing at after s))
     returns-2)

@@ -5,23 +5,8 @@ use borrow.Author.Needs.{needs}
 use Rattle.control.proofs.leading.call.Statement.{statement}
 use Rattle.control.proofs.leading.call.Tie as tie
 
-line-of-requires : tie.Need-line-of-requires
-line-of-requires c κs = search needs
-
 enum-told : tie.Need-enum-told
 enum-told c = search needs
-
-fails-requires : tie.Need-fails-requires
-fails-requires c κs = search needs
-
-enum-known-number : tie.Need-enum-known-number
-enum-known-number c = search needs
-
-token-at-requires : tie.Need-token-at-requires
-token-at-requires c κs = search needs
-
-gosub-requires : tie.Need-gosub-requires
-gosub-requires c κs = search needs
 
 returns : tie.Need-returns
 returns c = λ input space room at found entry sound. rw (no-line (c .before .before .before .before .before .before .args .target .token) _ _ (sym (c .before .before .before .line-of .ensures) ∙ c .before .enum-told .given .1)) tt
@@ -36,11 +21,11 @@ pub call-spec : {M : Type 1} → statement M
 call-spec =
     tie.close
     (tie.spec
-    line-of-requires
+    (λ c κs. search needs)
     enum-told
-    fails-requires
-    enum-known-number
-    token-at-requires
-    gosub-requires
+    (λ c κs. search needs)
+    (λ c. search needs)
+    (λ c κs. search needs)
+    (λ c κs. search needs)
     returns
     returns-2)

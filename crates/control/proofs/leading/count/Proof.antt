@@ -5,22 +5,10 @@ use borrow.Author.Needs.{needs}
 use Rattle.control.proofs.leading.count.Statement.{statement}
 use Rattle.control.proofs.leading.count.Tie as tie
 
-token-at-requires : tie.Need-token-at-requires
-token-at-requires c κs = search needs
-
-enum-known-token : tie.Need-enum-known-token
-enum-known-token c = search needs
-
 for-loop-requires : tie.Need-for-loop-requires
 for-loop-requires c κs =
     let s = c .before .before .before .before .before .before .before .args .line .now in
     (rw (c .before .before .before .before .token-at .ensures) (for-counts s (c .before .before .before .before .before .before .before .pre .1 .0) (c .before .before .before .before .before .before .before .args .target) (c .before .before .token .given .0 .0) (rw (c .before .before .token .given .1) at (c .before .before .before .before .before .before .before .pre .0))), c .before .before .before .before .before .before .before .pre .1 .1)
-
-fails-requires : tie.Need-fails-requires
-fails-requires c κs = search needs
-
-same-length : tie.Need-same-length
-same-length c = search needs
 
 returns : tie.Need-returns
 returns c =
@@ -28,17 +16,14 @@ returns c =
     loop-does _ _ _ at _ _ _ _ _ _ _ _ _ (c .before .before .before .before .before .before .before .before .before .before .args .target) (c .before .before .before .before .before .token .given .0 .0) (c .before .before .before .before .before .token .given .1)
     (λ from to by u p e. c .before .before .for-loop .ensures text input room at from to by u sound p (rw (← (c .before .before .before .before .before .before .before .token-at .ensures)) at e) entry)
 
-returns-2 : tie.Need-returns-2
-returns-2 c = λ text input room at entry sound. rw (no-name (c .before .before .before .before .before .args .target .token) _ _ (c .before .match .keys2)) tt
-
 pub count-spec : {M : Type 1} → statement M
 count-spec =
     tie.close
     (tie.spec
-    token-at-requires
-    enum-known-token
+    (λ c κs. search needs)
+    (λ c. search needs)
     for-loop-requires
-    fails-requires
-    same-length
+    (λ c κs. search needs)
+    (λ c. search needs)
     returns
-    returns-2)
+    (λ c. λ text input room at entry sound. rw (no-name (c .before .before .before .before .before .args .target .token) _ _ (c .before .match .keys2)) tt))

@@ -5,20 +5,8 @@ use borrow.Author.Needs.{needs}
 use Rattle.control.proofs.leading.jump.Statement.{statement}
 use Rattle.control.proofs.leading.jump.Tie as tie
 
-line-of-requires : tie.Need-line-of-requires
-line-of-requires c κs = search needs
-
 enum-told : tie.Need-enum-told
 enum-told c = search needs
-
-fails-requires : tie.Need-fails-requires
-fails-requires c κs = search needs
-
-enum-known-number : tie.Need-enum-known-number
-enum-known-number c = search needs
-
-goto-requires : tie.Need-goto-requires
-goto-requires c κs = search needs
 
 returns : tie.Need-returns
 returns c = λ line input space room here at found entry sound. rw (no-line (c .before .before .before .before .before .args .target .token) _ _ (sym (c .before .before .before .line-of .ensures) ∙ c .before .enum-told .given .1)) tt
@@ -33,10 +21,10 @@ pub jump-spec : {M : Type 1} → statement M
 jump-spec =
     tie.close
     (tie.spec
-    line-of-requires
+    (λ c κs. search needs)
     enum-told
-    fails-requires
-    enum-known-number
-    goto-requires
+    (λ c κs. search needs)
+    (λ c. search needs)
+    (λ c κs. search needs)
     returns
     returns-2)

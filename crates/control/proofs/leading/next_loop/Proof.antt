@@ -7,26 +7,8 @@ use borrow.Author.Needs.{needs}
 use Rattle.control.proofs.leading.next_loop.Statement.{statement}
 use Rattle.control.proofs.leading.next_loop.Tie as tie
 
-enum-known-token : tie.Need-enum-known-token
-enum-known-token c = search needs
-
 enum-told : tie.Need-enum-told
 enum-told c = search needs
-
-fails-requires : tie.Need-fails-requires
-fails-requires c κs = search needs
-
-enum-told-2 : tie.Need-enum-told-2
-enum-told-2 c = search needs
-
-token-at-requires : tie.Need-token-at-requires
-token-at-requires c κs = search needs
-
-next-turn-requires : tie.Need-next-turn-requires
-next-turn-requires c κs = search needs
-
-next-turn-requires-2 : tie.Need-next-turn-requires-2
-next-turn-requires-2 c κs = search needs
 
 returns : tie.Need-returns
 returns c =
@@ -47,13 +29,13 @@ pub next-loop-spec : {M : Type 1} → statement M
 next-loop-spec =
     tie.close
     (tie.spec
-    enum-known-token
+    (λ c. search needs)
     enum-told
-    fails-requires
-    enum-told-2
-    token-at-requires
-    next-turn-requires
-    next-turn-requires-2
+    (λ c κs. search needs)
+    (λ c. search needs)
+    (λ c κs. search needs)
+    (λ c κs. search needs)
+    (λ c κs. search needs)
     returns
     returns-2
     returns-3)

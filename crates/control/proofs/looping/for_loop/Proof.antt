@@ -14,9 +14,6 @@ returns : tie.Need-returns
 returns c text input room at from to by u sound p e entry =
     rw (c .fails .ensures) (for-text at _ from to by _ (c .before .enum-told2 .given .1) sound)
 
-value-requires : tie.Need-value-requires
-value-requires c κs = let k = c .before .before .before .before .before .before .before .before .pre in (rw (c .before .token-at .ensures) (start-formed (k .0)), k .1 .0)
-
 with-limit-requires : tie.Need-with-limit-requires
 with-limit-requires c κs =
     let k = c .before .before .before .before .before .before .before .before .before .before .before .before .before .before .before .before .before .pre in
@@ -66,7 +63,7 @@ for-loop-spec =
     returns
     (λ c κs. search needs)
     (λ c κs. search needs)
-    value-requires
+    (λ c κs. let k = c .before .before .before .before .before .before .before .before .pre in (rw (c .before .token-at .ensures) (start-formed (k .0)), k .1 .0))
     (λ c. search needs)
     (λ c κs. search needs)
     (λ c. search needs)

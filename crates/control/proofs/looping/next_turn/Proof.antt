@@ -8,9 +8,6 @@ returns : tie.Need-returns
 returns c text input space room k calls sound p =
     rw (c .fails .ensures, c .before .enum-told .given .1) (next-missing _ calls sound)
 
-returns-2 : tie.Need-returns-2
-returns-2 c text input space room k calls sound p = rw (c .before .before .found .given .1) (c .turn .ensures text input space room k calls sound p)
-
 pub next-turn-spec : {M : Type 1} → statement M
 next-turn-spec =
     tie.close
@@ -20,4 +17,4 @@ next-turn-spec =
     (λ c. search needs)
     (λ c κs. rw (c .before .found .given .1) at (c .before .before .before .pre))
     returns
-    returns-2)
+    (λ c text input space room k calls sound p. rw (c .before .before .found .given .1) (c .turn .ensures text input space room k calls sound p)))

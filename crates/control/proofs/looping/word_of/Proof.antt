@@ -11,9 +11,6 @@ element-copy-out-result c =
     let s = c .before .slot .given in
     slot-below _ _ (s .0 .0) (sym (c .before .before .before .slot-of .ensures) ∙ s .1)
 
-mul-result : tie.Need-mul-result
-mul-result c = let h = element-copy-out-result c in omega arith
-
 pub word-of-spec : {M : Type 1} → statement M
 word-of-spec =
     tie.close
@@ -21,7 +18,7 @@ word-of-spec =
     (λ c κs. search needs)
     (λ c. search needs)
     (λ c. search needs)
-    mul-result
+    (λ c. let h = element-copy-out-result c in omega arith)
     element-copy-out-result
     (λ c. rw (sym (c .before .before .slot-of .ensures) ∙ c .enum-told .given .1))
     (λ c. rw (sym (c .before .before .before .before .slot-of .ensures) ∙ c .before .before .slot .given .1) (search needs)))

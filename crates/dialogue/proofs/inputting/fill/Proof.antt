@@ -7,46 +7,19 @@ use borrow.Author.Needs.{needs}
 use Rattle.dialogue.proofs.inputting.fill.Statement.{statement}
 use Rattle.dialogue.proofs.inputting.fill.Tie as tie
 
-sub-if1 : tie.Need-sub-if1
-sub-if1 c = search needs
-
-fails-requires : tie.Need-fails-requires
-fails-requires c κs = search needs
-
 returns : tie.Need-returns
 returns c = λ text input room sound p. rw (c .fails .ensures) (fills-none text sound (c .before .before .before .before .before .args .bytes .now) (variableOf (c .before .before .before .before .before .args .line .now) (c .before .before .before .before .before .args .name)) _ (omega (arith, c .before .if1 .taken, c .before .before .before .before .before .pre .0 .within)))
-
-copy-in-requires : tie.Need-copy-in-requires
-copy-in-requires c κs = search needs
 
 enum-told : tie.Need-enum-told
 enum-told c = search needs
 
-fails-requires-2 : tie.Need-fails-requires-2
-fails-requires-2 c κs = search needs
-
-enum-told-2 : tie.Need-enum-told-2
-enum-told-2 c = search needs
-
-telling-of-requires : tie.Need-telling-of-requires
-telling-of-requires c κs = search needs
-
 with-string-requires : tie.Need-with-string-requires
 with-string-requires c κs = fills-storable (c .before .before .before .before .before .before .before .before .before .before .before .before .args .bytes .now) (c .before .before .before .before .before .before .before .before .before .before .before .before .pre .0) (c .before .before .before .before .before .before .copy-in .ensures) (omega (arith, c .before .before .before .before .before .before .before .before .if1 .left, c .before .before .before .before .before .before .before .before .before .before .before .before .pre .0 .within)) (c .before .before .before .before .before .before .before .before .before .before .before .before .pre .1)
-
-stored-or-full-requires : tie.Need-stored-or-full-requires
-stored-or-full-requires c κs = search needs
-
-same-length : tie.Need-same-length
-same-length c = search needs
 
 returns-2 : tie.Need-returns-2
 returns-2 c =
     λ text input room sound p.
     rw (c .fails2 .ensures, c .before .enum-told .given .1, c .before .before .before .before .before .copy-in .ensures) (fills-number text sound (c .before .before .before .before .before .before .before .before .before .before .before .args .bytes .now) (omega (arith, c .before .before .before .before .before .before .before .if1 .left, c .before .before .before .before .before .before .before .before .before .before .before .pre .0 .within)) (variableOf (c .before .before .before .before .before .before .before .before .before .before .before .args .line .now) (c .before .before .before .before .before .before .before .before .before .before .before .args .name) .telling) (positionOf text (afterOf (c .before .before .before .before .before .before .before .before .before .before .before .args .here) (c .before .before .before .before .before .before .before .before .before .before .before .args .ahead))))
-
-same-length-2 : tie.Need-same-length-2
-same-length-2 c = search needs
 
 returns-3 : tie.Need-returns-3
 returns-3 c =
@@ -58,17 +31,17 @@ pub fill-spec : {M : Type 1} → statement M
 fill-spec =
     tie.close
     (tie.spec
-    sub-if1
-    fails-requires
+    (λ c. search needs)
+    (λ c κs. search needs)
     returns
-    copy-in-requires
+    (λ c κs. search needs)
     enum-told
-    fails-requires-2
-    enum-told-2
-    telling-of-requires
+    (λ c κs. search needs)
+    (λ c. search needs)
+    (λ c κs. search needs)
     with-string-requires
-    stored-or-full-requires
-    same-length
+    (λ c κs. search needs)
+    (λ c. search needs)
     returns-2
-    same-length-2
+    (λ c. search needs)
     returns-3)

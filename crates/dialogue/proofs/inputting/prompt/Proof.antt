@@ -9,40 +9,13 @@ use borrow.Author.Needs.{needs}
 use Rattle.dialogue.proofs.inputting.prompt.Statement.{statement}
 use Rattle.dialogue.proofs.inputting.prompt.Tie as tie
 
-write-requires : tie.Need-write-requires
-write-requires c κs = search needs
-
-fails-requires : tie.Need-fails-requires
-fails-requires c κs = search needs
-
-same-length : tie.Need-same-length
-same-length c = search needs
-
 returns : tie.Need-returns
 returns c =
     λ program at v u p e. rw (c .fails .ensures, c .before .before .before .before .before .write .ensures .1)
     (asks-full program (c .before .before .before .before .before .before .before .before .before .before .before .before .pre) at (c .before .before .before .before .before .before .before .before .before .before .before .before .args .text .now) v (positionOf program (afterOf (c .before .before .before .before .before .before .before .before .before .before .before .before .args .here) u)) (failed (ap (λ (x : Printed). x .ok) (c .before .before .before .before .before .write .ensures .0)) (c .before .if1 .taken)))
 
-with-printer-requires : tie.Need-with-printer-requires
-with-printer-requires c κs = search needs
-
-enum-known-token : tie.Need-enum-known-token
-enum-known-token c = search needs
-
-token-at-requires : tie.Need-token-at-requires
-token-at-requires c κs = search needs
-
 take-in-requires : tie.Need-take-in-requires
 take-in-requires c κs = printed-settled (c .before .before .before .before .before .with-printer .ensures) (c .before .before .before .before .before .before .before .before .before .before .before .before .before .before .before .before .before .before .pre .settled)
-
-fails-requires-2 : tie.Need-fails-requires-2
-fails-requires-2 c κs = search needs
-
-same-length-2 : tie.Need-same-length-2
-same-length-2 c = search needs
-
-same-length-3 : tie.Need-same-length-3
-same-length-3 c = c .before .before .before .before .before .before .before .before .before .before .before .before .before .before .write .kept .1 .0
 
 returns-2 : tie.Need-returns-2
 returns-2 c =
@@ -54,9 +27,6 @@ returns-2 c =
     (c .before .before .before .before .before .before .before .before .with-printer .ensures ∙ ap (λ (x : Printed). withPrinter (c .before .before .before .before .before .before .before .before .before .before .before .before .before .before .before .before .before .before .before .before .before .args .machine) (x .printer)) (c .before .before .before .before .before .before .before .before .before .before .before .before .before .before .write .ensures .0)) (c .before .before .before .before .before .before .before .before .before .before .before .before .before .before .write .ensures .1)
     (λ s. c .before .before .take-in .ensures program (c .before .before .before .before .before .before .before .before .before .before .before .before .before .before .write .last .1 .0) s (rw (k .1, ← (c .before .before .before .before .token-at .ensures)) at p)))
 
-same-length-4 : tie.Need-same-length-4
-same-length-4 c = search needs
-
 returns-3 : tie.Need-returns-3
 returns-3 c = λ program at v u p e. absurd (not-target (c .before .before .before .before .before .before .before .before .before .before .before .before .before .before .before .args .line .now) (c .before .before .before .before .before .before .before .before .before .before .before .before .before .before .before .args .text .now) (c .before .before .before .before .before .before .before .before .before .before .before .before .before .before .before .args .target) (c .before .match .keys2) e)
 
@@ -64,17 +34,17 @@ pub prompt-spec : {M : Type 1} → statement M
 prompt-spec =
     tie.close
     (tie.spec
-    write-requires
-    fails-requires
-    same-length
+    (λ c κs. search needs)
+    (λ c κs. search needs)
+    (λ c. search needs)
     returns
-    with-printer-requires
-    enum-known-token
-    token-at-requires
+    (λ c κs. search needs)
+    (λ c. search needs)
+    (λ c κs. search needs)
     take-in-requires
-    fails-requires-2
-    same-length-2
-    same-length-3
+    (λ c κs. search needs)
+    (λ c. search needs)
+    (λ c. c .before .before .before .before .before .before .before .before .before .before .before .before .before .before .write .kept .1 .0)
     returns-2
-    same-length-4
+    (λ c. search needs)
     returns-3)

@@ -22,9 +22,6 @@ Inv-loop line here space₀ room₀ m₀ item₀ quiet₀ space room m item quie
 abbrev μ-loop : tie.MeasureT-loop
 μ-loop line here space₀ room₀ m₀ item₀ quiet₀ space room m item quiet = weight line item
 
-loop-holds : tie.Need-loop-holds Inv-loop μ-loop
-loop-holds c = let s = c .before .before .before in λ all end e. prints-begin (s .pre .0) e (s .pre .1 .0) (s .pre .1 .1)
-
 -- ---- no item is left
 
 print-end-requires : tie.Need-print-end-requires Inv-loop μ-loop
@@ -117,7 +114,7 @@ print-spec =
     (tie.spec
     Inv-loop
     μ-loop
-    loop-holds
+    (λ c. let s = c .before .before .before in λ all end e. prints-begin (s .pre .0) e (s .pre .1 .0) (s .pre .1 .1))
     (λ c κs. search needs)
     print-end-requires
     same-length

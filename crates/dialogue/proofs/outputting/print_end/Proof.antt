@@ -6,9 +6,6 @@ use Rattle.dialogue.proofs.Shows.{end-refused, end-written}
 use Rattle.dialogue.proofs.outputting.print_end.Statement.{statement}
 use Rattle.dialogue.proofs.outputting.print_end.Tie as tie
 
-returns : tie.Need-returns
-returns c = rw (c .before .if1 .taken) (c .goes-on .ensures, search needs)
-
 returns-2 : tie.Need-returns-2
 returns-2 c =
     let k = c .before .before .before .before .before in let g = k .before .before .before in let s = g .before .before in
@@ -31,7 +28,7 @@ print-end-spec =
     tie.close
     (tie.spec
     (λ c κs. search needs)
-    returns
+    (λ c. rw (c .before .if1 .taken) (c .goes-on .ensures, search needs))
     (λ c. search needs)
     (λ c κs. search needs)
     (λ c κs. search needs)

@@ -18,12 +18,6 @@ long c = search needs
 short : (c : tie.After-struct-known) → c .before .before .print-text .result .len ≤ longestString
 short c = search needs
 
-array-share-prefix-bytes : tie.Need-array-share-prefix-bytes
-array-share-prefix-bytes c = let s = c .before in omega (arith, long s, short s)
-
-slice-aggregate-write : tie.Need-slice-aggregate-write
-slice-aggregate-write c = let s = c .before .before in sym (length-take-le _ _ (omega (arith, long s, short s)))
-
 returns : tie.Need-returns
 returns c =
     let k = c .before .before .before .before .before .before .before in let s = k .before .before in
@@ -38,8 +32,8 @@ print-number-spec =
     (tie.spec
     (λ c κs. search needs)
     (λ c. search needs)
-    array-share-prefix-bytes
-    slice-aggregate-write
+    (λ c. let s = c .before in omega (arith, long s, short s))
+    (λ c. let s = c .before .before in sym (length-take-le _ _ (omega (arith, long s, short s))))
     (λ c κs. search needs)
     (λ c. search needs)
     returns)

@@ -4,17 +4,11 @@ use borrow.Author.Needs.{needs}
 use Rattle.dialogue.proofs.outputting.separates.Statement.{statement}
 use Rattle.dialogue.proofs.outputting.separates.Tie as tie
 
-returns : tie.Need-returns
-returns c = let e = sym (c .before .is-symbol .ensures) ∙ c .if1 .taken in rw e
-
-returns-2 : tie.Need-returns-2
-returns-2 c = let e = sym (c .before .before .is-symbol .ensures) ∙ c .before .if1 .left in rw e (c .is-symbol2 .ensures)
-
 pub separates-spec : {M : Type 1} → statement M
 separates-spec =
     tie.close
     (tie.spec
     (λ c κs. search needs)
-    returns
+    (λ c. let e = sym (c .before .is-symbol .ensures) ∙ c .if1 .taken in rw e)
     (λ c κs. search needs)
-    returns-2)
+    (λ c. let e = sym (c .before .before .is-symbol .ensures) ∙ c .before .if1 .left in rw e (c .is-symbol2 .ensures)))

@@ -9,9 +9,6 @@ print-string-requires c κs =
     let s = c .before .before .before .before .before .before .before in
     (s .pre .0, rw (c .before .before .worked3 .given .1) at (s .pre .1))
 
-returns : tie.Need-returns
-returns c = rw (c .before .worked .given .1) (refl, search needs)
-
 returns-2 : tie.Need-returns-2
 returns-2 c =
     let k = c .before .before .before in let g = k .before .before .before in
@@ -33,7 +30,7 @@ show-spec =
     (λ c. search needs)
     print-string-requires
     (λ c κs. search needs)
-    returns
+    (λ c. rw (c .before .worked .given .1) (refl, search needs))
     (λ c. search needs)
     returns-2
     (λ c. search needs)

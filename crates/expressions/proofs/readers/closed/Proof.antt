@@ -9,9 +9,6 @@ returns-2 c =
     rw (b .before .before .before .before .read .given .1, ← (b .before .is-symbol .ensures), b .if1 .taken)
     (rw (c .before .token-at .ensures, c .deeper .ensures))
 
-returns-3 : tie.Need-returns-3
-returns-3 c = rw (c .before .before .before .before .read .given .1, ← (c .before .is-symbol .ensures), c .if1 .left)
-
 pub closed-spec : {M : Type 1} → statement M
 closed-spec =
     tie.close
@@ -23,4 +20,4 @@ closed-spec =
     (λ c κs. search needs)
     (λ c. search needs)
     returns-2
-    returns-3)
+    (λ c. rw (c .before .before .before .before .read .given .1, ← (c .before .is-symbol .ensures), c .if1 .left)))

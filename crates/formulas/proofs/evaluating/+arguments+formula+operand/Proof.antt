@@ -14,51 +14,9 @@ use Rattle.grammar.specs.Formulas.{good}
 use Rattle.expressions.specs.bridge.Answers.{weight, formulaIn, argumentsOf}
 use Rattle.expressions.proofs.Steps.{operand-other, operand-no-sign}
 use Rattle.grammar.proofs.right_level.Reads as right-level-reads
-use Rattle.formulas.proofs.Climbing.{
-  heft,
-  formula-operand,
-  Climbing,
-  climbing-begins,
-  climbing-ends,
-  climbing-refused,
-  right-lighter,
-  right-ready,
-  right-asks,
-  right-fits,
-  climbing-goes,
-  climbing-lightens,
-}
-use Rattle.formulas.proofs.Heads.{
-  not-operand,
-  quoted-within,
-  sign-lighter,
-  opened-asks,
-  negated-asks,
-  not-lighter,
-  complemented-asks,
-  call-is,
-  call-lighter,
-  call-asks,
-  number-done,
-  hexadecimal-done,
-  named-done,
-  quoted-done,
-  opened-done,
-  negated-done,
-  complemented-done,
-}
-use Rattle.formulas.proofs.Listing.{
-  Listing,
-  listing-begins,
-  next-ready,
-  next-asks,
-  listing-long,
-  listing-fault,
-  all-placed,
-  listing-ends,
-  listing-lightens,
-  listing-goes,
-}
+use Rattle.formulas.proofs.Climbing.{heft, formula-operand, Climbing, climbing-begins, climbing-ends, climbing-refused, right-lighter, right-ready, right-asks, right-fits, climbing-goes, climbing-lightens}
+use Rattle.formulas.proofs.Heads.{not-operand, quoted-within, sign-lighter, opened-asks, negated-asks, not-lighter, complemented-asks, call-is, call-lighter, call-asks, number-done, hexadecimal-done, named-done, quoted-done, opened-done, negated-done, complemented-done}
+use Rattle.formulas.proofs.Listing.{Listing, listing-begins, next-ready, next-asks, listing-long, listing-fault, all-placed, listing-ends, listing-lightens, listing-goes}
 use Rattle.strings.proofs.given_length.Reads as given-length-reads
 use Rattle.formulas.proofs.evaluating.has_third.Reads as has-third-reads
 use Rattle.functions.proofs.take_argument.Reads as take-argument-reads

@@ -5,9 +5,6 @@ use borrow.Author.Needs.{needs}
 use Rattle.formulas.proofs.evaluating.has_third.Statement.{statement}
 use Rattle.formulas.proofs.evaluating.has_third.Tie as tie
 
-returns : tie.Need-returns
-returns c a u e = absurd (first-reads _ _ e (sym (c .enum-told .given .1) ∙ c .before .before .formula-at .ensures))
-
 returns-2 : tie.Need-returns-2
 returns-2 c a u e =
     let m = c .before .before .before .before .before in
@@ -28,7 +25,7 @@ has-third-spec =
     (λ c κs. search needs)
     (λ c. search needs)
     (λ c. search needs)
-    returns
+    (λ c a u e. absurd (first-reads _ _ e (sym (c .enum-told .given .1) ∙ c .before .before .formula-at .ensures)))
     (λ c κs. search needs)
     (λ c κs. search needs)
     (λ c. search needs)

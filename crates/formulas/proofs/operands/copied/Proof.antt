@@ -14,9 +14,6 @@ returns c =
     (variable-refused (p .lengths .now) (p .space .now) (p .used) (p .ahead) (m .0 .0) (c .before .before .before .wide .ensures .0)
     (s .pre .1 .0) (s .pre .1 .1) (past (c .before .has-room .ensures) (c .if1 .taken)))
 
-returns-2 : tie.Need-returns-2
-returns-2 c = rw (c .enum-told .given .1) (empty-made _ _ _ (c .before .before .before .pre .1 .1))
-
 returns-3 : tie.Need-returns-3
 returns-3 c =
     let s = c .before .before .before .before .before .before .before .before .before .before .before .before .before .before in
@@ -42,6 +39,6 @@ copied-spec =
     returns
     (λ c κs. search needs)
     (λ c κs. search needs)
-    returns-2
+    (λ c. rw (c .enum-told .given .1) (empty-made _ _ _ (c .before .before .before .pre .1 .1)))
     (λ c. search needs)
     returns-3)

@@ -9,9 +9,6 @@ use borrow.Author.Needs.{needs}
 use Rattle.formulas.proofs.operands.named.Statement.{statement}
 use Rattle.formulas.proofs.operands.named.Tie as tie
 
-number-in-requires : tie.Need-number-in-requires
-number-in-requires c κs = rw (c .slot-of .ensures) (found-below _ _)
-
 copied-requires : tie.Need-copied-requires
 copied-requires c κs =
     let p = c .before .before .before .before .before .before .before .pre in
@@ -43,7 +40,7 @@ named-spec =
     (λ c κs. search needs)
     (λ c. search needs)
     (λ c κs. search needs)
-    number-in-requires
+    (λ c κs. rw (c .slot-of .ensures) (found-below _ _))
     (λ c. search needs)
     (λ c κs. search needs)
     copied-requires

@@ -3,15 +3,6 @@ use borrow.Author.Needs.{needs}
 use Rattle.host.proofs.answers.ending_of.Statement.{statement}
 use Rattle.host.proofs.answers.ending_of.Tie as tie
 
-returns : tie.Need-returns
-returns c = rw (c .enum-told .given .1)
-
-returns-2 : tie.Need-returns-2
-returns-2 c = rw (c .before .before .outcome .given .1, c .wide-word .ensures)
-
-returns-3 : tie.Need-returns-3
-returns-3 c = rw (c .before .before .outcome2 .given .1, c .wide-word2 .ensures)
-
 returns-4 : tie.Need-returns-4
 returns-4 c =
     let n = c .before in
@@ -39,8 +30,8 @@ ending-of-spec =
     (λ c κs. search needs)
     (λ c κs. search needs)
     (λ c κs. search needs)
-    returns
-    returns-2
-    returns-3
+    (λ c. rw (c .enum-told .given .1))
+    (λ c. rw (c .before .before .outcome .given .1, c .wide-word .ensures))
+    (λ c. rw (c .before .before .outcome2 .given .1, c .wide-word2 .ensures))
     returns-4
     returns-5)

@@ -3,12 +3,6 @@ use borrow.Author.Needs.{needs}
 use Rattle.host.proofs.answers.found_of.Statement.{statement}
 use Rattle.host.proofs.answers.found_of.Tie as tie
 
-returns : tie.Need-returns
-returns c = rw (c .before .before .asked .given .1, c .extended .ensures)
-
-returns-2 : tie.Need-returns-2
-returns-2 c = let n = c .before in rw (n .before .before .asked2 .given .1, n .wide-size .ensures, c .wide-size2 .ensures)
-
 returns-3 : tie.Need-returns-3
 returns-3 c =
     let n = c .before in
@@ -26,6 +20,6 @@ found-of-spec =
     (λ c. search needs)
     (λ c κs. search needs)
     (λ c κs. search needs)
-    returns
-    returns-2
+    (λ c. rw (c .before .before .asked .given .1, c .extended .ensures))
+    (λ c. let n = c .before in rw (n .before .before .asked2 .given .1, n .wide-size .ensures, c .wide-size2 .ensures))
     returns-3)

@@ -3,9 +3,6 @@ use borrow.Author.Needs.{needs}
 use Rattle.operators.proofs.applying.joined.Statement.{statement}
 use Rattle.operators.proofs.applying.joined.Tie as tie
 
-beside-text-requires : tie.Need-beside-text-requires
-beside-text-requires c κs = let l = c .before in rw (l .left2 .given .1) at (l .before .before .before .pre)
-
 returns-2 : tie.Need-returns-2
 returns-2 c =
     let l = c .before .before in let p = l .before .before .before .args in
@@ -19,7 +16,7 @@ joined-spec =
     (λ c. search needs)
     (λ c κs. search needs)
     (λ c. search needs)
-    beside-text-requires
+    (λ c κs. let l = c .before in rw (l .left2 .given .1) at (l .before .before .before .pre))
     (λ c. rw (c .enum-told .given .1))
     returns-2
     (λ c. rw (c .before .before .left2 .given .1) (c .beside-text .ensures)))

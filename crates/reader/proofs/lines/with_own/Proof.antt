@@ -5,14 +5,10 @@ use Rattle.reader.proofs.lines.with_own.Reads as reads
 use Rattle.reader.proofs.lines.with_own.Lts as lts
 use Rattle.expressions.proofs.larger.Reads as larger-reads
 
-larger-requires : tie.Need-larger-requires
-larger-requires c κs = search needs
-
-returns : tie.Need-returns
-returns c = rw (c .before .larger .ensures, c .if1 .taken)
-
-returns-2 : tie.Need-returns-2
-returns-2 c = rw (c .before .larger .ensures, c .if1 .left)
-
 pub with-own-spec : {M : Type 1} → statement M
-with-own-spec = tie.close (tie.spec larger-requires returns returns-2)
+with-own-spec =
+    tie.close
+    (tie.spec
+    (λ c κs. search needs)
+    (λ c. rw (c .before .larger .ensures, c .if1 .taken))
+    (λ c. rw (c .before .larger .ensures, c .if1 .left)))

@@ -3,9 +3,6 @@ use borrow.Author.Needs.{needs}
 use Rattle.run_recipe.proofs.answers.number_in.Statement.{statement}
 use Rattle.run_recipe.proofs.answers.number_in.Tie as tie
 
-returns-4 : tie.Need-returns-4
-returns-4 c = rw (c .before .before .outcome .given .1) (c .number-of .ensures)
-
 pub number-in-spec : {M : Type 1} → statement M
 number-in-spec =
     tie.close
@@ -20,5 +17,5 @@ number-in-spec =
     (λ c. search needs)
     (λ c. search needs)
     (λ c. search needs)
-    returns-4
+    (λ c. rw (c .before .before .outcome .given .1) (c .number-of .ensures))
     (λ c. search needs))

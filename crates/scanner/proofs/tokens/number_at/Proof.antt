@@ -35,9 +35,6 @@ module _ (c : tie.After-leading-digits) where
   unfolding digitsOf
   worth = ap (λ d. d .magnitude) read
 
-add-next : tie.Need-add-next
-add-next c = let d = c .before in omega (arith, run-within isDigit (line d) (at d) (ap (λ n. at d + n) (count d)) (omega arith))
-
 returns : tie.Need-returns
 unfolding numberToken
 returns c =
@@ -77,7 +74,7 @@ number-at-spec =
     (λ c. search needs)
     (λ c. search needs)
     (λ c κs. search needs)
-    add-next
+    (λ c. let d = c .before in omega (arith, run-within isDigit (line d) (at d) (ap (λ n. at d + n) (count d)) (omega arith)))
     (λ c. search needs)
     (λ c. search needs)
     (λ c κs. search needs)

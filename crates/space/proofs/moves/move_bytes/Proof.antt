@@ -16,12 +16,6 @@ lying c =
     let t = c .before .before in
     (within (t .before .fits2 .ensures) (t .if1 .left), within (c .before .fits3 .ensures) (c .if2 .left))
 
-move-down-requires : tie.Need-move-down-requires
-move-down-requires c κs = let l = lying (c .before .before) in (c .before .if3 .taken, (l .0, l .1))
-
-move-up-requires : tie.Need-move-up-requires
-move-up-requires c κs = let l = lying (c .before .before) in (omega (arith, c .before .if3 .left), (l .0, l .1))
-
 returns-3 : tie.Need-returns-3
 returns-3 c =
     let m = c .before .before in let l = lying (m .before .before .before) in
@@ -40,8 +34,8 @@ move-bytes-spec =
     (λ c. sym (moved-past-from _ _ (c .before .before .before .args .to .0) _ (past (c .before .fits2 .ensures) (c .if1 .taken))))
     (λ c κs. search needs)
     (λ c. sym (moved-past-to _ _ _ _ (past (c .before .fits3 .ensures) (c .if2 .taken))))
-    move-down-requires
-    move-up-requires
+    (λ c κs. let l = lying (c .before .before) in (c .before .if3 .taken, (l .0, l .1)))
+    (λ c κs. let l = lying (c .before .before) in (omega (arith, c .before .if3 .left), (l .0, l .1)))
     (λ c. search needs)
     returns-3
     (λ c. search needs)

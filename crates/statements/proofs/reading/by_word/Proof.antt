@@ -6,15 +6,6 @@ use Rattle.statements.proofs.Others.{word-jumps, word-alone, no-word}
 use Rattle.statements.proofs.reading.by_word.Statement.{statement}
 use Rattle.statements.proofs.reading.by_word.Tie as tie
 
-returns-4 : tie.Need-returns-4
-returns-4 c = let a = c .before .before .before .args in c .jump .ensures ∙ word-jumps (a .line .now) (a .word) (a .from) (c .before .match .keys4)
-
-returns-8 : tie.Need-returns-8
-returns-8 c = let a = c .before .before .before .args in c .plain .ensures ∙ word-alone (a .line .now) (a .word) (a .from) (c .before .match .keys8)
-
-returns-9 : tie.Need-returns-9
-returns-9 c = let a = c .before .before .args in ap begunAnswer (no-word (a .line .now) (a .word) (a .from) (c .match .keys9))
-
 pub by-word-spec : {M : Type 1} → statement M
 by-word-spec =
     tie.close
@@ -36,9 +27,9 @@ by-word-spec =
     (λ c. rw (c .before .enum-told .given .1) (c .assignment-to .ensures))
     (λ c. rw (c .before .enum-told2 .given .1) (c .print .ensures))
     (λ c. rw (c .before .enum-told3 .given .1) (c .condition .ensures))
-    returns-4
+    (λ c. let a = c .before .before .before .args in c .jump .ensures ∙ word-jumps (a .line .now) (a .word) (a .from) (c .before .match .keys4))
     (λ c. rw (c .before .enum-told4 .given .1) (c .loop-head .ensures))
     (λ c. rw (c .before .enum-told5 .given .1) (c .loop-end .ensures))
     (λ c. rw (c .before .enum-told6 .given .1) (c .line-input .ensures))
-    returns-8
-    returns-9)
+    (λ c. let a = c .before .before .before .args in c .plain .ensures ∙ word-alone (a .line .now) (a .word) (a .from) (c .before .match .keys8))
+    (λ c. let a = c .before .before .args in ap begunAnswer (no-word (a .line .now) (a .word) (a .from) (c .match .keys9))))

@@ -7,9 +7,6 @@ use borrow.Author.Needs.{needs}
 use Rattle.steps.proofs.doing.do_statement.Statement.{statement}
 use Rattle.steps.proofs.doing.do_statement.Tie as tie
 
-lead-at-requires : tie.Need-lead-at-requires
-lead-at-requires c κs = search needs
-
 enum-told : tie.Need-enum-told
 enum-told c = search needs
 
@@ -18,17 +15,11 @@ set-requires c κs =
     let start = c .before .before .before .before .before .before .before .before .before .before in
     (rw (c .before .enum-told .given .1) at (lead-begins (c .before .before .before .before .lead-at .ensures) (start .pre .1 .0)), (start .pre .0 .short, start .pre .1 .1 .0 .settled))
 
-enum-told-2 : tie.Need-enum-told-2
-enum-told-2 c = search needs
-
 print-requires : tie.Need-print-requires
 print-requires c κs =
     let start = c .before .before .before .before .before .before .before .before .before .before .before in
     let lead = c .before .before .before .before .before .lead-at in
     (print-itemed (start .args .line .now) (start .pre .0 .short) (lead .ensures .place) (lead .ensures .is) (rw (c .before .before .enum-told2 .given .1) at (lead-begins (lead .ensures) (start .pre .1 .0))), (start .pre .1 .1 .0 .settled, start .pre .1 .1 .0 .fitting))
-
-enum-told-3 : tie.Need-enum-told-3
-enum-told-3 c = search needs
 
 choose-requires : tie.Need-choose-requires
 choose-requires c κs =
@@ -36,43 +27,10 @@ choose-requires c κs =
     let lead = c .before .before .before .before .lead-at in
     (if-formed (start .args .line .now) (start .pre .0 .short) (lead .ensures .place) (lead .ensures .is) (rw (c .before .enum-told3 .given .1) at (lead-begins (lead .ensures) (start .pre .1 .0))), start .pre .1 .1 .0 .settled)
 
-enum-told-4 : tie.Need-enum-told-4
-enum-told-4 c = search needs
-
-jump-requires : tie.Need-jump-requires
-jump-requires c κs = search needs
-
-enum-told-5 : tie.Need-enum-told-5
-enum-told-5 c = search needs
-
-call-requires : tie.Need-call-requires
-call-requires c κs = search needs
-
-enum-told-6 : tie.Need-enum-told-6
-enum-told-6 c = search needs
-
-come-back-requires : tie.Need-come-back-requires
-come-back-requires c κs = search needs
-
-enum-told-7 : tie.Need-enum-told-7
-enum-told-7 c = search needs
-
 count-requires : tie.Need-count-requires
 count-requires c κs =
     let start = c .before .before .before .before .before .before .before .before .before .before in
     (rw (c .before .enum-told7 .given .1) at (lead-begins (c .before .before .before .before .lead-at .ensures) (start .pre .1 .0)), (start .pre .0 .short, (start .pre .1 .1 .0 .settled, start .pre .1 .1 .1)))
-
-enum-told-8 : tie.Need-enum-told-8
-enum-told-8 c = search needs
-
-next-loop-requires : tie.Need-next-loop-requires
-next-loop-requires c κs = search needs
-
-enum-told-9 : tie.Need-enum-told-9
-enum-told-9 c = search needs
-
-token-at-requires : tie.Need-token-at-requires
-token-at-requires c κs = search needs
 
 line-input-requires : tie.Need-line-input-requires
 line-input-requires c κs =
@@ -80,35 +38,11 @@ line-input-requires c κs =
     let lead = c .before .before .before .before .before .before .lead-at in
     (rw (c .before .before .token-at .ensures) (input-asks (start .args .line .now) (start .pre .0 .short) (lead .result .from) (rw (c .before .before .before .enum-told9 .given .1) at (lead-begins (lead .ensures) (start .pre .1 .0)))), start .pre .1 .1 .0)
 
-enum-told-10 : tie.Need-enum-told-10
-enum-told-10 c = search needs
-
-turned-to-requires : tie.Need-turned-to-requires
-turned-to-requires c κs = search needs
-
-enum-told-11 : tie.Need-enum-told-11
-enum-told-11 c = search needs
-
-turned-to-requires-2 : tie.Need-turned-to-requires-2
-turned-to-requires-2 c κs = search needs
-
-goes-on-requires : tie.Need-goes-on-requires
-goes-on-requires c κs = search needs
-
-same-length : tie.Need-same-length
-same-length c = search needs
-
 returns : tie.Need-returns
 returns c =
     let start = c .before .before .before .before .before .before .before .before .before .before .before .before .before in
     lead-does _ _ _ (start .args .at .0) _ _ _ _ _ _ _ _ _ (start .pre .0) (c .before .before .before .before .before .before .before .lead-at .ensures)
     (rw (c .before .before .before .before .enum-told .given .1) (c .before .before .set .ensures (start .args .text .now) (start .args .input .now) (start .args .room .now) (start .args .at .0) (start .args .found) (start .args .entry) (start .pre .1 .1 .0)))
-
-same-length-2 : tie.Need-same-length-2
-same-length-2 c = search needs
-
-same-length-3 : tie.Need-same-length-3
-same-length-3 c = search needs
 
 returns-2 : tie.Need-returns-2
 returns-2 c =
@@ -116,9 +50,6 @@ returns-2 c =
     let lead = c .before .before .before .before .before .before .before .before .before .before .lead-at in
     lead-does _ _ _ (start .args .at .0) _ _ _ _ _ _ _ _ _ (start .pre .0) (lead .ensures)
     (rw (c .before .before .before .before .before .before .before .enum-told2 .given .1) (print-does _ _ _ _ _ _ _ _ _ _ _ _ _ (lead .result .from) (λ is u p e. c .before .before .before .before .print .ensures (start .args .text .now) (start .args .input .now) (start .args .at .0) is u (start .pre .1 .1 .0) p e)))
-
-same-length-4 : tie.Need-same-length-4
-same-length-4 c = search needs
 
 returns-3 : tie.Need-returns-3
 returns-3 c =
@@ -146,9 +77,6 @@ returns-6 c =
     lead-does _ _ _ (start .args .at .0) _ _ _ _ _ _ _ _ _ (start .pre .0) (lead .ensures)
     (rw (c .before .enum-told6 .given .1) (λ p. c .come-back .ensures (start .args .text .now) (start .args .input .now) (start .args .space .now) (start .args .room .now) (start .args .at .0) (positionOf (start .args .text .now) (afterOf (start .args .here) (lead .result .from))) (start .pre .1 .1 .0)))
 
-same-length-5 : tie.Need-same-length-5
-same-length-5 c = search needs
-
 returns-7 : tie.Need-returns-7
 returns-7 c =
     let start = c .before .before .before .before .before .before .before .before .before .before .before .before .before in
@@ -160,12 +88,6 @@ returns-8 c =
     let start = c .before .before .before .before .before .before .before .before .before .before in
     lead-does _ _ _ (start .args .at .0) _ _ _ _ _ _ _ _ _ (start .pre .0) (c .before .before .before .before .lead-at .ensures)
     (rw (c .before .enum-told8 .given .1) (c .next-loop .ensures (start .args .text .now) (start .args .input .now) (start .args .space .now) (start .args .room .now) (start .args .at .0) (start .pre .1 .1 .0)))
-
-same-length-6 : tie.Need-same-length-6
-same-length-6 c = search needs
-
-same-length-7 : tie.Need-same-length-7
-same-length-7 c = search needs
 
 returns-9 : tie.Need-returns-9
 returns-9 c =
@@ -197,46 +119,46 @@ pub do-statement-spec : {M : Type 1} → statement M
 do-statement-spec =
     tie.close
     (tie.spec
-    lead-at-requires
+    (λ c κs. search needs)
     enum-told
     set-requires
-    enum-told-2
+    (λ c. search needs)
     print-requires
-    enum-told-3
+    (λ c. search needs)
     choose-requires
-    enum-told-4
-    jump-requires
-    enum-told-5
-    call-requires
-    enum-told-6
-    come-back-requires
-    enum-told-7
+    (λ c. search needs)
+    (λ c κs. search needs)
+    (λ c. search needs)
+    (λ c κs. search needs)
+    (λ c. search needs)
+    (λ c κs. search needs)
+    (λ c. search needs)
     count-requires
-    enum-told-8
-    next-loop-requires
-    enum-told-9
-    token-at-requires
+    (λ c. search needs)
+    (λ c κs. search needs)
+    (λ c. search needs)
+    (λ c κs. search needs)
     line-input-requires
-    enum-told-10
-    turned-to-requires
-    enum-told-11
-    turned-to-requires-2
-    goes-on-requires
-    same-length
+    (λ c. search needs)
+    (λ c κs. search needs)
+    (λ c. search needs)
+    (λ c κs. search needs)
+    (λ c κs. search needs)
+    (λ c. search needs)
     returns
-    same-length-2
-    same-length-3
+    (λ c. search needs)
+    (λ c. search needs)
     returns-2
-    same-length-4
+    (λ c. search needs)
     returns-3
     returns-4
     returns-5
     returns-6
-    same-length-5
+    (λ c. search needs)
     returns-7
     returns-8
-    same-length-6
-    same-length-7
+    (λ c. search needs)
+    (λ c. search needs)
     returns-9
     returns-10
     returns-11

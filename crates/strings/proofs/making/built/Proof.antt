@@ -17,9 +17,6 @@ long c = search needs
 short : (c : tie.After-struct-known) → c .before .before .args .text .len ≤ longestString
 short c = search needs
 
-array-share-prefix-bytes : tie.Need-array-share-prefix-bytes
-array-share-prefix-bytes c = let s = c .before .before .before .before .before in omega (arith, long s, short s)
-
 slice-aggregate-copy-in : tie.Need-slice-aggregate-copy-in
 slice-aggregate-copy-in c =
     let s = c .before .before .before .before .before .before in
@@ -47,7 +44,7 @@ built-spec =
     (λ c κs. search needs)
     (λ c. search needs)
     returns
-    array-share-prefix-bytes
+    (λ c. let s = c .before .before .before .before .before in omega (arith, long s, short s))
     slice-aggregate-copy-in
     (λ c κs. search needs)
     (λ c. search needs)

@@ -11,9 +11,6 @@ returns c ahead =
     chr-refused (p .space .now) (p .used) (p .given) (s .pre) ahead (w .first-word .ensures)
     (told-no (c .before .in-range .ensures) (c .if1 .taken))
 
-cast-filled : tie.Need-cast-filled
-cast-filled c = let t = c .before in omega (arith, passed 0 (t .before .before .first-word .result) (t .before .in-range .ensures) (t .if1 .left) .1)
-
 returns-2 : tie.Need-returns-2
 returns-2 c ahead =
     let t = c .before .before .before .before in
@@ -28,7 +25,7 @@ chr-spec =
     (λ c κs. search needs)
     (λ c κs. search needs)
     returns
-    cast-filled
+    (λ c. let t = c .before in omega (arith, passed 0 (t .before .before .first-word .result) (t .before .in-range .ensures) (t .if1 .left) .1))
     (λ c κs. search needs)
     (λ c. search needs)
     returns-2)

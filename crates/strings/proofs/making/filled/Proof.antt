@@ -6,12 +6,6 @@ use Rattle.strings.proofs.Calls.{told-no, told-yes, passed}
 use Rattle.strings.proofs.making.filled.Statement.{statement}
 use Rattle.strings.proofs.making.filled.Tie as tie
 
-returns : tie.Need-returns
-returns c ahead = let n = told-no (c .before .in-range .ensures) (c .if1 .taken) in refused (search needs) (λ room. rw n)
-
-repeated-requires : tie.Need-repeated-requires
-repeated-requires c κs = let t = c .before in passed 0 (t .before .before .before .args .count) (t .before .in-range .ensures) (t .if1 .left) .1
-
 returns-2 : tie.Need-returns-2
 returns-2 c ahead =
     let t = c .before .before .before .before .before in
@@ -24,8 +18,8 @@ filled-spec =
     tie.close
     (tie.spec
     (λ c κs. search needs)
-    returns
-    repeated-requires
+    (λ c ahead. let n = told-no (c .before .in-range .ensures) (c .if1 .taken) in refused (search needs) (λ room. rw n))
+    (λ c κs. let t = c .before in passed 0 (t .before .before .before .args .count) (t .before .in-range .ensures) (t .if1 .left) .1)
     (λ c κs. search needs)
     (λ c. search needs)
     returns-2)

@@ -21,9 +21,6 @@ returns c ahead =
     code-refused (p .space .now) (p .used) (p .given) (s .pre) ahead (w .first-word .ensures) _ (code k)
     (told-no (c .before .in-range .ensures) (c .if1 .taken))
 
-cast-filled : tie.Need-cast-filled
-cast-filled c = let t = c .before in omega (arith, passed 0 (t .before .before .before .second .given .0 .0) (t .before .in-range .ensures) (t .if1 .left) .1)
-
 returns-2 : tie.Need-returns-2
 returns-2 c ahead =
     let k = c .before .before in let w = k .before .before .before in let s = w .before .before in let p = s .args in
@@ -58,7 +55,7 @@ string-spec =
     (λ c. search needs)
     (λ c κs. search needs)
     returns
-    cast-filled
+    (λ c. let t = c .before in omega (arith, passed 0 (t .before .before .before .second .given .0 .0) (t .before .in-range .ensures) (t .if1 .left) .1))
     (λ c κs. search needs)
     (λ c. search needs)
     returns-2

@@ -8,15 +8,6 @@ use borrow.Author.Needs.{needs}
 use Rattle.turns.proofs.setting.set.Statement.{statement}
 use Rattle.turns.proofs.setting.set.Tie as tie
 
-token-at-requires : tie.Need-token-at-requires
-token-at-requires c κs = search needs
-
-enum-known-token : tie.Need-enum-known-token
-enum-known-token c = search needs
-
-token-at-requires-2 : tie.Need-token-at-requires-2
-token-at-requires-2 c κs = search needs
-
 assign-requires : tie.Need-assign-requires
 assign-requires c κs =
     let start = c .before .before .before .before .before .before .before .before in
@@ -27,12 +18,6 @@ assign-requires c κs =
       start .pre .1 .1,
     )
 
-fails-requires : tie.Need-fails-requires
-fails-requires c κs = search needs
-
-same-length : tie.Need-same-length
-same-length c = search needs
-
 returns : tie.Need-returns
 returns c =
     let named = c .before .before .before .before .before .before .token .given in
@@ -40,18 +25,15 @@ returns c =
     set-does _ _ _ at _ _ _ _ _ _ _ _ _ (c .before .before .before .before .before .before .before .before .before .before .before .args .target) (named .0 .0) (named .1)
     (λ f u p e. c .before .before .assign .ensures text input room at f u sound p (rw (c .before .before .before .before .token-at2 .ensures, c .before .before .before .before .before .before .before .before .token-at .ensures) e))
 
-returns-2 : tie.Need-returns-2
-returns-2 c = λ text input room at found entry sound. rw (no-name (c .before .before .before .before .before .args .target .token) _ _ (c .before .match .keys2)) tt
-
 pub set-spec : {M : Type 1} → statement M
 set-spec =
     tie.close
     (tie.spec
-    token-at-requires
-    enum-known-token
-    token-at-requires-2
+    (λ c κs. search needs)
+    (λ c. search needs)
+    (λ c κs. search needs)
     assign-requires
-    fails-requires
-    same-length
+    (λ c κs. search needs)
+    (λ c. search needs)
     returns
-    returns-2)
+    (λ c. λ text input room at found entry sound. rw (no-name (c .before .before .before .before .before .args .target .token) _ _ (c .before .match .keys2)) tt))

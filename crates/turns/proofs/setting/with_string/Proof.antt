@@ -2,9 +2,6 @@ use borrow.Author.Needs.{needs}
 use Rattle.turns.proofs.setting.with_string.Statement.{statement}
 use Rattle.turns.proofs.setting.with_string.Tie as tie
 
-returns : tie.Need-returns
-returns c = let s = c .before .before .before .before in (rw (s .store-string .ensures .0), s .store-string .ensures .1)
-
 pub with-string-spec : {M : Type 1} → statement M
 with-string-spec =
     tie.close
@@ -12,4 +9,4 @@ with-string-spec =
     (λ c. search needs)
     (λ c κs. search needs)
     (λ c. search needs)
-    returns)
+    (λ c. let s = c .before .before .before .before in (rw (s .store-string .ensures .0), s .store-string .ensures .1)))

@@ -22,9 +22,6 @@ loop-again c =
       kept-next (l .loop .bytes) (p .space .now) (p .from) (l .loop .i) (omega arith) (omega arith) (l .loop .inv .2),
     )
 
-returns : tie.Need-returns Inv-loop μ-loop
-returns c = let l = c .before in let e : l .loop .i ≡ l .before .args .len = omega arith in rw e at (l .loop .inv .2)
-
 pub kept-bytes-spec : {M : Type 1} → statement M
 kept-bytes-spec =
     tie.close
@@ -38,4 +35,4 @@ kept-bytes-spec =
     (λ c. omega arith)
     (λ c. omega arith)
     loop-again
-    returns)
+    (λ c. let l = c .before in let e : l .loop .i ≡ l .before .args .len = omega arith in rw e at (l .loop .inv .2)))

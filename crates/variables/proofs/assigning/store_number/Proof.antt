@@ -21,9 +21,6 @@ element-write-next c =
     let k = c .before .before .before in let a = k .before .before .before .before .before .args in
     slot-below (a .numbers .names) (a .name) (k .slot .given .0 .0) (sym (k .before .before .slot-of .ensures) ∙ k .slot .given .1)
 
-mul-next : tie.Need-mul-next
-mul-next c = let h = element-write-next c in omega arith
-
 -- none was found
 returns-2 : tie.Need-returns-2
 returns-2 c =
@@ -48,7 +45,7 @@ store-number-spec =
     (λ c. search needs)
     (λ c κs. search needs)
     returns
-    mul-next
+    (λ c. let h = element-write-next c in omega arith)
     element-write-next
     returns-2
     returns-3)

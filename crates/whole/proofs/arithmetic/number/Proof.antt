@@ -16,12 +16,6 @@ use Rattle.whole.proofs.arithmetic.number.Tie as tie
 down : (w : ℕ) → Fits w16 w → mag (pos w -ℤ pos 65536) < 2 ^ 31
 down w f = omega (arith, f .fits, mag-add (pos w) (negsuc 65535))
 
-sub-result : tie.Need-sub-result
-sub-result c = let f = c .before .fits .word in rw (word-read _ f) (record { sfits = down _ f })
-
-returns : tie.Need-returns
-returns c = rw (word-read _ (c .before .fits .word), num-low _ (c .if1 .taken))
-
 returns-2 : tie.Need-returns-2
 unfolding num
 returns-2 c =
@@ -30,4 +24,11 @@ returns-2 c =
     rw (word-read w f, back-is (pos w -ℤ pos 65536) (down w f), le-ltb w 32768 (c .if1 .left))
 
 pub number-spec : {M : Type 1} → statement M
-number-spec = tie.close (tie.spec (λ c. search needs) (λ c. search needs) sub-result returns returns-2)
+number-spec =
+    tie.close
+    (tie.spec
+    (λ c. search needs)
+    (λ c. search needs)
+    (λ c. let f = c .before .fits .word in rw (word-read _ f) (record { sfits = down _ f }))
+    (λ c. rw (word-read _ (c .before .fits .word), num-low _ (c .if1 .taken)))
+    returns-2)

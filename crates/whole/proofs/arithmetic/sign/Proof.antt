@@ -15,11 +15,10 @@ returns : tie.Need-returns
 unfolding num
 returns c = rw (c .if1 .taken)
 
-returns-2 : tie.Need-returns-2
-returns-2 c = rw (num-low _ (c .if2 .taken), positive _ (c .before .if1 .left))
-
-returns-3 : tie.Need-returns-3
-returns-3 c = rw (num-high _ (c .if2 .left) (c .before .before .fits .word .fits))
-
 pub sign-spec : {M : Type 1} → statement M
-sign-spec = tie.close (tie.spec returns returns-2 returns-3)
+sign-spec =
+    tie.close
+    (tie.spec
+    returns
+    (λ c. rw (num-low _ (c .if2 .taken), positive _ (c .before .if1 .left)))
+    (λ c. rw (num-high _ (c .if2 .left) (c .before .before .fits .word .fits))))

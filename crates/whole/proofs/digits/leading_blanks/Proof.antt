@@ -23,9 +23,6 @@ loop-again : tie.Need-loop-again Inv-loop μ-loop
 loop-again c =
     passed-more (is " ") _ _ (c .before .before .loop-test .taken) (eq-eqb _ _ (c .if1 .left)) (c .before .before .before .loop .inv)
 
-returns-2 : tie.Need-returns-2 Inv-loop μ-loop
-returns-2 c = let l = c .before .loop in counted (is " ") _ _ (ended-last (is " ") _ _ (c .loop-test .left) (l .inv)) (l .inv)
-
 pub leading-blanks-spec : {M : Type 1} → statement M
 leading-blanks-spec =
     tie.close
@@ -38,4 +35,4 @@ leading-blanks-spec =
     (λ c. omega arith)
     (λ c. omega arith)
     loop-again
-    returns-2)
+    (λ c. let l = c .before .loop in counted (is " ") _ _ (ended-last (is " ") _ _ (c .loop-test .left) (l .inv)) (l .inv)))

@@ -5,8 +5,10 @@ use borrow.Author.Needs.{needs}
 use Rattle.whole.proofs.texts.hex_text.Statement.{statement}
 use Rattle.whole.proofs.texts.hex_text.Tie as tie
 
-returns : tie.Need-returns
-returns c = c .put-numeral .ensures [] 3 (c .before .empty .ensures) (omega arith) (omega arith)
-
 pub hex-text-spec : {M : Type 1} → statement M
-hex-text-spec = tie.close (tie.spec (λ c κs. search needs) (λ c κs. search needs) returns)
+hex-text-spec =
+    tie.close
+    (tie.spec
+    (λ c κs. search needs)
+    (λ c κs. search needs)
+    (λ c. c .put-numeral .ensures [] 3 (c .before .empty .ensures) (omega arith) (omega arith)))
