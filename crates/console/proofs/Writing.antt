@@ -9,7 +9,6 @@ use lib.ListN.{length, getD, drop, length-append}
 use Rattle.io.specs.Digits.{digits, glyph, Fewest}
 use Rattle.whole.specs.Texts.{held, withByte, digitByte, numeral}
 use Rattle.whole.specs.declared.texts.Text.{Text}
-use Rattle.whole.proofs.Numbers.{less}
 use Rattle.whole.proofs.Numerals.{held-put, numeral-one, numeral-more, numeral-length}
 use Rattle.whole.proofs.Reading.{drop-next}
 use Rattle.console.specs.Lines.{withBytes, decimal, field, fields, line}

@@ -98,7 +98,7 @@ module _ {text : List ℕ} {span : LineSpan} {at : Place} {m : Machine} {rs : Li
       (stood-line (pre .stood), (stood-parted (pre .stood), (sound-stepped (pre .sound), (rw e (found-low k rs (m .depth)), led))))
 
   -- and what it does, with the record that it asked for
-  pub turn-made : {k : Sought} {slot : Found} {entry : Record} {r : Turned} {space′ room′ : List ℕ} {l : Lead}
+  pub turn-made : (k : Sought) {slot : Found} {entry : Record} {r : Turned} {space′ room′ : List ℕ} {l : Lead}
       → l ≡ leadOf (lineIn text span) true (tokenAt (lineIn text span) at) → Seeks k (begunBy (lineIn text span) l)
       → slot ≡ foundIn k rs (m .depth)
       → entry ≡ entryAt slot rs
@@ -106,7 +106,7 @@ module _ {text : List ℕ} {span : LineSpan} {at : Place} {m : Machine} {rs : Li
       → Turns text (stepped m) input space room (Told (soughtBy (headOf p)) (m .depth) slot entry)
       (λ n. doStatement text (placeOf p) (headOf p) n (record { lines = linesAt text (span .place .0); rest = tailOf p })) r space′ room′)
       → TurnAs text span at m rs input space room r space′ room′
-  turn-made led seeks finds entry does =
+  turn-made k led seeks finds entry does =
       record {
         leaves = does _ _ (stood-reads (pre .stood)) .leaves;
         comes = λ w n s.

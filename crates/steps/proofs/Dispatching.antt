@@ -134,7 +134,7 @@ part-begins {line} {at} p =
     begins-by at (partOf line) (begunAt line true at) (sym (unrolled line true at) ∙ p .is)
 
 -- how it is led
-module _ {line : List ℕ} {at : ℕ} {l : Lead} (is : l ≡ leadOf line true (tokenAt line (place at))) where
+module _ (line : List ℕ) (at : ℕ) {l : Lead} (is : l ≡ leadOf line true (tokenAt line (place at))) where
   lead-there : begunAt line true at ≡ begunBy line l
   unfolding begunAt
   lead-there = ap (begunBy line) (sym is)
@@ -182,7 +182,7 @@ module _ (text line : List ℕ) (here : Place) (at : ℕ) (m : Machine) (found :
   -- what its first statement does is what the definition does of it
   pub lead-does : Standing text line here → {l : Lead} → l ≡ leadOf line true (tokenAt line (place at)) → {w : Word} {t : Scanned} → l ≡ By w t
       → D (byWord line w t) → (p : Part) (end : Scanned) → partOf line true at ≡ goodPart p end → TurnsAs p
-  lead-does st is by d p end i = part-does st p end i (rw (lead-there is, by) d)
+  lead-does st is by d p end i = part-does st p end i (rw (lead-there line at is, by) d)
 
   pub print-does : (t : Scanned)
       → ((is : List tree.Item) (u : Scanned) → Positioned text (afterOf here u) → itemsOf line t ≡ items is u

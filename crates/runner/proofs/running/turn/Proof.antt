@@ -1,14 +1,21 @@
--- The statement that stands at the place is done, told of the record that it asks for.
+-- The statement that stands at the place is done, led as it is, and told of the record that it asks for.
 use native.Mathlib.Omega.{arith}
 use borrow.Author.Needs.{needs}
 use Rattle.runner.proofs.Turning.{stood-told, turn-begins, turn-made}
 use Rattle.runner.proofs.running.turn.Statement.{statement}
 use Rattle.runner.proofs.running.turn.Tie as tie
 
+do-statement-requires : tie.Need-do-statement-requires
+do-statement-requires c κs =
+    let s = c .before .before .before .before .before in
+    turn-begins (s .before .before .before .before .before .before .before .before .pre) (s .sought-record .result) (c .before .before .before .before .find-record .ensures) (s .before .lead-at .ensures)
+
 returns : tie.Need-returns
 returns c =
-    let d = c .before .before .before .before in let f = d .before .before .before .before in
-    turn-made (f .before .before .before .before .before .before .before .before .before .pre) (f .before .before .sought-record .ensures) (f .before .find-record .ensures) (f .found-record .ensures) (d .do-statement .ensures)
+    let d = c .before .before .before .before in
+    let f = d .before .before .before .before in
+    let s = f .before .before in
+    turn-made (s .before .before .before .before .before .before .before .before .pre) (s .sought-record .result) (s .before .lead-at .ensures) (s .sought-record .ensures) (f .before .find-record .ensures) (f .found-record .ensures) (d .do-statement .ensures)
 
 pub turn-spec : {M : Type 1} → statement M
 turn-spec =
@@ -20,8 +27,9 @@ turn-spec =
     (λ c κs. search needs)
     (λ c κs. search needs)
     (λ c κs. search needs)
+    (λ c κs. search needs)
     (λ c. search needs)
-    (λ c κs. turn-begins (c .before .before .before .before .before .before .before .before .before .before .before .before .pre) (c .before .before .before .before .before .sought-record .result) (c .before .before .before .before .find-record .ensures))
+    do-statement-requires
     (λ c. search needs)
     (λ c. search needs)
     returns)
