@@ -10,6 +10,7 @@ use lib.ListN.{length, take, drop, length-drop, drop-of-length-le}
 use lib.Seq.{drop-drop, length-take-le}
 use Rattle.whole.proofs.Numbers.{less}
 use Rattle.whole.proofs.Reading.{drop-next}
+use Rattle.words.specs.Places.{place}
 use Rattle.words.proofs.Choices.{by-test, both}
 use Rattle.loader.specs.Lines.{Line, linesFrom, dropped, endingOf, extentAt}
 use Rattle.loader.specs.declared.lines.Extent.{Extent}
@@ -35,13 +36,13 @@ module _ (text : List ℕ) (p : ℕ) where
 
   -- where one stands, it ends
   pub walk-end : p < length text → (n : ℕ) → n ≡ endingOf (drop p text) → (n ≡ 0 → ⊥)
-      → extentAt p (drop p text) ≡ record { end = p; next = p + n }
+      → extentAt p (drop p text) ≡ record { end = place p; next = place (p + n) }
   unfolding extentAt
   walk-end h zero e z = absurd (z refl)
   walk-end h (suc n) e z = rw (drop-next text p h) (rw (rw (drop-next text p h) at (sym e)))
 
   -- and it ends with the text
-  pub walk-out : length text ≤ p → extentAt p (drop p text) ≡ record { end = p; next = p }
+  pub walk-out : length text ≤ p → extentAt p (drop p text) ≡ record { end = place p; next = place p }
   unfolding extentAt
   walk-out h = rw (drop-of-length-le text h)
 
@@ -51,12 +52,12 @@ module _ (text : List ℕ) (p : ℕ) where
 record Split (p : ℕ) (s : List ℕ) (e : Extent) : Type 0 where
   size : ℕ
   whole : ℕ
-  end : e .end ≡ p + size
-  next : e .next ≡ p + whole
+  end : e .end .0 ≡ p + size
+  next : e .next .0 ≡ p + whole
   within : size ≤ whole
   some : 0 < whole
   inside : whole ≤ length s
-  lines : linesFrom p s ≡ record { start = p; bytes = take size s; next = e .next } ∷ linesFrom (e .next) (drop whole s)
+  lines : linesFrom p s ≡ record { start = p; bytes = take size s; next = e .next .0 } ∷ linesFrom (e .next .0) (drop whole s)
 
 -- a line that ends at once, by byte 10
 split-ten : (p b : ℕ) (t : List ℕ) → eqb b 10 ≡ true → Split p (b ∷ t) (extentAt p (b ∷ t))
@@ -134,7 +135,7 @@ linesAt text p = linesFrom p (drop p text)
 
 -- the line at a place, of an extent
 abbrev pub passed : List ℕ → ℕ → Extent → Line
-passed text p e = record { start = p; bytes = take (e .end - p) (drop p text); next = e .next }
+passed text p e = record { start = p; bytes = take (e .end .0 - p) (drop p text); next = e .next .0 }
 
 -- past the end there are none
 pub lines-out : (text : List ℕ) (p : ℕ) → length text ≤ p → linesAt text p ≡ []
@@ -143,16 +144,16 @@ lines-out text p h = rw (drop-of-length-le text h)
 
 -- the line at a place goes as far as its extent, and the rest are the lines from there on
 pub record Walked (text : List ℕ) (p : ℕ) (e : Extent) : Type 0 where
-  pub low : p ≤ e .end
-  pub mid : e .end ≤ e .next
-  pub onward : p < e .next
-  pub inside : e .next ≤ length text
-  pub lines : linesAt text p ≡ passed text p e ∷ linesAt text (e .next)
+  pub low : p ≤ e .end .0
+  pub mid : e .end .0 ≤ e .next .0
+  pub onward : p < e .next .0
+  pub inside : e .next .0 ≤ length text
+  pub lines : linesAt text p ≡ passed text p e ∷ linesAt text (e .next .0)
 
 pub walked : (text : List ℕ) (p : ℕ) {e : Extent} → p < length text → e ≡ extentAt p (drop p text) → Walked text p e
 walked text p {e} h q =
     let r : Split p (drop p text) e = rw (q, drop-next text p h) (split p _ _) in
-    let k : e .end - p ≡ r .size = omega arith in
+    let k : e .end .0 - p ≡ r .size = omega arith in
     let l = length-drop p text in
     record {
       low = omega arith;
@@ -163,9 +164,9 @@ walked text p {e} h q =
     }
 
 -- so its bytes end where the extent says
-pub walked-size : (text : List ℕ) (p : ℕ) {e : Extent} → Walked text p e → p + length (passed text p e .bytes) ≡ e .end
+pub walked-size : (text : List ℕ) (p : ℕ) {e : Extent} → Walked text p e → p + length (passed text p e .bytes) ≡ e .end .0
 walked-size text p {e} w =
-    let k = length-take-le (e .end - p) (drop p text) (omega (arith, length-drop p text)) in omega arith
+    let k = length-take-le (e .end .0 - p) (drop p text) (omega (arith, length-drop p text)) in omega arith
 
 -- what a first line of those from a place on tells
 pub record Cut (text : List ℕ) (p : ℕ) (l : Line) (ls : List Line) : Type 0 where
@@ -181,8 +182,8 @@ cut-walked : (text : List ℕ) (p : ℕ) {e : Extent} {l : Line} {ls : List Line
 cut-walked text p {e} {l} {ls} w q =
     let s = walked-size text p w in
     let f : passed text p e ≡ l = cc (w .lines) in
-    let g : linesAt text (e .next) ≡ ls = cc (w .lines) in
-    let k : length (passed text p e .bytes) ≡ e .end - p = omega arith in
+    let g : linesAt text (e .next .0) ≡ ls = cc (w .lines) in
+    let k : length (passed text p e .bytes) ≡ e .end .0 - p = omega arith in
     rw (← f, ← g)
     (record { start = refl; bytes = rw k; within = omega (arith, w .mid); onward = w .onward; inside = w .inside; rest = refl })
 

@@ -59,7 +59,7 @@ module _ (s : List ℕ) {n : LineNumber} {count : ℕ} where
 
 module _ (text : List ℕ) (p : ℕ) {e : Extent} {n : LineNumber} {count : ℕ} (w : Walked text p e) where
   -- so the line at a place does not end before they do,
-  pub digits-end : numberOf (passed text p e .bytes) ≡ Is n count → p + count ≤ e .end
+  pub digits-end : numberOf (passed text p e .bytes) ≡ Is n count → p + count ≤ e .end .0
   digits-end q = omega (arith, digits-inside (passed text p e .bytes) q, walked-size text p w)
 
   -- and is found with its number

@@ -1,3 +1,4 @@
 pub mod Extents
 pub mod Found
 pub mod Rising
+pub mod Spans

@@ -43,13 +43,13 @@ pub record Accepted (s : List ℕ) (before floor : ℕ) (n : LineNumber) : Type 
   pub few : before < mostLines
 
 -- no line is judged both good and bad
-not-both : {P : Type 0} {r : Refusal} {k : ℕ} {n : LineNumber} → Bad r k ≡ Good n → P
+not-both : {P : Type 0} {r : Refusal} {k : Place} {n : LineNumber} → Bad r k ≡ Good n → P
 not-both e = never (cc)
 
 -- how far into a line its fault is
 abbrev offsetOf : Judged → ℕ
 offsetOf (Good n) = 0
-offsetOf (Bad r k) = k
+offsetOf (Bad r k) = k .0
 
 -- the byte range that the test says
 plain-byte : (b : ℕ) → isPlain b ≡ true → (32 ≤ b) × (b ≤ 126)
@@ -75,7 +75,7 @@ module _ (before floor : ℕ) where
       record { count = count; is = rw k; rises = rw (← k) (ltb-false _ _ t); few = leb-false _ _ u }))
 
   -- a number's own fault is of the line's first byte
-  at-first : (found : NumberFound) {r : Refusal} {k : ℕ} → withNumber found before floor ≡ Bad r k → k ≡ 0
+  at-first : (found : NumberFound) {r : Refusal} {k : Place} → withNumber found before floor ≡ Bad r k → k .0 ≡ 0
   unfolding numbered
   at-first None e = sym (ap offsetOf e)
   at-first (Is m count) e =
@@ -105,7 +105,7 @@ module _ (before floor : ℕ) where
         }))
 
     -- what is judged bad is so at a place of the line, or at its end
-    pub judged-bad : {r : Refusal} {k : ℕ} → judged s before floor ≡ Bad r k → k ≤ length s
+    pub judged-bad : {r : Refusal} {k : Place} → judged s before floor ≡ Bad r k → k .0 ≤ length s
     unfolding judged
     judged-bad e =
         by-test (ltb longestLine (length s)) (λ t. omega (arith, ap offsetOf (rw t at e)))
@@ -121,8 +121,8 @@ module _ (before floor : ℕ) where
     load-good e = rw (q, e)
 
     -- and a bad one does itself
-    pub load-bad : {r : Refusal} {k : ℕ} → judged (l .bytes) before floor ≡ Bad r k
-        → loadLines before floor ls ≡ Refused r (place (l .start + k))
+    pub load-bad : {r : Refusal} {k : Place} → judged (l .bytes) before floor ≡ Bad r k
+        → loadLines before floor ls ≡ Refused r (place (l .start + k .0))
     unfolding loadLines
     load-bad e = rw (q, e)
 

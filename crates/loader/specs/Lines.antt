@@ -115,10 +115,10 @@ endingOf (b ∷ t) = cond (endsLine b) 1 (cond (dropped b t) 2 0)
 
 abbrev pub extentOr : ℕ → ℕ → Extent → Extent
 extentOr zero p further = further
-extentOr (suc n) p further = record { end = p; next = p + suc n }
+extentOr (suc n) p further = record { end = place p; next = place (p + suc n) }
 
 unfoldable pub extentAt : ℕ → List ℕ → Extent
-extentAt p [] = record { end = p; next = p }
+extentAt p [] = record { end = place p; next = place p }
 extentAt p (b ∷ t) = extentOr (endingOf (b ∷ t)) p (extentAt (p + 1) t)
 
 -- where a line of an extent lies, and the bytes after the digits of its number
@@ -128,6 +128,6 @@ spanned start extent n count =
       number = n;
       place = place start;
       body = place (start + count);
-      end = place (extent .end);
-      next = place (extent .next);
+      end = extent .end;
+      next = extent .next;
     }

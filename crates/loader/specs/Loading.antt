@@ -34,23 +34,23 @@ mostLines = 512
 -- a line with a number: the number must be above the one before, that is, not below `floor`; a 513th line is one too many
 unfoldable pub numbered : ℕ → ℕ → ℕ → Judged
 numbered n before floor =
-    cond (ltb n floor) (Bad NotRising 0) (cond (leb mostLines before) (Bad TooManyLines 0) (Good (lineNumber n)))
+    cond (ltb n floor) (Bad NotRising (place 0)) (cond (leb mostLines before) (Bad TooManyLines (place 0)) (Good (lineNumber n)))
 
 abbrev pub withNumber : NumberFound → ℕ → ℕ → Judged
 withNumber (number.Is n count) before floor = numbered (n .0) before floor
-withNumber number.None before floor = Bad BadNumber 0
+withNumber number.None before floor = Bad BadNumber (place 0)
 
--- the tests of a line, each with how far into the line its place is
+-- the tests of a line, each with its place in the line
 unfoldable pub judged : List ℕ → ℕ → ℕ → Judged
 judged bytes before floor =
-    cond (ltb longestLine (length bytes)) (Bad LineTooLong 0)
-    (cond (ltb (length (leading isPlain bytes)) (length bytes)) (Bad ForeignByte (length (leading isPlain bytes)))
+    cond (ltb longestLine (length bytes)) (Bad LineTooLong (place 0))
+    (cond (ltb (length (leading isPlain bytes)) (length bytes)) (Bad ForeignByte (place (length (leading isPlain bytes))))
     (withNumber (numberOf bytes) before floor))
 
 -- the first line that is bad decides; the next line's number must be above this one's
 abbrev pub byJudged : Judged → ℕ → (ℕ → Loaded) → Loaded
 byJudged (Good n) start next = next (n .0 + 1)
-byJudged (Bad refusal offset) start next = Refused refusal (place (start + offset))
+byJudged (Bad refusal byte) start next = Refused refusal (place (start + byte .0))
 
 unfoldable pub loadLines : ℕ → ℕ → List Line → Loaded
 loadLines before floor [] = Fine

@@ -10,8 +10,8 @@ use words::Place;
 
 // Where a line ends, its end not counted, and where the next one begins.
 pub struct Extent {
-    pub end: usize,
-    pub next: usize,
+    pub end: Place,
+    pub next: Place,
 }
 
 // The number that a line begins with, and how many digits it has; or no number of a line.
@@ -39,20 +39,21 @@ const LINE_FEED: u8 = 10;
 const CARRIAGE_RETURN: u8 = 13;
 
 // How many bytes of a line's end stand at a place: byte 10 is one, and with a byte 13 just before it two.
-fn ending(text: &[u8], at: usize) -> usize
-    ensures { λ r. ⌜ r ≡ endingOf (drop at (now (text .entry))) ⌝ }
+fn ending(text: &[u8], at: Place) -> usize
+    ensures { λ r. ⌜ r ≡ endingOf (drop (at .0) (now (text .entry))) ⌝ }
 {
-    if text.len() <= at {
+    let here = at.0;
+    if text.len() <= here {
         return 0;
     }
-    let first = text[at];
+    let first = text[here];
     if first == LINE_FEED {
         return 1;
     }
     if first != CARRIAGE_RETURN {
         return 0;
     }
-    let next = at + 1;
+    let next = here + 1;
     if text.len() <= next {
         return 0;
     }
@@ -60,19 +61,25 @@ fn ending(text: &[u8], at: usize) -> usize
 }
 
 // How far the line that begins at a place goes.
-pub fn extent_at(text: &[u8], start: usize) -> Extent
-    ensures { λ r. ⌜ r ≡ extentAt start (drop start (now (text .entry))) ⌝ }
+pub fn extent_at(text: &[u8], start: Place) -> Extent
+    ensures { λ r. ⌜ r ≡ extentAt (start .0) (drop (start .0) (now (text .entry))) ⌝ }
 {
-    let mut at = start;
+    let mut at = start.0;
     while at < text.len() {
-        let count = ending(text, at);
+        let count = ending(text, Place(at));
         if count != 0 {
             let next = at + count;
-            return Extent { end: at, next };
+            return Extent {
+                end: Place(at),
+                next: Place(next),
+            };
         }
         at += 1;
     }
-    Extent { end: at, next: at }
+    Extent {
+        end: Place(at),
+        next: Place(at),
+    }
 }
 
 // A line begins with its number's first digit; all its digits belong to it.
@@ -95,16 +102,19 @@ pub(crate) fn number_of(line: &[u8]) -> NumberFound
 }
 
 // The span of a line, from where it begins, how far it goes, its number and how many digits that has.
-fn spanned(start: usize, extent: Extent, number: LineNumber, count: usize) -> LineSpan
-    requires { ⌜ start + count ≤ extent .end ⌝ }
-    ensures { λ r. ⌜ r ≡ spanned start extent number count ⌝ }
+fn spanned(start: Place, extent: Extent, number: LineNumber, count: usize) -> LineSpan
+    requires { ⌜ start .0 + count ≤ extent .end .0 ⌝ }
+    ensures { λ r. ⌜ r ≡ spanned (start .0) extent number count ⌝ }
 {
+    let body = start.0 + count;
+    let end = extent.end;
+    let next = extent.next;
     LineSpan {
         number,
-        place: Place(start),
-        body: Place(start + count),
-        end: Place(extent.end),
-        next: Place(extent.next),
+        place: start,
+        body: Place(body),
+        end,
+        next,
     }
 }
 
@@ -116,10 +126,10 @@ pub fn line_at(text: &[u8], at: Place) -> LineFound
     if text.len() <= start {
         return LineFound::None;
     }
-    let extent = extent_at(text, start);
-    let end = extent.end;
+    let extent = extent_at(text, at);
+    let end = extent.end.0;
     match number_of(&text[start..end]) {
-        NumberFound::Is(number, count) => LineFound::Is(spanned(start, extent, number, count)),
+        NumberFound::Is(number, count) => LineFound::Is(spanned(at, extent, number, count)),
         NumberFound::None => LineFound::None,
     }
 }
@@ -131,14 +141,14 @@ pub fn find_line(text: &[u8], number: LineNumber) -> LineFound
     let wanted = number.0;
     let mut at = 0;
     while at < text.len() {
-        let extent = extent_at(text, at);
-        let end = extent.end;
+        let extent = extent_at(text, Place(at));
+        let end = extent.end.0;
         if let NumberFound::Is(here, count) = number_of(&text[at..end]) {
             if here.0 == wanted {
-                return LineFound::Is(spanned(at, extent, here, count));
+                return LineFound::Is(spanned(Place(at), extent, here, count));
             }
         }
-        at = extent.next;
+        at = extent.next.0;
     }
     LineFound::None
 }

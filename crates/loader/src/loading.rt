@@ -24,10 +24,10 @@ impl Loaded {
     pub const MOST_LINES: usize = 512;
 }
 
-// What one line is judged: good, with its number, or refused for the byte so far into it.
+// What one line is judged: good, with its number, or refused for a byte of it.
 pub enum Judged {
     Good(LineNumber),
-    Bad(Refusal, usize),
+    Bad(Refusal, Place),
 }
 
 // A byte of 32 to 126, which a line may hold.
@@ -56,14 +56,14 @@ fn judge(line: &[u8], before: usize, floor: u32) -> Judged
     ensures { λ r. ⌜ r ≡ judged (now (line .entry)) before floor ⌝ }
 {
     if Loaded::LONGEST_LINE < line.len() {
-        return Judged::Bad(Refusal::LineTooLong, 0);
+        return Judged::Bad(Refusal::LineTooLong, Place(0));
     }
     let plain = plain_length(line);
     if plain < line.len() {
-        return Judged::Bad(Refusal::ForeignByte, plain);
+        return Judged::Bad(Refusal::ForeignByte, Place(plain));
     }
     match number_of(line) {
-        NumberFound::None => Judged::Bad(Refusal::BadNumber, 0),
+        NumberFound::None => Judged::Bad(Refusal::BadNumber, Place(0)),
         NumberFound::Is(number, _) => numbered(number, before, floor),
     }
 }
@@ -74,10 +74,10 @@ fn numbered(number: LineNumber, before: usize, floor: u32) -> Judged
 {
     let value = number.0;
     if (value as u32) < floor {
-        return Judged::Bad(Refusal::NotRising, 0);
+        return Judged::Bad(Refusal::NotRising, Place(0));
     }
     if Loaded::MOST_LINES <= before {
-        return Judged::Bad(Refusal::TooManyLines, 0);
+        return Judged::Bad(Refusal::TooManyLines, Place(0));
     }
     Judged::Good(number)
 }
@@ -93,11 +93,11 @@ pub fn load(text: &[u8]) -> Loaded
     let mut before = 0;
     let mut floor: u32 = 0;
     while at < text.len() {
-        let extent = extent_at(text, at);
-        let end = extent.end;
+        let extent = extent_at(text, Place(at));
+        let end = extent.end.0;
         match judge(&text[at..end], before, floor) {
-            Judged::Bad(refusal, offset) => {
-                let place = at + offset;
+            Judged::Bad(refusal, byte) => {
+                let place = at + byte.0;
                 return Loaded::Refused(refusal, Place(place));
             }
             Judged::Good(number) => {
@@ -105,7 +105,7 @@ pub fn load(text: &[u8]) -> Loaded
             }
         }
         before += 1;
-        at = extent.next;
+        at = extent.next.0;
     }
     Loaded::Fine
 }

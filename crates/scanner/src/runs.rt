@@ -7,6 +7,7 @@ ghost use Rattle.words.specs.Classes.{isHex};
 ghost use Rattle.scanner.specs.Runs.{passes};
 use whole::is_digit;
 use words::ByteClass;
+use words::Place;
 use words::capital;
 use words::class_of;
 
@@ -45,15 +46,15 @@ fn in_run(run: Run, byte: u8) -> bool
 }
 
 // The place where the run that stands at a place ends.
-pub fn run_end(line: &[u8], at: usize, run: Run) -> usize
-    ensures { λ r. ⌜ r ≡ at + length (leading (passes run) (drop at (now (line .entry)))) ⌝ }
+pub fn run_end(line: &[u8], at: Place, run: Run) -> Place
+    ensures { λ r. ⌜ r .0 ≡ at .0 + length (leading (passes run) (drop (at .0) (now (line .entry)))) ⌝ }
 {
-    let mut end = at;
+    let mut end = at.0;
     while end < line.len() {
         if !in_run(run, line[end]) {
-            return end;
+            return Place(end);
         }
         end += 1;
     }
-    end
+    Place(end)
 }

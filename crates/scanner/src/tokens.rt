@@ -36,25 +36,22 @@ pub enum Mark {
 }
 
 // A token that ends before a place.
-fn up_to(token: Token, next: usize) -> Scanned
-    ensures { λ r. ⌜ r ≡ (token upto next) ⌝ }
+fn up_to(token: Token, next: Place) -> Scanned
+    ensures { λ r. ⌜ r ≡ (token upto (next .0)) ⌝ }
 {
-    Scanned {
-        token,
-        next: Place(next),
-    }
+    Scanned { token, next }
 }
 
 // Nothing that reads.
-fn unreadable(at: usize) -> Scanned
-    ensures { λ r. ⌜ r ≡ unreadable at ⌝ }
+fn unreadable(at: Place) -> Scanned
+    ensures { λ r. ⌜ r ≡ unreadable (at .0) ⌝ }
 {
     up_to(Token::Unreadable, at)
 }
 
 // The `$` or `%` that stands right after a word.
-fn mark_at(line: &[u8], at: usize) -> Mark
-    ensures { λ r. ⌜ r ≡ markOf (drop at (now (line .entry))) ⌝ }
+fn mark_at(line: &[u8], at: Place) -> Mark
+    ensures { λ r. ⌜ r ≡ markOf (drop (at .0) (now (line .entry))) ⌝ }
 {
     match byte_at(line, at) {
         b'$' => Mark::Dollar,
@@ -64,8 +61,8 @@ fn mark_at(line: &[u8], at: usize) -> Mark
 }
 
 // A reserved word that no mark may follow.
-fn plain(token: Token, mark: Mark, at: usize, after: usize) -> Scanned
-    ensures { λ r. ⌜ ((n end : ℕ) → after ≡ at + n → r ≡ marked (WordFound.Plain token) mark at n end) ⌝ }
+fn plain(token: Token, mark: Mark, at: Place, after: Place) -> Scanned
+    ensures { λ r. ⌜ ((n end : ℕ) → after .0 ≡ at .0 + n → r ≡ marked (WordFound.Plain token) mark (at .0) n end) ⌝ }
 {
     let Mark::Bare = mark else {
         return unreadable(at);
@@ -74,66 +71,72 @@ fn plain(token: Token, mark: Mark, at: usize, after: usize) -> Scanned
 }
 
 // A reserved word that its own `$` must follow.
-fn dollared(token: Token, mark: Mark, at: usize, after: usize) -> Scanned
-    requires { ⌜ after < 2 ^ 63 ⌝ }
-    ensures { λ r. ⌜ ((n end : ℕ) → after ≡ at + n → r ≡ marked (WordFound.Dollared token) mark at n end) ⌝ }
+fn dollared(token: Token, mark: Mark, at: Place, after: Place) -> Scanned
+    requires { ⌜ after .0 < 2 ^ 63 ⌝ }
+    ensures { λ r. ⌜ ((n end : ℕ) → after .0 ≡ at .0 + n → r ≡ marked (WordFound.Dollared token) mark (at .0) n end) ⌝ }
 {
+    let end = after.0;
     let Mark::Dollar = mark else {
         return unreadable(at);
     };
-    up_to(token, after + 1)
+    up_to(token, Place(end + 1))
 }
 
 // A name of so many letters and digits, whose mark tells its kind.
-fn name_token(mark: Mark, at: usize, len: usize) -> Token
-    ensures { λ r. ⌜ r ≡ nameToken at len (kindOf mark) ⌝ }
+fn name_token(mark: Mark, at: Place, len: usize) -> Token
+    ensures { λ r. ⌜ r ≡ nameToken (at .0) len (kindOf mark) ⌝ }
 {
     let kind = match mark {
         Mark::Dollar => Kind::Text,
         _ => Kind::Whole,
     };
-    Token::Named(Name {
-        at: Place(at),
-        len,
-        kind,
-    })
+    Token::Named(Name { at, len, kind })
 }
 
 // A name, with the mark after it.
-fn named(mark: Mark, at: usize, after: usize) -> Scanned
-    requires { ⌜ (at ≤ after) × (after < 2 ^ 63) ⌝ }
-    ensures { λ r. ⌜ ((n end : ℕ) → after ≡ at + n → r ≡ marked WordFound.Free mark at n end) ⌝ }
+fn named(mark: Mark, at: Place, after: Place) -> Scanned
+    requires { ⌜ (at .0 ≤ after .0) × (after .0 < 2 ^ 63) ⌝ }
+    ensures { λ r. ⌜ ((n end : ℕ) → after .0 ≡ at .0 + n → r ≡ marked WordFound.Free mark (at .0) n end) ⌝ }
 {
-    let token = name_token(mark, at, after - at);
+    let first = at.0;
+    let end = after.0;
+    let token = name_token(mark, at, end - first);
     let Mark::Bare = mark else {
-        return up_to(token, after + 1);
+        return up_to(token, Place(end + 1));
     };
     up_to(token, after)
 }
 
 // A run of letters and digits that begins with a letter is one word.
-fn word_at(line: &[u8], at: usize) -> Scanned
-    requires { ⌜ at < length (now line) ⌝ }
-    ensures { λ r. ⌜ r ≡ wordToken (length (now (line .entry))) at (drop at (now (line .entry))) ⌝ }
+fn word_at(line: &[u8], at: Place) -> Scanned
+    requires { ⌜ at .0 < length (now line) ⌝ }
+    ensures { λ r. ⌜ r ≡ wordToken (length (now (line .entry))) (at .0) (drop (at .0) (now (line .entry))) ⌝ }
 {
+    let first = at.0;
     let after = run_end(line, at, Run::Word);
-    let found = word_of(&line[at..after]);
+    let end = after.0;
     let mark = mark_at(line, after);
+    // No reserved word has one letter.
+    if end == first + 1 {
+        return named(mark, at, after);
+    }
+    let found = word_of(&line[first..end]);
     match found {
         WordFound::Plain(token) => plain(token, mark, at, after),
         WordFound::Dollared(token) => dollared(token, mark, at, after),
-        WordFound::Remark => up_to(Token::Keyword(Word::Rem), line.len()),
+        WordFound::Remark => up_to(Token::Keyword(Word::Rem), Place(line.len())),
         WordFound::Free => named(mark, at, after),
     }
 }
 
 // Digits are a number up to 32767, and a line number only up to 65529.
-fn number_at(line: &[u8], at: usize) -> Scanned
-    requires { ⌜ at < length (now line) ⌝ }
-    ensures { λ r. ⌜ r ≡ numberToken at (drop at (now (line .entry))) ⌝ }
+fn number_at(line: &[u8], at: Place) -> Scanned
+    requires { ⌜ at .0 < length (now line) ⌝ }
+    ensures { λ r. ⌜ r ≡ numberToken (at .0) (drop (at .0) (now (line .entry))) ⌝ }
 {
-    let digits = leading_digits(&line[at..]);
-    let next = at + digits.count;
+    let first = at.0;
+    let digits = leading_digits(&line[first..]);
+    let next = Place(first + digits.count);
     let magnitude = digits.magnitude;
     let Magnitude::Fits(value) = magnitude else {
         return unreadable(at);
@@ -175,30 +178,34 @@ fn hex_value(digits: &[u8]) -> u16
 const MOST_HEX_DIGITS: usize = 4;
 
 // `&H` with 1 to 4 hexadecimal digits.
-fn hex_at(line: &[u8], at: usize) -> Scanned
-    requires { ⌜ at < length (now line) ⌝ }
-    ensures { λ r. ⌜ r ≡ hexToken at (drop at (now (line .entry))) ⌝ }
+fn hex_at(line: &[u8], at: Place) -> Scanned
+    requires { ⌜ at .0 < length (now line) ⌝ }
+    ensures { λ r. ⌜ r ≡ hexToken (at .0) (drop (at .0) (now (line .entry))) ⌝ }
 {
-    if capital(byte_at(line, at + 1)) != b'H' {
+    let sign = at.0;
+    if capital(byte_at(line, Place(sign + 1))) != b'H' {
         return unreadable(at);
     }
-    let first = at + 2;
-    let next = run_end(line, first, Run::Hex);
-    let count = next - first;
+    let first = sign + 2;
+    let next = run_end(line, Place(first), Run::Hex);
+    let end = next.0;
+    let count = end - first;
     if count == 0 || MOST_HEX_DIGITS < count {
         return unreadable(at);
     }
-    let value = hex_value(&line[first..next]);
+    let value = hex_value(&line[first..end]);
     up_to(Token::Hexadecimal(value), next)
 }
 
 // A quoted text, which must be closed.
-fn text_at(line: &[u8], at: usize) -> Scanned
-    requires { ⌜ at < length (now line) ⌝ }
-    ensures { λ r. ⌜ r ≡ textToken at (drop at (now (line .entry))) ⌝ }
+fn text_at(line: &[u8], at: Place) -> Scanned
+    requires { ⌜ at .0 < length (now line) ⌝ }
+    ensures { λ r. ⌜ r ≡ textToken (at .0) (drop (at .0) (now (line .entry))) ⌝ }
 {
-    let first = at + 1;
-    let close = run_end(line, first, Run::Unquoted);
+    let quote = at.0;
+    let first = quote + 1;
+    let end = run_end(line, Place(first), Run::Unquoted);
+    let close = end.0;
     if line.len() <= close {
         return unreadable(at);
     }
@@ -206,7 +213,7 @@ fn text_at(line: &[u8], at: usize) -> Scanned
         at: Place(first),
         len: close - first,
     };
-    up_to(Token::Quoted(quotation), close + 1)
+    up_to(Token::Quoted(quotation), Place(close + 1))
 }
 
 // Two signs that are one comparison, with no blank between them.
@@ -229,29 +236,31 @@ fn pair_of(first: u8, second: u8) -> SignFound
 }
 
 // A comparison of two signs, or else a sign alone.
-fn sign_at(line: &[u8], at: usize) -> Scanned
-    requires { ⌜ at < length (now line) ⌝ }
-    ensures { λ r. ⌜ r ≡ signToken at (drop at (now (line .entry))) ⌝ }
+fn sign_at(line: &[u8], at: Place) -> Scanned
+    requires { ⌜ at .0 < length (now line) ⌝ }
+    ensures { λ r. ⌜ r ≡ signToken (at .0) (drop (at .0) (now (line .entry))) ⌝ }
 {
-    let first = line[at];
-    let pair = pair_of(first, byte_at(line, at + 1));
+    let place = at.0;
+    let first = line[place];
+    let pair = pair_of(first, byte_at(line, Place(place + 1)));
     if let SignFound::Is(token) = pair {
-        return up_to(token, at + 2);
+        return up_to(token, Place(place + 2));
     }
     let one = sign_of(first);
     let SignFound::Is(token) = one else {
         return unreadable(at);
     };
-    up_to(token, at + 1)
+    up_to(token, Place(place + 1))
 }
 
 // What neither a letter, a digit, a quote nor a sign begins.
-fn other_at(line: &[u8], at: usize) -> Scanned
-    requires { ⌜ at < length (now line) ⌝ }
-    ensures { λ r. ⌜ r ≡ otherToken (length (now (line .entry))) at (drop at (now (line .entry))) ⌝ }
+fn other_at(line: &[u8], at: Place) -> Scanned
+    requires { ⌜ at .0 < length (now line) ⌝ }
+    ensures { λ r. ⌜ r ≡ otherToken (length (now (line .entry))) (at .0) (drop (at .0) (now (line .entry))) ⌝ }
 {
-    match line[at] {
-        b'\'' => up_to(Token::EndOfLine, line.len()),
+    let first = at.0;
+    match line[first] {
+        b'\'' => up_to(Token::EndOfLine, Place(line.len())),
         b'&' => hex_at(line, at),
         _ => unreadable(at),
     }
@@ -261,11 +270,12 @@ fn other_at(line: &[u8], at: usize) -> Scanned
 pub fn token_at(line: &[u8], at: Place) -> Scanned
     ensures { λ r. ⌜ r ≡ tokenAt (now (line .entry)) at ⌝ }
 {
-    let start = run_end(line, at.0, Run::Blank);
-    if line.len() <= start {
-        return up_to(Token::EndOfLine, line.len());
+    let start = run_end(line, at, Run::Blank);
+    let first = start.0;
+    if line.len() <= first {
+        return up_to(Token::EndOfLine, Place(line.len()));
     }
-    match class_of(line[start]) {
+    match class_of(line[first]) {
         ByteClass::Letter => word_at(line, start),
         ByteClass::Digit => number_at(line, start),
         ByteClass::Quote => text_at(line, start),

@@ -1,10 +1,10 @@
 -- Words as numbers: two words of bytes have one number only where they are the same word.
-use mathlib.Core.Path.{_≡_, refl, ap, _∙_}
-use mathlib.Core.Bool.{Bool, true, false, _&&_, and-false}
+use mathlib.Core.Path.{_≡_, refl, sym, ap, _∙_}
+use mathlib.Core.Bool.{Bool, true, false, _&&_, false≢true}
 use mathlib.Core.List.{List, [], _∷_, _++_, map}
 use Prim.Native.Nat.{ℕ, suc, _+_, _*_, _≤_, _<_}
 use native.Mathlib.Omega.{arith}
-use borrow.Author.Tests.{lt-ltb, ltb-true, leb-true, eq-eqb, eqb-true, ne-eqb, eqb-false}
+use borrow.Author.Tests.{lt-ltb, le-ltb, ltb-true, lt-leb, eq-eqb, eqb-true, ne-eqb, eqb-false}
 use lib.Dec.{eqb, leb, ltb}
 use lib.ListN.{length, getD, length-map}
 use Rattle.whole.specs.Bytes.{bytes}
@@ -87,21 +87,30 @@ pub unpacked-word : (s : List ℕ) → ((i : ℕ) → getD s i 0 < 256) → unpa
 unfolding reserved bytes
 unpacked-word s h = found reserved (map capitalOf s) (capitals-small s h) refl
 
--- a longer word is another word
-longer : (v w : List ℕ) → length w < length v → sameBytes v w ≡ false
+-- the same words are equally long
+same-length : (v w : List ℕ) → sameBytes v w ≡ true → length v ≡ length w
 unfolding sameBytes
-longer [] w h = absurd (omega arith)
-longer (a ∷ s) [] h = refl
-longer (a ∷ s) (b ∷ t) h = rw (longer s t (omega arith)) (and-false (eqb a b))
+same-length [] [] e = refl
+same-length [] (b ∷ t) e = absurd (false≢true e)
+same-length (a ∷ s) [] e = absurd (false≢true e)
+same-length (a ∷ s) (b ∷ t) e = ap suc (same-length s t (both (eqb a b) (sameBytes s t) e .1))
 
--- a word longer than each of a table is none of them
-too-long : (n : ℕ) (table : List (Spelt WordFound)) (w : List ℕ) → n < length w → every (λ s. leb (length s) n) table ≡ true → meaning table Free w ≡ Free
+-- a word of a length that fails a test, which those of a table pass, is none of them
+no-such-length : (test : ℕ → Bool) (table : List (Spelt WordFound)) (w : List ℕ) → test (length w) ≡ false
+    → every (λ s. test (length s)) table ≡ true → meaning table Free w ≡ Free
 unfolding meaning
-too-long n [] w h k = refl
-too-long n (e ∷ es) w h k =
-    let m = both (leb (length (e .spelling)) n) (every (λ s. leb (length s) n) es) k in
-    rw (longer w (e .spelling) (omega (arith, leb-true (length (e .spelling)) n (m .0))), too-long n es w h (m .1))
+no-such-length test [] w h k = refl
+no-such-length test (e ∷ es) w h k =
+    let m = both (test (length (e .spelling))) (every (λ s. test (length s)) es) k in
+    by-test (sameBytes w (e .spelling))
+    (λ q. absurd (false≢true (sym h ∙ ap test (same-length w (e .spelling) q) ∙ m .0)))
+    (λ q. rw (q, no-such-length test es w h (m .1)))
 
 pub long-word : (s : List ℕ) → 7 < length s → wordOf s ≡ Free
 unfolding reserved bytes
-long-word s h = too-long 7 reserved (map capitalOf s) (rw length-map h) refl
+long-word s h = no-such-length (λ n. leb n 7) reserved (map capitalOf s) (rw length-map (lt-leb (length s) 7 h)) refl
+
+-- no reserved word has one letter
+pub short-word : (s : List ℕ) → length s ≤ 1 → wordOf s ≡ Free
+unfolding reserved bytes
+short-word s h = no-such-length (λ n. ltb 1 n) reserved (map capitalOf s) (rw length-map (le-ltb 1 (length s) h)) refl

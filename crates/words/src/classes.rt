@@ -2,6 +2,7 @@
 ghost use mathlib.Core.Path.{_≡_};
 ghost use lib.ListN.{getD};
 ghost use Rattle.words.specs.Classes.{capitalOf, isLetter, signOf, classOf};
+use crate::places::Place;
 use crate::symbols::Sign;
 use crate::symbols::Token;
 use whole::Operator;
@@ -24,10 +25,11 @@ pub enum SignFound {
 }
 
 // The byte at a place; 0 past the line's end.
-pub fn byte_at(line: &[u8], at: usize) -> u8
-    ensures { λ r. ⌜ r ≡ getD (now (line .entry)) at 0 ⌝ }
+pub fn byte_at(line: &[u8], at: Place) -> u8
+    ensures { λ r. ⌜ r ≡ getD (now (line .entry)) (at .0) 0 ⌝ }
 {
-    if at < line.len() { line[at] } else { 0 }
+    let i = at.0;
+    if i < line.len() { line[i] } else { 0 }
 }
 
 // How far a small letter stands above its capital.

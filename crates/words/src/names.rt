@@ -28,25 +28,25 @@ pub struct Telling {
 }
 
 // A character of so many from a place on, in capitals; 0 where there is none.
-fn character(line: &[u8], at: usize, len: usize, index: usize) -> u8
+fn character(line: &[u8], at: Place, len: usize, index: usize) -> u8
     requires { ⌜ index ≤ 1 ⌝ }
-    ensures { λ r. ⌜ r ≡ capitalOf (getD (take len (drop at (now (line .entry)))) index 0) ⌝ }
+    ensures { λ r. ⌜ r ≡ capitalOf (getD (take len (drop (at .0) (now (line .entry)))) index 0) ⌝ }
 {
+    let first = at.0;
     if len <= index {
         return 0;
     }
-    if line.len() <= at {
+    if line.len() <= first {
         return 0;
     }
-    capital(byte_at(line, at + index))
+    capital(byte_at(line, Place(first + index)))
 }
 
 // The characters that tell a name, in capitals.
 pub fn telling_of(line: &[u8], name: Name) -> Telling
     ensures { λ r. ⌜ r ≡ tellingOf (nameBytes (now (line .entry)) name) ⌝ }
 {
-    let place = name.at;
-    let at = place.0;
+    let at = name.at;
     let len = name.len;
     Telling {
         first: character(line, at, len, 0),

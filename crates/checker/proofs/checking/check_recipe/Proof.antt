@@ -8,8 +8,9 @@ use lib.ListN.{length}
 use Rattle.loader.specs.Lines.{linesOf}
 use Rattle.loader.proofs.Extents.{linesAt}
 use Rattle.loader.proofs.Rising.{Rising, recipe}
+use Rattle.loader.proofs.Spans.{none-left, Spanned, spanned-as}
 use Rattle.checker.specs.Check.{firstFault, checkOf}
-use Rattle.checker.proofs.Faults.{none-left, Reached, reached, fault-here, fault-later}
+use Rattle.checker.proofs.Faults.{fault-here, fault-later}
 use Rattle.checker.proofs.checking.check_recipe.Statement.{statement}
 use Rattle.checker.proofs.checking.check_recipe.Tie as tie
 
@@ -35,7 +36,7 @@ returns-2 c =
     let l = c .before .before in
     let i = l .before .loop .inv in
     let text = l .before .before .before .before .before .before .args .text .now in
-    let e = none-left (linesAt text (l .before .loop .at .0)) (i .0) (sym (c .enum-told2 .given .1) ∙ l .line-at .ensures) in
+    let e = none-left (linesAt text (l .before .loop .at .0)) (i .0) (sym (l .line-at .ensures) ∙ c .enum-told2 .given .1) in
     sym (ap (firstFault (linesOf text)) e) ∙ i .1
 
 -- the line that was found
@@ -43,10 +44,10 @@ module _ (c : tie.After-line Inv-loop μ-loop) where
   abbrev text : List ℕ
   text = c .before .before .before .before .before .before .before .before .args .text .now
 
-  at-line : Reached text (c .before .before .before .loop .at .0) (c .line .given .0 .0)
+  at-line : Spanned text (c .before .before .before .loop .at .0) (c .line .given .0 .0)
   at-line =
       let l = c .before .before in
-      reached text (l .before .loop .at .0) (l .before .loop .inv .0) (sym (c .line .given .1) ∙ l .line-at .ensures)
+      spanned-as text (l .before .loop .at .0) (l .before .loop .inv .0) (sym (l .line-at .ensures) ∙ c .line .given .1)
 
 returns-3 : tie.Need-returns-3 Inv-loop μ-loop
 returns-3 c =
@@ -76,12 +77,12 @@ check-recipe-spec =
     (λ c. search needs)
     (λ c. search needs)
     returns-2
-    (λ c. at-line (c .before .before .before .before .before) .start)
-    (λ c. at-line (c .before .before .before .before .before) .start)
-    (λ c. at-line (c .before .before .before .before .before) .inside)
+    (λ c. at-line (c .before .before .before .before .before) .low)
+    (λ c. at-line (c .before .before .before .before .before) .low)
+    (λ c. at-line (c .before .before .before .before .before) .high)
     (λ c κs. search needs)
     (λ c. search needs)
     returns-3
     (λ c. search needs)
-    (λ c. let r = at-line (c .before .before .before .before .before .before .before .before .before) in omega (arith, r .onward, r .within))
+    (λ c. let r = at-line (c .before .before .before .before .before .before .before .before .before) in omega (arith, r .onward, r .inside))
     loop-again)

@@ -10,10 +10,10 @@ use Rattle.loader.proofs.lines.extent_at.Statement.{statement}
 use Rattle.loader.proofs.lines.extent_at.Tie as tie
 
 abbrev Inv-loop : tie.InvT-loop
-Inv-loop text start at₀ at = extentAt at (drop at text) ≡ extentAt start (drop start text)
+Inv-loop text at₀ at = extentAt at (drop at text) ≡ extentAt at₀ (drop at₀ text)
 
 abbrev μ-loop : tie.MeasureT-loop
-μ-loop text start at₀ at = length text - at
+μ-loop text at₀ at = length text - at
 
 add-next : tie.Need-add-next Inv-loop μ-loop
 add-next c =

@@ -27,16 +27,16 @@ loop-holds c = rw (le-ltb longestText (length (c .before .before .args .text .no
 
 add-place : tie.Need-add-place Inv-loop μ-loop
 add-place c =
-    let j = c .before .before .before in let l = j .before .before in
+    let j = c .before .before .before .before in let l = j .before .before in
     let w = walked _ _ (l .before .loop-test .taken) (l .extent-at .ensures) in
     let s = passed (l .before .before .before .before .before .args .text .now) (l .before .before .loop .at) (l .extent-at .result) .bytes in
-    let k = judged-bad _ _ s (sym (j .judge .ensures) ∙ c .before .refusal .given .1) in omega (arith, walked-size _ _ w)
+    let k = judged-bad _ _ s (sym (j .judge .ensures) ∙ c .before .before .refusal .given .1) in omega (arith, walked-size _ _ w)
 
 returns-2 : tie.Need-returns-2 Inv-loop μ-loop
 returns-2 c =
-    let j = c .before .before .before in let l = j .before .before in
+    let j = c .before .before .before .before in let l = j .before .before in
     let w = walked _ _ (l .before .loop-test .taken) (l .extent-at .ensures) in
-    sym (load-bad _ _ (w .lines) (sym (j .judge .ensures) ∙ c .before .refusal .given .1)) ∙ l .before .before .loop .inv
+    sym (load-bad _ _ (w .lines) (sym (j .judge .ensures) ∙ c .before .before .refusal .given .1)) ∙ l .before .before .loop .inv
 
 add-before : tie.Need-add-before Inv-loop μ-loop
 add-before c =

@@ -12,11 +12,11 @@ use Rattle.scanner.proofs.runs.run_end.Statement.{statement}
 use Rattle.scanner.proofs.runs.run_end.Tie as tie
 
 abbrev Inv-loop : tie.InvT-loop
-Inv-loop line at run end₀ end =
-    end + length (leading (passes run) (drop end line)) ≡ at + length (leading (passes run) (drop at line))
+Inv-loop line run end₀ end =
+    end + length (leading (passes run) (drop end line)) ≡ end₀ + length (leading (passes run) (drop end₀ line))
 
 abbrev μ-loop : tie.MeasureT-loop
-μ-loop line at run end₀ end = length line - end
+μ-loop line run end₀ end = length line - end
 
 returns : tie.Need-returns Inv-loop μ-loop
 returns c =

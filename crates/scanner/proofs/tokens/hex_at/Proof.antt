@@ -27,7 +27,7 @@ module _ (c : tie.Else1) where
   line = c .before .before .before .before .args .line .now
 
   abbrev at : ℕ
-  at = c .before .before .before .before .args .at
+  at = c .before .before .before .before .args .at .0
 
   letter : capitalOf (getD line (at + 1) 0) ≡ 72
   letter = rw (← (c .before .before .byte-at .ensures), ← (c .before .capital .ensures)) (c .if1 .left)
@@ -44,12 +44,12 @@ module _ (c : tie.After-run-end) where
   digits = leading isHex (drop (at from + 2) (line from))
 
   abbrev count : ℕ
-  count = c .run-end .result - (at from + 2)
+  count = c .run-end .result .0 - (at from + 2)
 
   counted : count ≡ length digits
   counted = omega (arith, c .run-end .ensures)
 
-  within : c .run-end .result ≤ length (line from)
+  within : c .run-end .result .0 ≤ length (line from)
   within = run-within isHex (line from) (at from + 2) (c .run-end .ensures) (starts from)
 
   -- the code takes the run by its places
@@ -82,7 +82,7 @@ returns-3 c =
     let i = c .before .before .before in
     let r = i .before .before in
     let v = c .before .hex-value .ensures ∙ ap (hexFrom 0) (part r) in
-    let e : at (from r) + 2 + count r ≡ r .run-end .result = omega (arith, r .run-end .ensures) in
+    let e : at (from r) + 2 + count r ≡ r .run-end .result .0 = omega (arith, r .run-end .ensures) in
     rw (token r, ← v, ← (counted r), le-leb 1 (count r) (omega arith), le-leb (count r) 4 (ltb-false _ _ (i .if3 .left)), e) (c .up-to .ensures)
 
 pub hex-at-spec : {M : Type 1} → statement M

@@ -10,9 +10,9 @@ use Rattle.scanner.proofs.tokens.named.Statement.{statement}
 use Rattle.scanner.proofs.tokens.named.Tie as tie
 
 -- the name's length is how far the place after it lies
-token : (c : tie.After-name-token) (n : ℕ) → let a = c .before .args in a .after ≡ a .at + n → c .name-token .result ≡ nameToken (a .at) n (kindOf (a .mark))
+token : (c : tie.After-name-token) (n : ℕ) → let a = c .before .args in a .after .0 ≡ a .at .0 + n → c .name-token .result ≡ nameToken (a .at .0) n (kindOf (a .mark))
 token c n e =
-    let z : c .before .args .after - c .before .args .at ≡ n = omega (arith, e) in
+    let z : c .before .args .after .0 - c .before .args .at .0 ≡ n = omega (arith, e) in
     rw z at (c .name-token .ensures)
 
 pub named-spec : {M : Type 1} → statement M

@@ -19,7 +19,7 @@ module _ (c : tie.After-leading-digits) where
   line = c .before .before .before .args .line .now
 
   abbrev at : ℕ
-  at = c .before .before .before .args .at
+  at = c .before .before .before .args .at .0
 
   abbrev number : ℕ
   number = leadingValue (drop at line)

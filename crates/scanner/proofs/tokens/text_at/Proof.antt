@@ -19,15 +19,15 @@ module _ (c : tie.After-run-end) where
   line = c .before .before .args .line .now
 
   abbrev at : ℕ
-  at = c .before .before .args .at
+  at = c .before .before .args .at .0
 
   abbrev len : ℕ
-  len = c .run-end .result - (at + 1)
+  len = c .run-end .result .0 - (at + 1)
 
   inner : len ≡ length (leading (passes Unquoted) (drop (at + 1) line))
   inner = omega (arith, c .run-end .ensures)
 
-  close : at + 1 + len ≡ c .run-end .result
+  close : at + 1 + len ≡ c .run-end .result .0
   close = omega (arith, c .run-end .ensures)
 
 returns : tie.Need-returns

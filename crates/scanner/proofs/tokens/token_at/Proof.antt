@@ -18,7 +18,7 @@ module _ (c : tie.After-run-end) where
   at = c .before .before .args .at
 
   abbrev start : ℕ
-  start = c .run-end .result
+  start = c .run-end .result .0
 
 -- what begins there, by the class of its first byte
 begins : (c : tie.After-class-of) → let b = c .before .before .before in tokenAt (line b) (at b) ≡ begun (c .class-of .result) (length (line b)) (start b) (drop (start b) (line b))

@@ -1,4 +1,4 @@
--- The run is looked up, and the mark after it read; each arm is a clause of `marked`.
+-- The run is looked up, where it is no single letter, with the mark after it; each arm is a clause of `marked`.
 use mathlib.Core.Path.{_≡_}
 use mathlib.Core.List.{List}
 use Prim.Native.Nat.{ℕ, _+_, _-_, _≤_}
@@ -9,7 +9,7 @@ use Rattle.words.proofs.Runs.{run-within}
 use Rattle.scanner.specs.Runs.{passes}
 use Rattle.scanner.specs.Tokens.{wordToken, marked}
 use Rattle.scanner.specs.declared.runs.Run.the-variants.{Word}
-use Rattle.scanner.proofs.Beginnings.{word-here}
+use Rattle.scanner.proofs.Beginnings.{word-here, name-here}
 use Rattle.scanner.proofs.tokens.word_at.Statement.{statement}
 use Rattle.scanner.proofs.tokens.word_at.Tie as tie
 
@@ -18,40 +18,51 @@ module _ (c : tie.After-run-end) where
   line = c .before .before .args .line .now
 
   abbrev at : ℕ
-  at = c .before .before .args .at
+  at = c .before .before .args .at .0
 
-  within : c .run-end .result ≤ length line
+  abbrev end : ℕ
+  end = c .run-end .result .0
+
+  within : end ≤ length line
   within = run-within (passes Word) line at (c .run-end .ensures) (omega arith)
 
   -- it has its length from its place on
-  after : c .run-end .result ≡ at + (c .run-end .result - at)
+  after : end ≡ at + (end - at)
   after = omega (arith, c .run-end .ensures)
 
 -- what is read there, by what was found
-read : (c : tie.After-mark-at) → let r = c .before .before .before in wordToken (length (line r)) (at r) (drop (at r) (line r)) ≡ marked (c .before .word-of .result) (c .mark-at .result) (at r) (r .run-end .result - at r) (length (line r))
+read : (c : tie.After-word-of) → let m = c .before .before .before in let r = m .before in wordToken (length (line r)) (at r) (drop (at r) (line r)) ≡ marked (c .word-of .result) (m .mark-at .result) (at r) (end r - at r) (length (line r))
 read c =
-    let r = c .before .before .before in
-    word-here (line r) (at r) _ _ _ (r .run-end .ensures) (c .before .word-of .ensures) (c .mark-at .ensures)
+    let m = c .before .before .before in let r = m .before in
+    word-here (line r) (at r) (end r) _ _ (r .run-end .ensures) (c .word-of .ensures) (m .mark-at .ensures)
+
+returns : tie.Need-returns
+returns c =
+    let m = c .before .before in let r = m .before in
+    rw (name-here (line r) (at r) (end r) _ (r .run-end .ensures) (c .before .if1 .taken) (m .mark-at .ensures)) (c .named .ensures _ 0 (after r))
 
 pub word-at-spec : {M : Type 1} → statement M
 word-at-spec =
     tie.close
     (tie.spec
     (λ c κs. search needs)
-    (λ c. omega (arith, after c))
-    (λ c. search needs)
-    (λ c. omega (arith, within c))
-    (λ c κs. search needs)
     (λ c κs. search needs)
     (λ c. search needs)
+    (λ c κs. let r = c .before .before in (omega (arith, after r), omega (arith, within r)))
+    returns
+    (λ c. omega (arith, after (c .before .before)))
+    (λ c. search needs)
+    (λ c. omega (arith, within (c .before .before)))
     (λ c κs. search needs)
     (λ c. search needs)
-    (λ c κs. omega (arith, within (c .before .before .before .before .before .before)))
+    (λ c κs. search needs)
+    (λ c. search needs)
+    (λ c κs. omega (arith, within (c .before .before .before .before .before .before .before)))
     (λ c. search needs)
     (λ c κs. search needs)
     (λ c. search needs)
-    (λ c κs. let r = c .before .before .before .before .before in (omega (arith, after r), omega (arith, within r)))
-    (λ c. let m = c .before .before .before .before in rw (read m, c .before .before .found .given .1) (c .plain .ensures _ _ (after (m .before .before .before))))
-    (λ c. let m = c .before .before .before .before in rw (read m, c .before .before .found2 .given .1) (c .dollared .ensures _ _ (after (m .before .before .before))))
+    (λ c κs. let r = c .before .before .before .before .before .before in (omega (arith, after r), omega (arith, within r)))
+    (λ c. let w = c .before .before .before .before in rw (read w, c .before .before .found .given .1) (c .plain .ensures _ _ (after (w .before .before .before .before))))
+    (λ c. let w = c .before .before .before .before in rw (read w, c .before .before .found2 .given .1) (c .dollared .ensures _ _ (after (w .before .before .before .before))))
     (λ c. rw (read (c .before .before .before), c .before .enum-told .given .1) (c .up-to .ensures))
-    (λ c. let m = c .before .before .before in rw (read m, c .before .enum-told2 .given .1) (c .named .ensures _ 0 (after (m .before .before .before)))))
+    (λ c. let w = c .before .before .before in rw (read w, c .before .enum-told2 .given .1) (c .named2 .ensures _ 0 (after (w .before .before .before .before)))))

@@ -25,7 +25,7 @@ outside (b ∷ s) (suc n) (suc i) h = outside s n i (omega arith)
 
 returns : tie.Need-returns
 unfolding capitalOf
-returns c = let a = c .before .before .args in rw (outside (drop (a .at) (a .line .now)) (a .len) (a .index) (c .if1 .taken))
+returns c = let a = c .before .before .args in rw (outside (drop (a .at .0) (a .line .now)) (a .len) (a .index) (c .if1 .taken))
 
 returns-2 : tie.Need-returns-2
 unfolding capitalOf
@@ -34,7 +34,7 @@ returns-2 c = let a = c .before .before .before .args in rw (drop-of-length-le (
 returns-3 : tie.Need-returns-3
 returns-3 c =
     let t = c .before .before in let a = t .before .before .before .args in
-    rw (inside (drop (a .at) (a .line .now)) (a .len) (a .index) (t .before .if1 .left), getD-drop, ← (c .before .byte-at .ensures)) (c .capital .ensures)
+    rw (inside (drop (a .at .0) (a .line .now)) (a .len) (a .index) (t .before .if1 .left), getD-drop, ← (c .before .byte-at .ensures)) (c .capital .ensures)
 
 pub character-spec : {M : Type 1} → statement M
 character-spec =
