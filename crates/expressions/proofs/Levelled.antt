@@ -21,10 +21,11 @@ use Rattle.scanner.specs.Tokens.{tokenAt}
 use Rattle.grammar.specs.Tests.{isSymbol}
 use Rattle.grammar.specs.Trees.{Formula, number, variable, text, inside, minus, complement, twoSided, call, Arguments, none, also}
 use Rattle.grammar.specs.Functions.{takes}
-use Rattle.grammar.specs.Formulas.{levelOf, notLevel, minusLevel, tightest, rightLevel, minusStands, notStands, operatorOf, tightEnough, tightOperator, Reading, bad, good, mapped, after, closed, countOf, called, formulaAt, climbAt, operandAt, argumentsAt}
+use Rattle.grammar.specs.Formulas.{levelOf, notLevel, minusLevel, tightest, rightLevel, minusStands, notStands, operatorOf, tightEnough, tightOperator, Reading, bad, good, mapped, after, closed, countOf, called, enough, formulaAt, climbAt, operandAt, argumentsAt}
 use Rattle.grammar.specs.declared.tests.OperatorFound.{OperatorFound}
 use Rattle.grammar.specs.declared.tests.OperatorFound.the-variants.{Is, None}
-use Rattle.expressions.proofs.Grammar.{by-found}
+use Rattle.skimming.specs.bridge.Remaining.{formulaIn}
+use Rattle.skimming.proofs.Grammar.{by-found}
 use Rattle.grammar.proofs.Bounds.{level-small}
 
 unfoldable mutual
@@ -174,3 +175,11 @@ pub levelled : (n : ℕ) (s : List ℕ) (level : ℕ) (t : Scanned) {f : Formula
 levelled n s level t {f} {u} e =
     let h : Levelled level f × (tightOperator level (u .token) ≡ None) = rw e at (formula-full n s level t) in
     h .0
+
+-- and none of its operators follows
+pub formula-ends : (s : List ℕ) (level : ℕ) (t : Scanned) {f : Formula} {u : Scanned} → formulaIn s level t ≡ good f u
+    → tightOperator level (u .token) ≡ None
+unfolding formulaIn
+formula-ends s level t {f} {u} e =
+    let h : Levelled level f × (tightOperator level (u .token) ≡ None) = rw e at (formula-full (enough s) s level t) in
+    h .1

@@ -1,9 +1,8 @@
 pub mod Answering
-pub mod Fuel
-pub mod Grammar
+pub mod Chains
 pub mod Joining
 pub mod Levelled
+pub mod Rooms
 pub mod Sorting
 pub mod Steps
 pub mod Views
-pub mod Weights

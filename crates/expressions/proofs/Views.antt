@@ -16,8 +16,8 @@ use Rattle.grammar.specs.Functions.{takes}
 use Rattle.grammar.specs.Formulas as formulas
 use Rattle.grammar.specs.Formulas.{notLevel, tightest, rightLevel, minusStands, notStands, tightOperator, Reading, good, mapped, after, closed, countOf, called}
 use Rattle.grammar.specs.declared.tests.OperatorFound.the-variants.{Is, None}
-use Rattle.expressions.specs.bridge.Answers.{formulaIn, climbOf, operandOf, argumentsOf}
-use Rattle.expressions.proofs.Fuel.{operand-is, formula-unrolled, climb-unrolled, arguments-unrolled, climb-bad, arguments-bad}
+use Rattle.skimming.specs.bridge.Remaining.{formulaIn, climbOf, operandOf, argumentsOf}
+use Rattle.skimming.proofs.Fuel.{operand-is, formula-unrolled, climb-unrolled, arguments-unrolled, climb-bad, arguments-bad}
 
 -- ---- formulas
 

@@ -1,8 +1,11 @@
 // The readers of formulas: what follows one, its type, and how deep its parentheses nest.
 mod calls;
+mod nots;
 mod readers;
 mod sorts;
 
+pub use nots::Nots;
+pub use nots::past_nots;
 pub use readers::FormulaRead;
 pub use readers::formula_at;
 pub use readers::larger;

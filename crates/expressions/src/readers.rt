@@ -4,13 +4,15 @@ ghost use mathlib.Core.Path.{_≡_};
 ghost use Prim.Native.Nat.{ℕ, _+_, _<_, max};
 ghost use Rattle.scanner.specs.Tokens.{tokenAt};
 ghost use Rattle.grammar.specs.Trees.{Formula, Arguments, also};
-ghost use Rattle.expressions.specs.Types.{sortOf, depthOf};
+ghost use Rattle.expressions.specs.Types.{depthOf};
 ghost use Rattle.grammar.specs.Formulas.{formulaAt, operandAt, formulaOf};
-ghost use Rattle.expressions.specs.bridge.Answers.{weight, cappedDepth, deeper, answerOf, frontedRead, joinedRead, closedRead, Kept, callAt, listedAt};
+ghost use Rattle.skimming.specs.bridge.Remaining.{weight};
+ghost use Rattle.expressions.specs.bridge.Answers.{deeper, sortIn, depthIn, answerIn, answerOf, deepRead, frontedRead, joinedRead, closedRead, Kept, callAt, listedAt};
 use crate::calls::Fit;
 use crate::calls::Sorts;
 use crate::calls::call_fit;
 use crate::calls::with_sort;
+use crate::nots::past_nots;
 use crate::sorts::Sort;
 use crate::sorts::joined_sort;
 use crate::sorts::of_kind;
@@ -25,6 +27,8 @@ use grammar::not_stands;
 use grammar::right_level;
 use grammar::tight_operator;
 use scanner::token_at;
+use skimming::Skimmed;
+use skimming::skim;
 use whole::Operator;
 use words::Function;
 use words::Place;
@@ -33,7 +37,7 @@ use words::Sign;
 use words::Token;
 
 // A formula does not read, or it does: the token that follows it, its type, and how deep its parentheses nest, where more than
-// eight are nine.
+// eight are nine and the type is wrong.
 pub enum FormulaRead {
     Bad,
     Good {
@@ -143,12 +147,40 @@ fn closed(line: &[u8], read: FormulaRead) -> FormulaRead
     }
 }
 
-// A formula of a level: an operand, and as long as an operator of that level or a tighter one follows, that operator with a
-// formula of the next tighter level on its right.
-fn formula(line: &[u8], ahead: Scanned, level: u8) -> FormulaRead
-    ensures { λ r. ⌜ ((n : ℕ) → weight (now (line .entry)) ahead + 2 < n → r ≡ answerOf (formulaAt n (now (line .entry)) level ahead)) ⌝ }
+// A formula that nests too deep: only what follows it is told.
+fn too_deep(read: Skimmed) -> FormulaRead
+    ensures { λ r. ⌜ r ≡ deepRead read ⌝ }
 {
-    let mut left = operand(line, ahead, level);
+    match read {
+        Skimmed::Bad => FormulaRead::Bad,
+        Skimmed::Good { ahead } => FormulaRead::Good {
+            ahead,
+            sort: Sort::Wrong,
+            deepest: 0,
+        },
+    }
+}
+
+// What stands inside parentheses, where so many pairs may nest, those included.
+fn inner(line: &[u8], ahead: Scanned, room: u8) -> FormulaRead
+    ensures { λ r. ⌜ ((n : ℕ) → weight (now (line .entry)) ahead + 2 < n → r ≡ answerIn room (formulaAt n (now (line .entry)) 0 ahead)) ⌝ }
+{
+    if room == 0 {
+        too_deep(skim(line, ahead))
+    } else {
+        formula(line, ahead, LOOSEST, room - 1)
+    }
+}
+
+// A formula of a level: an operand, and as long as an operator of that level or a tighter one follows, that operator with a
+// formula of the next tighter level on its right. So many pairs of parentheses may nest in it.
+fn formula(line: &[u8], ahead: Scanned, level: u8, room: u8) -> FormulaRead
+    ensures { λ r. ⌜
+        ((n : ℕ) → weight (now (line .entry)) ahead + 2 < n
+        → r ≡ answerIn (room + 1) (formulaAt n (now (line .entry)) level ahead))
+        ⌝ }
+{
+    let mut left = operand(line, ahead, level, room);
     loop {
         match left {
             FormulaRead::Bad => return FormulaRead::Bad,
@@ -163,7 +195,7 @@ fn formula(line: &[u8], ahead: Scanned, level: u8) -> FormulaRead
                     OperatorFound::None => return left,
                     OperatorFound::Is(operator) => {
                         let first = token_at(line, next);
-                        let right = formula(line, first, right_level(operator));
+                        let right = formula(line, first, right_level(operator), room);
                         left = joined(operator, sort, deepest, right);
                     }
                 }
@@ -172,11 +204,12 @@ fn formula(line: &[u8], ahead: Scanned, level: u8) -> FormulaRead
     }
 }
 
-// Parentheses, names, numbers, texts and functions, one minus sign before such, or NOT where the level lets it stand.
-fn operand(line: &[u8], ahead: Scanned, level: u8) -> FormulaRead
+// Parentheses, names, numbers, texts and functions, one minus sign before such, or NOT where the level lets it stand; a chain of
+// NOT fronts as one of them does.
+fn operand(line: &[u8], ahead: Scanned, level: u8, room: u8) -> FormulaRead
     ensures { λ r. ⌜
         ((n : ℕ) → weight (now (line .entry)) ahead + 1 < n
-        → r ≡ answerOf (operandAt n (now (line .entry)) level (ahead .token) (ahead .next)))
+        → r ≡ answerIn (room + 1) (operandAt n (now (line .entry)) level (ahead .token) (ahead .next)))
         ⌝ }
 {
     let token = ahead.token;
@@ -192,33 +225,36 @@ fn operand(line: &[u8], ahead: Scanned, level: u8) -> FormulaRead
         Token::Symbol(sign) => match sign {
             Sign::Open => {
                 let first = token_at(line, next);
-                closed(line, formula(line, first, LOOSEST))
+                closed(line, inner(line, first, room))
             }
             Sign::Minus => if minus_stands(level) {
                 let first = token_at(line, next);
-                fronted(operand(line, first, TIGHTEST))
+                fronted(operand(line, first, TIGHTEST, room))
             } else {
                 FormulaRead::Bad
             },
             _ => FormulaRead::Bad,
         },
         Token::Not => if not_stands(level) {
-            let first = token_at(line, next);
-            fronted(formula(line, first, NOT_LEVEL))
+            let nots = past_nots(line, ahead);
+            let behind = nots.ahead;
+            fronted(formula(line, behind, NOT_LEVEL, room))
         } else {
             FormulaRead::Bad
         },
         Token::Call(function) => {
             let first = token_at(line, next);
-            arguments(line, first, function)
+            arguments(line, first, function, room)
         }
         _ => FormulaRead::Bad,
     }
 }
 
 // A function's arguments in parentheses, parted by commas.
-fn arguments(line: &[u8], ahead: Scanned, function: Function) -> FormulaRead
-    ensures { λ r. ⌜ ((n : ℕ) → weight (now (line .entry)) ahead + 2 < n → r ≡ answerOf (callAt n (now (line .entry)) function ahead)) ⌝ }
+fn arguments(line: &[u8], ahead: Scanned, function: Function, room: u8) -> FormulaRead
+    ensures { λ r. ⌜
+        ((n : ℕ) → weight (now (line .entry)) ahead + 2 < n → r ≡ answerIn (room + 1) (callAt n (now (line .entry)) function ahead))
+        ⌝ }
 {
     let token = ahead.token;
     if !is_symbol(Sign::Open, token) {
@@ -230,7 +266,7 @@ fn arguments(line: &[u8], ahead: Scanned, function: Function) -> FormulaRead
         deepest: 0,
     };
     let first = token_at(line, next);
-    let mut argument = formula(line, first, LOOSEST);
+    let mut argument = inner(line, first, room);
     loop {
         match argument {
             FormulaRead::Bad => return FormulaRead::Bad,
@@ -246,7 +282,7 @@ fn arguments(line: &[u8], ahead: Scanned, function: Function) -> FormulaRead
                     return called(line, function, taken, ahead);
                 }
                 let first = token_at(line, next);
-                argument = formula(line, first, LOOSEST);
+                argument = inner(line, first, room);
             }
         }
     }
@@ -254,8 +290,8 @@ fn arguments(line: &[u8], ahead: Scanned, function: Function) -> FormulaRead
 
 fn with_argument(taken: Taken, sort: Sort, deepest: u8) -> Taken
     ensures { λ r. ⌜
-        ((a : Arguments) (f : Formula) → Kept (taken .sorts) (taken .deepest) a → sort ≡ sortOf f → deepest ≡ cappedDepth (depthOf f)
-        → Kept (r .sorts) (r .deepest) (also a f))
+        ((room : ℕ) (a : Arguments) (f : Formula) → Kept room (taken .sorts) (taken .deepest) a → sort ≡ sortIn room f
+        → deepest ≡ depthIn room (depthOf f) → Kept room (r .sorts) (r .deepest) (also a f))
         ⌝ }
 {
     let sorts = taken.sorts;
@@ -268,7 +304,8 @@ fn with_argument(taken: Taken, sort: Sort, deepest: u8) -> Taken
 // The parenthesis that closes a function's arguments, if it takes as many.
 fn called(line: &[u8], function: Function, taken: Taken, ahead: Scanned) -> FormulaRead
     ensures { λ r. ⌜
-        ((a : Arguments) → Kept (taken .sorts) (taken .deepest) a → r ≡ answerOf (listedAt (now (line .entry)) function a ahead))
+        ((room : ℕ) (a : Arguments) → Kept room (taken .sorts) (taken .deepest) a
+        → r ≡ answerIn (room + 1) (listedAt (now (line .entry)) function a ahead))
         ⌝ }
 {
     let token = ahead.token;
@@ -291,5 +328,5 @@ fn called(line: &[u8], function: Function, taken: Taken, ahead: Scanned) -> Form
 pub fn formula_at(line: &[u8], ahead: Scanned) -> FormulaRead
     ensures { λ r. ⌜ r ≡ answerOf (formulaOf (now (line .entry)) ahead) ⌝ }
 {
-    formula(line, ahead, LOOSEST)
+    formula(line, ahead, LOOSEST, FormulaRead::DEEPEST)
 }

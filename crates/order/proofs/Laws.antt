@@ -13,7 +13,7 @@ use Rattle.loader.specs.Lines.{Line, afterNumber, nextLine}
 use Rattle.grammar.specs.Trees.{Statement, empty, assign, print, ifThen, ifElse, goto, gosub, return, for, next, nextOf, lineInput, end, stop, remark, Part, last, more}
 use Rattle.statements.specs.Parts.{headOf, placeOf, partsOf, partsWithin, heads, statementsOf}
 use Rattle.statements.specs.Statements.{goodPart, partOf}
-use Rattle.reader.proofs.Heads.{heads-append}
+use Rattle.statements.proofs.Depths.{heads-append}
 use Rattle.reader.specs.Lines.{Judgement, unreadable, tooDeep, holds, judgement}
 use Rattle.reader.proofs.Judging.{held}
 use Rattle.reader.proofs.Visits.{line-onto, visit}

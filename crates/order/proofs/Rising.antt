@@ -17,8 +17,8 @@ use Rattle.scanner.specs.Tokens.{tokenAt}
 use Rattle.scanner.proofs.Ends.{token-ends}
 use Rattle.grammar.specs.Tests.{isSymbol, isKeyword, endsLine}
 use Rattle.grammar.specs.Trees.{Part}
-use Rattle.expressions.specs.bridge.Answers.{weight}
-use Rattle.expressions.proofs.Weights.{symbol-reads, keyword-reads}
+use Rattle.skimming.specs.bridge.Remaining.{weight}
+use Rattle.skimming.proofs.Weights.{symbol-reads, keyword-reads}
 use Rattle.statements.specs.Statements.{Begun, bad, done, choice, begunAt}
 use Rattle.statements.specs.bridge.Answers.{begunAnswer}
 use Rattle.statements.specs.Parts.{placeOf, partsOf}

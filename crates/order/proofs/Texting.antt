@@ -5,7 +5,6 @@ use mathlib.Core.List.{List, [], _∷_, _++_, append-assoc, cons-ne-nil}
 use Prim.Native.Nat.{ℕ, _+_, _-_, _≤_, _<_}
 use native.Mathlib.Omega.{arith}
 use lib.ListN.{take, drop}
-use Rattle.whole.proofs.Never.{never}
 use Rattle.words.specs.Places.{place}
 use Rattle.words.specs.declared.places.Place.{Place}
 use Rattle.words.specs.declared.symbols.Scanned.{Scanned}
@@ -16,8 +15,8 @@ use Rattle.loader.specs.declared.lines.LineFound.the-variants.{Is, None}
 use Rattle.loader.specs.declared.loading.Loaded.the-variants.{Fine}
 use Rattle.grammar.specs.Trees.{Part}
 use Rattle.scanner.specs.Tokens.{tokenAt}
-use Rattle.expressions.specs.bridge.Answers.{weight}
-use Rattle.expressions.proofs.Weights.{token-weight}
+use Rattle.skimming.specs.bridge.Remaining.{weight}
+use Rattle.skimming.proofs.Weights.{token-weight}
 use Rattle.statements.specs.Statements.{partOf}
 use Rattle.statements.specs.Statements.{goodPart}
 use Rattle.statements.specs.Parts.{partsOf}
@@ -25,7 +24,7 @@ use Rattle.reader.specs.Lines.{judgement}
 use Rattle.reader.specs.bridge.Walking.{Onto}
 use Rattle.machine.specs.bridge.Holding.{linesAt, bodyOf, Begins}
 use Rattle.machine.proofs.Standing as standing
-use Rattle.machine.proofs.Standing.{reaches-next, Told, line-told, told-as, reached-some, reached-none}
+use Rattle.machine.proofs.Standing.{reaches-next, Told, told-as, none-here, reached-some, reached-none}
 use Rattle.order.specs.Order.{partsHeld, partsIn, beyond, Stand, placed, stands, later}
 use Rattle.order.specs.bridge.Walking.{Passes, Reached, Lined, linesFrom, Ahead, leftAt, leftFrom}
 use Rattle.order.specs.declared.texts.Spot.{Spot}
@@ -59,7 +58,7 @@ here-ahead a = record { loads = a .loads; begins = a .begins; is = a .spans }
 
 -- one does begin there
 pub not-none : {P : Type 0} {text : List ℕ} {p : ℕ} → Lined text p → lineAt text (place p) ≡ None → P
-not-none w e = let t = line-told (w .begins) (w .loads) in never (cc (t .is))
+not-none w e = none-here (w .begins) (w .loads) e
 
 module _ {text : List ℕ} {p : ℕ} {span : LineSpan} (h : Here text p span) where
   pub told : Told text p span

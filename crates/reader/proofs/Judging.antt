@@ -2,7 +2,7 @@
 use mathlib.Core.Path.{_≡_, refl, sym, _∙_, ap}
 use mathlib.Core.Bool.{Bool, true, false, _&&_, and-assoc, and-true}
 use mathlib.Core.List.{List, [], _∷_, append-nil}
-use Prim.Native.Nat.{ℕ, suc, max}
+use Prim.Native.Nat.{ℕ, suc, max, _≤_}
 use native.Mathlib.Omega.{arith}
 use borrow.Author.Tests.{lt-ltb, le-ltb, ltb-true, ltb-false}
 use lib.Dec.{ltb}
@@ -18,9 +18,9 @@ use Rattle.expressions.specs.bridge.Answers.{cappedDepth}
 use Rattle.expressions.proofs.Answering.{max-assoc}
 use Rattle.statements.specs.Parts.{formulasOf, deepest, rightlyTyped, headOf, heads, statementsOf, deepestIn, allTyped}
 use Rattle.statements.specs.Statements.{Begun, bad, done, choice, begunAt, PartReading, badPart, goodPart, LineReading, doesNotRead, reads, whole, readLine, partOf}
-use Rattle.statements.specs.bridge.Answers.{begunAnswer}
+use Rattle.statements.specs.bridge.Answers.{fits, begunAnswer}
 use Rattle.statements.specs.declared.reading.StatementRead.{StatementRead}
-use Rattle.reader.specs.Lines.{holds, judgedRead, judgement, judgedAs, judgedOf, elseAfter, elseOf}
+use Rattle.reader.specs.Lines.{tooDeep, holds, judgedRead, judgement, judgedAs, judgedOf, elseAfter, elseOf}
 use Rattle.reader.specs.bridge.Walking.{followsDone, followOf, onwardOf, over, stray, Visited, stuck, visited, ahead, restAt, resume, walkFrom, walkOn, verdictOf, talliedOf}
 use Rattle.reader.specs.declared.branches.Start.{Start}
 use Rattle.reader.specs.declared.branches.Start.the-variants as start
@@ -79,14 +79,20 @@ capped-join a b c =
     let e : cappedDepth (max a b) ≡ cappedDepth (max a (cappedDepth b)) = omega arith in
     ap (λ x. cappedDepth x) (max-assoc a b c) ∙ capped-max (max a b) (max a (cappedDepth b)) c e
 
+-- types count only where nothing nests too deep
 verdict-fronts : (t : Tally) (own : Part) (a : ℕ) (y : Bool) (v : Visited) → deepest (formulasOf (headOf own)) ≡ a → rightlyTyped (headOf own) ≡ y
-    → verdictBy t (ahead (own ∷ []) v) ≡ verdictBy (record { deepest = max (t .deepest) (cappedDepth a); typed = t .typed && y }) v
+    → verdictBy t (ahead (own ∷ []) v) ≡ verdictBy (record { deepest = max (t .deepest) (cappedDepth a); typed = t .typed && (fits a && y) }) v
 unfolding heads deepestIn allTyped
 verdict-fronts t own a y stuck d e = refl
 verdict-fronts t own a y (visited xs over) d e =
-    rw (d, e, ← (and-assoc (t .typed) y (allTyped (heads xs))))
-    (capped-verdict (max (t .deepest) (max a (deepestIn (heads xs)))) (max (max (t .deepest) (cappedDepth a)) (deepestIn (heads xs)))
-    ((t .typed && y) && allTyped (heads xs)) (capped-join (t .deepest) a (deepestIn (heads xs))))
+    let all = max (t .deepest) (max a (deepestIn (heads xs))) in
+    let capped = max (max (t .deepest) (cappedDepth a)) (deepestIn (heads xs)) in
+    by-test (fits a)
+    (λ f. rw (d, e, f, ← (and-assoc (t .typed) y (allTyped (heads xs))))
+    (capped-verdict all capped ((t .typed && y) && allTyped (heads xs)) (capped-join (t .deepest) a (deepestIn (heads xs)))))
+    (λ f.
+    let h = ltb-false a 9 f in
+    rw (d, lt-ltb deepestNesting all (omega arith), lt-ltb deepestNesting capped (omega arith)))
 verdict-fronts t own a y (visited xs (stray q)) d e = refl
 
 module _ (s : List ℕ) (k : ℕ) (t : Tally) (own : Part) where
@@ -110,6 +116,17 @@ verdict-steps s first k p t e f i h =
     rw (f, i, e) (sym (verdict-by s k t (w .own) (begunAt s first p) (w .itself)) ∙ ap (verdictBy t) (sym (w .is)) ∙ h)
 
 -- a line that holds a part reads as it
+-- what a line holds does not nest too deep
+shallow-by : (r : LineReading) (p : Part) → judgedRead r ≡ holds p → deepestIn (statementsOf p) ≤ deepestNesting
+shallow-by doesNotRead p e = never (cc)
+shallow-by (reads q) p e =
+    by-test (ltb deepestNesting (deepestIn (statementsOf q)))
+    (λ t. let f : tooDeep ≡ holds p = rw t at e in never (cc))
+    (λ t. let f : holds q ≡ holds p = rw t at e in let g : q ≡ p = cc in rw (← g) (ltb-false deepestNesting (deepestIn (statementsOf q)) t))
+
+pub holds-shallow : (s : List ℕ) {p : Part} → judgement s ≡ holds p → deepestIn (statementsOf p) ≤ deepestNesting
+holds-shallow s {p} e = shallow-by (readLine s) p e
+
 pub held : (s : List ℕ) {p : Part} → judgement s ≡ holds p → readLine s ≡ reads p
 held s e = by-reading (readLine s) e
   where

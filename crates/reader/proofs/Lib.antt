@@ -1,4 +1,3 @@
-pub mod Heads
 pub mod Judging
 pub mod Walks
 pub mod Visits

@@ -15,8 +15,8 @@ use Rattle.grammar.specs.Trees.{Formula, Statement, empty, ifThen, ifElse, Part
 use Rattle.grammar.specs.declared.tests.NamedLine.the-variants.{NoLine}
 use Rattle.grammar.proofs.Endings.{statement-ends, else-goes-on}
 use Rattle.expressions.specs.Types.{isWhole, sortOf}
-use Rattle.expressions.specs.bridge.Answers.{weight}
-use Rattle.expressions.proofs.Weights.{symbol-reads, keyword-reads}
+use Rattle.skimming.specs.bridge.Remaining.{weight}
+use Rattle.skimming.proofs.Weights.{symbol-reads, keyword-reads}
 use Rattle.statements.specs.Parts.{formulasOf, rightlyTyped, namedLine, headOf, placeOf, partsOf, partsWithin}
 use Rattle.statements.specs.Statements.{Begun, bad, done, choice, begunAt, PartReading, badPart, goodPart, mappedPart, following, branched, partOf}
 use Rattle.statements.specs.bridge.Answers.{begunAnswer}

@@ -18,9 +18,9 @@ use Rattle.grammar.specs.Formulas.{Reading, good, after, enough, formulaOf}
 use Rattle.statements.specs.Statements.{Begun, bad, done, choice, Items, noItems, items, withItem, isSeparator, afterShown, itemsAt, begunAt}
 use Rattle.statements.specs.bridge.Answers.{itemsOf}
 use Rattle.statements.specs.Parts.{partsWithin}
-use Rattle.expressions.specs.bridge.Answers.{weight}
-use Rattle.expressions.proofs.Weights.{reads-if, after-lighter, symbol-reads, keyword-reads}
-use Rattle.expressions.proofs.Grammar.{formula-lighter}
+use Rattle.skimming.specs.bridge.Remaining.{weight}
+use Rattle.skimming.proofs.Weights.{reads-if, after-lighter, symbol-reads, keyword-reads}
+use Rattle.skimming.proofs.Grammar.{formula-lighter}
 use Rattle.statements.proofs.Findings.{by-text, line-reads}
 use Rattle.statements.proofs.Standing.{isPrint, Target, stepOf, pastText, past-text, past-no-text, past, past-word, past-none, Asked, Way, by-then, by-goto, Stands, Seen, begun-seen}
 

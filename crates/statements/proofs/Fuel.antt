@@ -11,9 +11,9 @@ use Rattle.grammar.specs.Trees.{Formula, comma, semicolon, shown}
 use Rattle.grammar.specs.Formulas.{Reading, bad, good, after, enough, formulaOf}
 use Rattle.statements.specs.Statements.{Items, items, withItem, isSeparator, afterShown, itemsAt}
 use Rattle.statements.specs.bridge.Answers.{itemsOf}
-use Rattle.expressions.specs.bridge.Answers.{weight}
-use Rattle.expressions.proofs.Weights.{symbol-reads, after-lighter, weight-enough}
-use Rattle.expressions.proofs.Grammar.{formula-lighter}
+use Rattle.skimming.specs.bridge.Remaining.{weight}
+use Rattle.skimming.proofs.Weights.{symbol-reads, after-lighter, weight-enough}
+use Rattle.skimming.proofs.Grammar.{formula-lighter}
 
 -- ---- the items of a PRINT
 

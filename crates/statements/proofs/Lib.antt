@@ -1,7 +1,9 @@
 pub mod Beginning
+pub mod Depths
 pub mod Findings
 pub mod Firsts
 pub mod Fuel
+pub mod Known
 pub mod Others
 pub mod Parts
 pub mod Printing

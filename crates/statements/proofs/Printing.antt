@@ -1,6 +1,6 @@
 -- The items of a PRINT: the code's loop goes from one to the next.
 use mathlib.Core.Path.{_≡_, refl, sym, ap, _∙_}
-use mathlib.Core.Bool.{Bool, true, false, false≢true, _&&_, _||_, and-true, and-assoc}
+use mathlib.Core.Bool.{Bool, true, false, false≢true, _&&_, _||_, and-true}
 use mathlib.Core.List.{List, []}
 use Prim.Native.Nat.{ℕ, suc, max}
 use native.Mathlib.Nat.{zero-max, max-zero}
@@ -18,11 +18,12 @@ use Rattle.statements.specs.Statements.{Items, noItems, items, withItem,
 use Rattle.statements.specs.Parts.{itemFormulas, deepest, allSome}
 use Rattle.expressions.specs.Types.{isSome}
 use Rattle.expressions.specs.bridge.Answers.{cappedDepth}
-use Rattle.statements.specs.bridge.Answers.{formedRead, begunAnswer}
+use Rattle.statements.specs.bridge.Answers.{fits, knownSort, formedRead, begunAnswer}
 use Rattle.statements.specs.declared.reading.StatementRead.{StatementRead}
 use Rattle.statements.specs.declared.reading.StatementRead.the-variants as statement
 use Rattle.statements.proofs.Fuel.{turn}
-use Rattle.expressions.proofs.Weights.{reads-if}
+use Rattle.statements.proofs.Known.{known, fits-max, apart}
+use Rattle.skimming.proofs.Weights.{reads-if}
 use Rattle.expressions.proofs.Answering.{capped-max, max-assoc}
 
 -- ---- the answer, where items of some depth and of some types or none were read before
@@ -30,7 +31,7 @@ use Rattle.expressions.proofs.Answering.{capped-max, max-assoc}
 abbrev pub continued : ℕ → Bool → Items → StatementRead
 continued depth typed noItems = statement.Bad
 continued depth typed (items is t) =
-    formedRead t (max depth (cappedDepth (deepest (itemFormulas is)))) (typed && allSome (itemFormulas is))
+    formedRead t (max depth (cappedDepth (deepest (itemFormulas is)))) (typed && (fits (deepest (itemFormulas is)) && allSome (itemFormulas is)))
 
 pub print-begins : (s : List ℕ) (t : Scanned) → begunAnswer (printAt s t) ≡ continued 0 true (itemsAt (enough s) s t)
 unfolding printAt
@@ -48,15 +49,21 @@ with-semicolon : (d : ℕ) (k : Bool) (x : Items) → continued d k (withItem se
 with-semicolon d k noItems = refl
 with-semicolon d k (items is t) = refl
 
+shown-typed : (k : Bool) (f : Formula) (fs : List Formula) → (k && (fits (max (depthOf f) (deepest fs)) && (isSome (sortOf f) && allSome fs)))
+    ≡ ((k && isSome (knownSort f)) && (fits (deepest fs) && allSome fs))
+shown-typed k f fs =
+    rw (fits-max (depthOf f) (deepest fs), known isSome refl f)
+    (apart k (fits (depthOf f)) (fits (deepest fs)) (isSome (sortOf f)) (allSome fs))
+
 -- a formula adds its depth and its type
 with-shown : (d : ℕ) (k : Bool) (f : Formula) (x : Items)
-    → continued d k (withItem (shown f) x) ≡ continued (max d (cappedDepth (depthOf f))) (k && isSome (sortOf f)) x
+    → continued d k (withItem (shown f) x) ≡ continued (max d (cappedDepth (depthOf f))) (k && isSome (knownSort f)) x
 unfolding deepest allSome
 with-shown d k f noItems = refl
 with-shown d k f (items is t) =
     rw (capped-max (depthOf f) (deepest (itemFormulas is)), max-assoc d (cappedDepth (depthOf f)) (cappedDepth (deepest (itemFormulas is))))
     (ap (formedRead t (max (max d (cappedDepth (depthOf f))) (cappedDepth (deepest (itemFormulas is)))))
-    (sym (and-assoc k (isSome (sortOf f)) (allSome (itemFormulas is)))))
+    (shown-typed k f (itemFormulas is)))
 
 with-none : (d : ℕ) (k : Bool) (t : Scanned) → continued d k (items [] t) ≡ formedRead t d k
 unfolding deepest allSome
@@ -99,13 +106,13 @@ module _ (s : List ℕ) (t : Scanned) (d : ℕ) (k : Bool) {r : StatementRead} (
       print-bad e = rw (no-comma, no-semicolon, goes-on, e) at here
 
       module _ {f : Formula} {u : Scanned} (is : formulaOf s t ≡ formulas.good f u)
-          {e : ℕ} {l : Bool} (deep : e ≡ max d (cappedDepth (depthOf f))) (some : l ≡ (k && isSome (sortOf f))) where
+          {e : ℕ} {l : Bool} (deep : e ≡ max d (cappedDepth (depthOf f))) (some : l ≡ (k && isSome (knownSort f))) where
         pub print-last : isSeparator (u .token) ≡ false → r ≡ formedRead u e l
         unfolding itemsAt
         print-last last =
             rw (deep, some)
             (rw (no-comma, no-semicolon, goes-on, is, last) at here
-            ∙ with-shown d k f (items [] u) ∙ with-none (max d (cappedDepth (depthOf f))) (k && isSome (sortOf f)) u)
+            ∙ with-shown d k f (items [] u) ∙ with-none (max d (cappedDepth (depthOf f))) (k && isSome (knownSort f)) u)
 
         pub print-more : isSeparator (u .token) ≡ true → r ≡ continued e l (itemsAt (enough s) s u)
         unfolding itemsAt

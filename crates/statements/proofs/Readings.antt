@@ -1,6 +1,6 @@
 -- What the answers to formulas make of the statements that hold them: assignment, IF, FOR and LINE INPUT.
-use mathlib.Core.Path.{_≡_, refl, sym, ap, _∙_}
-use mathlib.Core.Bool.{Bool, true, false, _&&_, and-true, and-assoc}
+use mathlib.Core.Path.{_≡_, refl, sym, ap}
+use mathlib.Core.Bool.{Bool, true, false, _&&_, and-true}
 use mathlib.Core.List.{List, []}
 use Prim.Native.Nat.{ℕ, max}
 use native.Mathlib.Nat.{max-zero}
@@ -15,7 +15,7 @@ use Rattle.expressions.specs.Types.{sortOf, depthOf}
 use Rattle.statements.specs.Statements.{bad, done, choice, targetAt, inputAt}
 use Rattle.expressions.specs.Types.{isWhole, isOf}
 use Rattle.statements.specs.Parts.{isNumber, deepest}
-use Rattle.statements.specs.bridge.Answers.{isQuoted, formedRead, boundOf, begunAnswer}
+use Rattle.statements.specs.bridge.Answers.{fits, knownSort, isQuoted, formedRead, boundOf, begunAnswer}
 use Rattle.expressions.specs.bridge.Answers.{cappedDepth}
 use Rattle.expressions.specs.declared.sorts.Sort.{Sort}
 use Rattle.grammar.specs.declared.tests.NamedLine.the-variants.{NoLine}
@@ -25,17 +25,18 @@ use Rattle.statements.specs.declared.reading.StatementRead.{StatementRea
 use Rattle.statements.specs.declared.reading.StatementRead.the-variants as statement
 use Rattle.expressions.proofs.Answering.{capped-max, max-assoc}
 use Rattle.statements.proofs.Findings.{by-text}
+use Rattle.statements.proofs.Known.{known, wrong-kind, fits-max, three-apart}
 
 -- ---- what each statement makes of a formula that was read
 
-module _ (f : Formula) (t : Scanned) {k : Sort} {d : ℕ} (sort : k ≡ sortOf f) (deep : d ≡ cappedDepth (depthOf f)) where
+module _ (f : Formula) (t : Scanned) {k : Sort} {d : ℕ} (sort : k ≡ knownSort f) (deep : d ≡ cappedDepth (depthOf f)) where
   pub assigned : (v : Variable) {typed : Bool} → typed ≡ isOf (v .kind) k → formedRead t d typed ≡ begunAnswer (done (assign v f) t)
   unfolding deepest
-  assigned v h = rw (max-zero (depthOf f), deep, h, sort)
+  assigned v h = rw (max-zero (depthOf f), deep, h, sort, known (isOf (v .kind)) (wrong-kind (v .kind)) f)
 
   pub chosen : {typed : Bool} → typed ≡ isWhole k
       → statement.Choice (record { ahead = t; deepest = d; typed = typed; names = NoLine }) ≡ begunAnswer (choice f t)
-  chosen h = rw (deep, h, sort)
+  chosen h = rw (deep, h, sort, known isWhole refl f)
 
   pub bound-good : (depth : ℕ) (before : Bool) {e : ℕ} {here typed : Bool} → e ≡ max depth d → here ≡ isWhole k → typed ≡ (before && here)
       → bound.Good t e typed ≡ boundOf (formulas.good f t) depth before
@@ -47,7 +48,7 @@ pub record Bounded (x : Reading) (depth : ℕ) (typed : Bool) (t : Scanned) (d :
   pub f : Formula
   pub is : x ≡ formulas.good f t
   pub deep : d ≡ max depth (cappedDepth (depthOf f))
-  pub whole : k ≡ (typed && isWhole (sortOf f))
+  pub whole : k ≡ (typed && isWhole (knownSort f))
 
 pub bounded : (x : Reading) (depth : ℕ) (typed : Bool) {b : Bound} {t : Scanned} {d : ℕ} {k : Bool}
     → b ≡ boundOf x depth typed → b ≡ bound.Good t d k → Bounded x depth typed t d k
@@ -65,17 +66,22 @@ three-deep a b c = rw (max-zero c, capped-max a (max b c), capped-max b c) (max-
 pub bound-same : (x : Reading) {b : Bound} {d e : ℕ} {k l : Bool} → d ≡ e → k ≡ l → b ≡ boundOf x d k → b ≡ boundOf x e l
 bound-same x p q h = rw (← p, ← q) h
 
+for-typed : (v : Variable) (from to by : Formula)
+    → (((isNumber v && isWhole (knownSort from)) && isWhole (knownSort to)) && isWhole (knownSort by))
+    ≡ (fits (max (depthOf from) (max (depthOf to) (max (depthOf by) 0)))
+    && (isNumber v && (isWhole (sortOf from) && (isWhole (sortOf to) && isWhole (sortOf by)))))
+for-typed v from to by =
+    rw (max-zero (depthOf by), fits-max (depthOf from) (max (depthOf to) (depthOf by)), fits-max (depthOf to) (depthOf by), known isWhole refl from, known isWhole refl to, known isWhole refl by)
+    (three-apart (isNumber v) (fits (depthOf from)) (fits (depthOf to)) (fits (depthOf by)) (isWhole (sortOf from)) (isWhole (sortOf to)) (isWhole (sortOf by)))
+
 module _ (v : Variable) (from to : Formula) (t : Scanned) {d : ℕ} {k : Bool}
     (deep : d ≡ max (cappedDepth (depthOf from)) (cappedDepth (depthOf to)))
-    (whole : k ≡ ((isNumber v && isWhole (sortOf from)) && isWhole (sortOf to))) where
-  pub stepped : (by : Formula) {e : ℕ} {l : Bool} → e ≡ max d (cappedDepth (depthOf by)) → l ≡ (k && isWhole (sortOf by))
+    (whole : k ≡ ((isNumber v && isWhole (knownSort from)) && isWhole (knownSort to))) where
+  pub stepped : (by : Formula) {e : ℕ} {l : Bool} → e ≡ max d (cappedDepth (depthOf by)) → l ≡ (k && isWhole (knownSort by))
       → formedRead t e l ≡ begunAnswer (done (for v from to by) t)
   unfolding deepest
   stepped by g h =
-      rw (three-deep (depthOf from) (depthOf to) (depthOf by), g, h, deep, whole)
-      (ap (formedRead t _)
-      (and-assoc (isNumber v && isWhole (sortOf from)) (isWhole (sortOf to)) (isWhole (sortOf by))
-      ∙ and-assoc (isNumber v) (isWhole (sortOf from)) (isWhole (sortOf to) && isWhole (sortOf by))))
+      rw (three-deep (depthOf from) (depthOf to) (depthOf by), g, h, deep, whole) (ap (formedRead t _) (for-typed v from to by))
 
   -- by 1 where no step stands
   pub stepless : formedRead t d k ≡ begunAnswer (done (for v from to (number 1)) t)

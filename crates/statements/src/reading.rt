@@ -6,12 +6,12 @@ ghost use Prim.Native.Nat.{ℕ};
 ghost use Rattle.grammar.specs.Tests.{choose, isSymbol, isKeyword, endsStatement, onName, onLine};
 ghost use Rattle.grammar.specs.Trees.{Formula, Variable, goto, next, nextOf};
 ghost use Rattle.grammar.specs.Formulas.{Reading, good, after, formulaOf};
-ghost use Rattle.expressions.specs.Types.{sortOf, depthOf};
+ghost use Rattle.expressions.specs.Types.{depthOf};
 ghost use Rattle.statements.specs.Statements.{bad, done, choice, onFormula, variableOf, assignAt, isSeparator, printAt, ifAt, stepAt, limitAt, forAt, targetAt, inputAt, byWord, begunBy, begunAt};
 ghost use Rattle.expressions.specs.Types.{isWhole};
 ghost use Rattle.statements.specs.Parts.{isNumber};
 ghost use Rattle.expressions.specs.bridge.Answers.{cappedDepth};
-ghost use Rattle.statements.specs.bridge.Answers.{nameOf, isQuoted, formedRead, begunAnswer, boundOf};
+ghost use Rattle.statements.specs.bridge.Answers.{knownSort, nameOf, isQuoted, formedRead, begunAnswer, boundOf};
 use crate::leading::Lead;
 use crate::leading::lead_at;
 use expressions::FormulaRead;
@@ -333,7 +333,7 @@ fn limit(line: &[u8], start: Bound) -> StatementRead
 fn step(line: &[u8], limit: Bound) -> StatementRead
     ensures { λ r. ⌜
         ((v : Variable) (from : Formula) (x : Reading)
-        → limit ≡ boundOf x (cappedDepth (depthOf from)) (isNumber v && isWhole (sortOf from))
+        → limit ≡ boundOf x (cappedDepth (depthOf from)) (isNumber v && isWhole (knownSort from))
         → r ≡ begunAnswer (onFormula x (λ to u. stepAt (now (line .entry)) v from to u)))
         ⌝ }
 {

@@ -15,7 +15,7 @@ use Rattle.loader.specs.Lines.{Line, linesOf, lineAt, nextLine}
 use Rattle.loader.specs.Loading.{loadOf}
 use Rattle.loader.specs.declared.lines.LineFound.the-variants.{Is}
 use Rattle.loader.specs.declared.loading.Loaded.the-variants.{Fine}
-use Rattle.expressions.specs.bridge.Answers.{weight}
+use Rattle.skimming.specs.bridge.Remaining.{weight}
 use Rattle.grammar.specs.Tests.{isSymbol, isKeyword}
 use Rattle.grammar.specs.Trees.{Part}
 use Rattle.statements.specs.Statements.{leadOf}

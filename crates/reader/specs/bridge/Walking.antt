@@ -14,7 +14,7 @@ use Rattle.scanner.specs.Tokens.{tokenAt}
 use Rattle.grammar.specs.Tests.{choose, isSymbol, isKeyword, endsLine}
 use Rattle.grammar.specs.Trees.{Part}
 use Rattle.expressions.specs.Types.{deepestNesting}
-use Rattle.expressions.specs.bridge.Answers.{weight}
+use Rattle.skimming.specs.bridge.Remaining.{weight}
 use Rattle.statements.specs.Parts.{partsOf}
 use Rattle.statements.specs.Statements.{PartReading, badPart, goodPart, partOf}
 use Rattle.statements.specs.declared.reading.Own.{Own}

@@ -3,12 +3,15 @@
 use mathlib.Core.Bool.{Bool, true, false, _&&_}
 use mathlib.Core.List.{List}
 use Prim.Native.Nat.{ℕ, max}
+use lib.Dec.{ltb}
 use Rattle.words.specs.declared.symbols.Scanned.{Scanned}
 use Rattle.words.specs.declared.symbols.Token.{Token}
 use Rattle.grammar.specs.Tests.{onName, onText}
+use Rattle.grammar.specs.Trees.{Formula}
+use Rattle.expressions.specs.declared.sorts.Sort.{Sort}
 use Rattle.grammar.specs.Formulas as formulas
 use Rattle.grammar.specs.Formulas.{Reading, enough}
-use Rattle.expressions.specs.bridge.Answers.{cappedDepth}
+use Rattle.expressions.specs.bridge.Answers.{cappedDepth, sortIn}
 use Rattle.expressions.specs.Types.{sortOf, depthOf}
 use Rattle.statements.specs.Statements as statements
 use Rattle.statements.specs.Statements.{Begun, done, choice, Items, itemsAt}
@@ -39,16 +42,23 @@ isQuoted t = onText t (λ q. true) false
 abbrev pub formedRead : Scanned → ℕ → Bool → StatementRead
 formedRead t depth typed = statement.Done (record { ahead = t; deepest = depth; typed = typed; names = NoLine })
 
+-- where a formula nests too deep, its type is not known and counts as wrong
+abbrev pub fits : ℕ → Bool
+fits depth = ltb depth 9
+
+abbrev pub knownSort : Formula → Sort
+knownSort f = sortIn 9 f
+
 -- a formula of a FOR, after others of a depth and of right types or not
 abbrev pub boundOf : Reading → ℕ → Bool → Bound
 boundOf formulas.bad depth typed = bound.Bad
-boundOf (formulas.good f t) depth typed = bound.Good t (max depth (cappedDepth (depthOf f))) (typed && isWhole (sortOf f))
+boundOf (formulas.good f t) depth typed = bound.Good t (max depth (cappedDepth (depthOf f))) (typed && isWhole (knownSort f))
 
 abbrev pub begunAnswer : Begun → StatementRead
 begunAnswer statements.bad = statement.Bad
 begunAnswer (done x t) =
     statement.Done
-    (record { ahead = t; deepest = cappedDepth (deepest (formulasOf x)); typed = rightlyTyped x; names = namedLine x })
+    (record { ahead = t; deepest = cappedDepth (deepest (formulasOf x)); typed = fits (deepest (formulasOf x)) && rightlyTyped x; names = namedLine x })
 begunAnswer (choice c t) =
     statement.Choice
-    (record { ahead = t; deepest = cappedDepth (depthOf c); typed = isWhole (sortOf c); names = NoLine })
+    (record { ahead = t; deepest = cappedDepth (depthOf c); typed = fits (depthOf c) && isWhole (sortOf c); names = NoLine })

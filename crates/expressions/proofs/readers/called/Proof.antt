@@ -2,33 +2,33 @@
 use mathlib.Core.Path.{sym, _∙_}
 use borrow.Author.Needs.{needs}
 use borrow.Author.Tests.{not-true, not-false}
-use Rattle.expressions.specs.Types.{sortsOf}
+use Rattle.expressions.specs.bridge.Answers.{sortsIn}
 use Rattle.expressions.proofs.Answering.{listed-open, listed-misfit, listed-fit}
 use Rattle.expressions.proofs.readers.called.Statement.{statement}
 use Rattle.expressions.proofs.readers.called.Tie as tie
 
 returns : tie.Need-returns
-returns c a kept =
+returns c room a kept =
     let p = c .before .before .before .args in
-    listed-open (p .line .now) (p .function) a (p .ahead) (sym (not-true _ (c .if1 .taken)) ∙ c .before .is-symbol .ensures)
+    listed-open room (p .line .now) (p .function) a (p .ahead) (sym (not-true _ (c .if1 .taken)) ∙ c .before .is-symbol .ensures)
 
 returns-2 : tie.Need-returns-2
-returns-2 c a kept =
+returns-2 c room a kept =
     let b = c .before .before .before .before in
     let p = b .before .before .before .args in
-    listed-misfit (p .line .now) (p .function) a (p .ahead) (sym (not-false _ (b .if1 .left)) ∙ b .before .is-symbol .ensures)
-    (sym (c .enum-told .given .1) ∙ c .before .before .call-fit .ensures (sortsOf a) (kept .sorted))
+    listed-misfit room (p .line .now) (p .function) a (p .ahead) (sym (not-false _ (b .if1 .left)) ∙ b .before .is-symbol .ensures)
+    (sym (c .enum-told .given .1) ∙ c .before .before .call-fit .ensures (sortsIn room a) (kept .sorted))
 
 returns-3 : tie.Need-returns-3
-returns-3 c a kept =
+returns-3 c room a kept =
     let d = c .before .before .before in
     let b = d .before .before .before .before in
     let p = b .before .before .before .args in
     rw (c .before .token-at .ensures, c .deeper .ensures)
-    (listed-fit (p .line .now) (p .function) a (p .ahead) (p .taken .sorts) (p .taken .deepest) _
+    (listed-fit room (p .line .now) (p .function) a (p .ahead) (p .taken .sorts) (p .taken .deepest) _
     (sym (not-false _ (b .if1 .left)) ∙ b .before .is-symbol .ensures)
     kept
-    (sym (d .sort .given .1) ∙ d .before .before .call-fit .ensures (sortsOf a) (kept .sorted)))
+    (sym (d .sort .given .1) ∙ d .before .before .call-fit .ensures (sortsIn room a) (kept .sorted)))
 
 pub called-spec : {M : Type 1} → statement M
 called-spec =

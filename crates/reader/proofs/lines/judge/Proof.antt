@@ -6,7 +6,7 @@ use Prim.Native.Nat.{ℕ, _+_, _*_, _≤_}
 use native.Mathlib.Omega.{arith}
 use lib.ListN.{length}
 use Rattle.words.specs.Places.{place}
-use Rattle.expressions.proofs.Weights.{token-weight}
+use Rattle.skimming.proofs.Weights.{token-weight}
 use Rattle.statements.proofs.Parts.{weightAt}
 use Rattle.reader.specs.Lines.{judgedOf}
 use Rattle.reader.specs.bridge.Walking.{walkFrom, walkOn}

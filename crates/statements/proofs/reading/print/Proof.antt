@@ -8,13 +8,14 @@ use borrow.Author.Needs.{needs}
 use Rattle.words.specs.declared.symbols.Scanned.{Scanned}
 use Rattle.grammar.specs.Tests.{endsStatement}
 use Rattle.grammar.specs.Formulas.{enough, formulaOf}
-use Rattle.expressions.specs.Types.{isSome, sortOf, depthOf}
-use Rattle.expressions.specs.bridge.Answers.{weight, cappedDepth}
+use Rattle.expressions.specs.Types.{isSome, depthOf}
+use Rattle.skimming.specs.bridge.Remaining.{weight}
+use Rattle.expressions.specs.bridge.Answers.{cappedDepth}
 use Rattle.statements.specs.Statements.{isSeparator, itemsAt, printAt}
-use Rattle.statements.specs.bridge.Answers.{begunAnswer}
-use Rattle.expressions.proofs.Weights.{after-lighter}
-use Rattle.expressions.proofs.Grammar.{formula-lighter}
-use Rattle.expressions.proofs.Answering.{Answered, answered, not-read}
+use Rattle.statements.specs.bridge.Answers.{knownSort, begunAnswer}
+use Rattle.skimming.proofs.Weights.{after-lighter}
+use Rattle.skimming.proofs.Grammar.{formula-lighter}
+use Rattle.expressions.proofs.Answering.{AnsweredWell, answered-well, not-read}
 use Rattle.statements.proofs.Findings.{passed, failed}
 use Rattle.statements.proofs.Printing.{continued, separator-reads, print-begins, print-separator, print-ends, print-bad, print-last, print-more}
 use Rattle.statements.proofs.reading.print.Statement.{statement}
@@ -81,7 +82,7 @@ returns-2 c =
     let e = c .before .before .before in
     let n = e .before .before in
     let l = n .before .before in
-    let none = not-read (formulaOf (line l) (here l)) (c .before .before .formula-at .ensures) (c .enum-told .given .1) in
+    let none = not-read 9 (formulaOf (line l) (here l)) (c .before .before .formula-at .ensures) (c .enum-told .given .1) in
     sym (print-bad (line l) (here l) (depth l) (typed l) (l .loop .inv) (no-separator n) (goes-on e) none)
 
 module _ (c : tie.After-separates2 Inv-loop μ-loop) where
@@ -94,13 +95,13 @@ module _ (c : tie.After-separates2 Inv-loop μ-loop) where
   abbrev l : tie.At-loop Inv-loop μ-loop
   l = n .before .before
 
-  read : Answered (formulaOf (line l) (here l)) (c .before .before .before .before .before .ahead .given .0 .0) (c .before .before .before .before .before .ahead .given .0 .1 .0) (c .before .before .before .before .before .ahead .given .0 .1 .1 .0)
-  read = answered (formulaOf (line l) (here l)) (c .before .before .before .before .before .before .before .formula-at .ensures) (c .before .before .before .before .before .ahead .given .1)
+  read : AnsweredWell (formulaOf (line l) (here l)) (c .before .before .before .before .before .ahead .given .0 .0) (c .before .before .before .before .before .ahead .given .0 .1 .0) (c .before .before .before .before .before .ahead .given .0 .1 .1 .0)
+  read = answered-well (formulaOf (line l) (here l)) (c .before .before .before .before .before .before .before .formula-at .ensures) (c .before .before .before .before .before .ahead .given .1)
 
   deep : c .before .before .before .larger .result ≡ max (depth l) (cappedDepth (depthOf (read .f)))
   deep = c .before .before .before .larger .ensures ∙ ap (max (depth l)) (read .deep)
 
-  some : c .before .both .result ≡ (typed l && isSome (sortOf (read .f)))
+  some : c .before .both .result ≡ (typed l && isSome (knownSort (read .f)))
   some = c .before .both .ensures ∙ ap (λ x. typed l && x) (c .before .before .is-some .ensures ∙ ap isSome (read .sort))
 
 returns-3 : tie.Need-returns-3 Inv-loop μ-loop

@@ -5,9 +5,10 @@ use Prim.Native.Nat.{ℕ}
 use borrow.Author.Needs.{needs}
 use Rattle.grammar.specs.Trees.{Formula, Variable}
 use Rattle.grammar.specs.Formulas.{after, formulaOf}
-use Rattle.expressions.specs.Types.{sortOf, depthOf, isWhole}
+use Rattle.expressions.specs.Types.{depthOf, isWhole}
 use Rattle.expressions.specs.bridge.Answers.{cappedDepth}
 use Rattle.statements.specs.Parts.{isNumber}
+use Rattle.statements.specs.bridge.Answers.{knownSort}
 use Rattle.statements.proofs.Findings.{passed, failed}
 use Rattle.statements.proofs.Readings.{bounded, not-bounded, stepped, stepless}
 use Rattle.statements.proofs.reading.step.Statement.{statement}
@@ -18,7 +19,7 @@ abbrev depth : Formula → ℕ
 depth from = cappedDepth (depthOf from)
 
 abbrev typed : Variable → Formula → Bool
-typed v from = isNumber v && isWhole (sortOf from)
+typed v from = isNumber v && isWhole (knownSort from)
 
 returns : tie.Need-returns
 returns c = λ v from x e.

@@ -18,7 +18,7 @@ use Rattle.scanner.specs.Tokens.{reads, tokenAt}
 use Rattle.scanner.proofs.Ends.{token-ends}
 use Rattle.grammar.specs.Tests.{isSymbol, isKeyword}
 use Rattle.grammar.specs.Formulas.{tightOperator, after, enough}
-use Rattle.expressions.specs.bridge.Answers.{weight}
+use Rattle.skimming.specs.bridge.Remaining.{weight}
 use Rattle.grammar.specs.declared.tests.OperatorFound.the-variants.{Is}
 
 -- ---- what reads

@@ -15,9 +15,9 @@ use Rattle.scanner.specs.Tokens.{tokenAt}
 use Rattle.grammar.specs.Tests.{choose, isSymbol}
 use Rattle.grammar.specs.Trees.{Formula, number, variable, text, minus, complement, twoSided, Arguments, none, also}
 use Rattle.grammar.specs.Formulas.{notLevel, tightest, rightLevel, minusStands, notStands, tightOperator, Reading, bad, good, mapped, after, closed, called, quotedBytes, bySign, byOperator, enough, formulaAt, climbAt, operandAt, argumentsAt, formulaOf}
-use Rattle.expressions.specs.bridge.Answers.{weight, formulaIn, climbOf, operandOf, argumentsOf}
-use Rattle.expressions.proofs.Weights.{symbol-reads, operator-reads, after-lighter, weight-enough}
-use Rattle.expressions.proofs.Grammar.{by-found, Lighter, formula-lightens, operand-lightens}
+use Rattle.skimming.specs.bridge.Remaining.{weight, formulaIn, climbOf, operandOf, argumentsOf}
+use Rattle.skimming.proofs.Weights.{symbol-reads, operator-reads, after-lighter, weight-enough}
+use Rattle.skimming.proofs.Grammar.{by-found, Lighter, formula-lightens, operand-lightens}
 
 -- ---- what is left to read behind a formula
 

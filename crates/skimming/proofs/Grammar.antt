@@ -17,10 +17,10 @@ use Rattle.grammar.specs.Tests.{isSymbol}
 use Rattle.grammar.specs.Trees.{Formula, minus, complement, twoSided, Arguments, none, also}
 use Rattle.grammar.specs.Functions.{takes}
 use Rattle.grammar.specs.Formulas.{notLevel, tightest, rightLevel, minusStands, notStands, tightOperator, Reading, bad, good, mapped, after, closed, countOf, called, formulaAt, climbAt, operandAt, argumentsAt, enough, formulaOf}
-use Rattle.expressions.specs.bridge.Answers.{weight}
+use Rattle.skimming.specs.bridge.Remaining.{weight}
 use Rattle.grammar.specs.declared.tests.OperatorFound.{OperatorFound}
 use Rattle.grammar.specs.declared.tests.OperatorFound.the-variants.{Is, None}
-use Rattle.expressions.proofs.Weights.{symbol-reads, operator-reads, after-lighter}
+use Rattle.skimming.proofs.Weights.{symbol-reads, operator-reads, after-lighter}
 
 -- ---- tokens that read
 
@@ -47,7 +47,7 @@ mapped-lighter : (s : List ℕ) (w : ℕ) (make : Formula → Formula) (x : Read
 mapped-lighter s w make bad l = tt
 mapped-lighter s w make (good f u) l = l
 
-closed-lighter : (s : List ℕ) (w : ℕ) (x : Reading) → Lighter s w x → Lighter s w (closed s x)
+pub closed-lighter : (s : List ℕ) (w : ℕ) (x : Reading) → Lighter s w x → Lighter s w (closed s x)
 closed-lighter s w bad l = tt
 closed-lighter s w (good f u) l =
     by-test (isSymbol Close (u .token))

@@ -1,0 +1,12 @@
+pub mod Agreement
+pub mod Bits
+pub mod Chains
+pub mod Fuel
+pub mod Full
+pub mod Grammar
+pub mod Holding
+pub mod Lightness
+pub mod Moves
+pub mod Others
+pub mod Outside
+pub mod Weights
