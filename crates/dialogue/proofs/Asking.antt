@@ -16,6 +16,7 @@ use Rattle.whole.proofs.Never.{never}
 use Rattle.words.specs.declared.names.Kind.the-variants as kind
 use Rattle.words.specs.declared.names.Name.{Name}
 use Rattle.words.specs.declared.names.Telling.{Telling}
+use Rattle.words.specs.Places.{place}
 use Rattle.words.specs.declared.places.Place.{Place}
 use Rattle.words.specs.declared.symbols.Quotation.{Quotation}
 use Rattle.words.specs.declared.symbols.Scanned.{Scanned}
@@ -64,7 +65,7 @@ use Rattle.dialogue.proofs.Printing.{leads-written, printed-none, print
 
 -- an extent further on
 abbrev further : ℕ → Extent → Extent
-further p e = record { end = p + e .end; next = p + e .next }
+further p e = record { end = place (p + e .end .0); next = place (p + e .next .0) }
 
 or-further : (n p q : ℕ) (a b : Extent) → a ≡ further p b → extentOr n (p + q) a ≡ further p (extentOr n q b)
 or-further zero p q a b e = e
@@ -79,11 +80,11 @@ extent-further p q (b ∷ t) =
 
 -- what is taken of the input from a place on goes as far as the line's extent
 record Reach (input : List ℕ) (p : ℕ) (e : Extent) : Type 0 where
-  low : p ≤ e .end
-  mid : e .end ≤ e .next
-  inside : e .next ≤ length input
-  size : length (take (e .end - p) (drop p input)) ≡ e .end - p
-  is : takeLine (drop p input) ≡ record { bytes = take (e .end - p) (drop p input); left = drop (e .next) input }
+  low : p ≤ e .end .0
+  mid : e .end .0 ≤ e .next .0
+  inside : e .next .0 ≤ length input
+  size : length (take (e .end .0 - p) (drop p input)) ≡ e .end .0 - p
+  is : takeLine (drop p input) ≡ record { bytes = take (e .end .0 - p) (drop p input); left = drop (e .next .0) input }
 
 -- the definition counts its places from there
 reach : (input : List ℕ) (p : ℕ) {e : Extent} → p < length input → e ≡ extentAt p (drop p input) → Reach input p e
@@ -93,15 +94,15 @@ reach input p {e} h q =
     let z = extentAt 0 s in
     let w = walked s 0 (omega arith) refl in
     let f : e ≡ further p z = q ∙ ap (λ i. extentAt i s) (omega arith) ∙ extent-further p 0 s in
-    let end : e .end ≡ p + z .end = ap (λ x. x .end) f in
-    let next : e .next ≡ p + z .next = ap (λ x. x .next) f in
-    let a : e .end - p ≡ z .end - 0 = omega arith in
-    let b : drop (z .next) s ≡ drop (e .next) input = drop-drop (z .next) p input ∙ ap (λ i. drop i input) (sym next) in
+    let end : e .end .0 ≡ p + z .end .0 = ap (λ x. x .end .0) f in
+    let next : e .next .0 ≡ p + z .next .0 = ap (λ x. x .next .0) f in
+    let a : e .end .0 - p ≡ z .end .0 - 0 = omega arith in
+    let b : drop (z .next .0) s ≡ drop (e .next .0) input = drop-drop (z .next .0) p input ∙ ap (λ i. drop i input) (sym next) in
     record {
       low = omega arith;
       mid = omega (arith, w .mid);
       inside = omega (arith, w .inside);
-      size = length-take-le (e .end - p) s (omega (arith, w .mid, w .inside));
+      size = length-take-le (e .end .0 - p) s (omega (arith, w .mid, w .inside));
       is = ap (firstLine s) (w .lines) ∙ rw (a, b);
     }
 
@@ -112,25 +113,25 @@ some-taken (b ∷ s) n v go h = refl
 
 module _ (input : List ℕ) (p : ℕ) {e : Extent} (h : p < length input) (k : Reach input p e) (v : Variable) (after : spec.Position) where
   takes : (n : spec.Machine) → n .input ≡ drop p input
-      → takesLine v after n ≡ lineTaken n v (record { bytes = take (e .end - p) (drop p input); left = drop (e .next) input }) (λ o. goesOn o after)
+      → takesLine v after n ≡ lineTaken n v (record { bytes = take (e .end .0 - p) (drop p input); left = drop (e .next .0) input }) (λ o. goesOn o after)
   takes n i =
       let go : spec.Machine → step.Next = λ o. goesOn o after in
       ap (λ x. inputLine x n v go) i ∙ some-taken (drop p input) n v go (rw (length-drop p input) (omega arith)) ∙ ap (λ t. lineTaken n v t go) (k .is)
 
   -- too long,
-  taken-long : longestInputLine < e .end - p → (n : spec.Machine) → n .input ≡ drop p input → takesLine v after n ≡ fails LineBufferOverflow n
-  taken-long b n i = takes n i ∙ rw (lt-ltb longestInputLine (length (take (e .end - p) (drop p input))) (rw (k .size) b))
+  taken-long : longestInputLine < e .end .0 - p → (n : spec.Machine) → n .input ≡ drop p input → takesLine v after n ≡ fails LineBufferOverflow n
+  taken-long b n i = takes n i ∙ rw (lt-ltb longestInputLine (length (take (e .end .0 - p) (drop p input))) (rw (k .size) b))
 
   -- or not
-  taken-short : e .end - p ≤ longestInputLine → (n : spec.Machine) → n .input ≡ drop p input → n .taken ≡ p
-      → takesLine v after n ≡ fillsIn v (take (e .end - p) (drop p input)) after (withInput n (drop (e .next) input) (e .next))
+  taken-short : e .end .0 - p ≤ longestInputLine → (n : spec.Machine) → n .input ≡ drop p input → n .taken ≡ p
+      → takesLine v after n ≡ fillsIn v (take (e .end .0 - p) (drop p input)) after (withInput n (drop (e .next .0) input) (e .next .0))
   taken-short b n i t =
       let l = ap length i ∙ length-drop p input in
-      let c : n .taken + (length (n .input) - length (drop (e .next) input)) ≡ e .next =
-      rw (length-drop (e .next) input) (omega (arith, k .low, k .mid, k .inside)) in
+      let c : n .taken + (length (n .input) - length (drop (e .next .0) input)) ≡ e .next .0 =
+      rw (length-drop (e .next .0) input) (omega (arith, k .low, k .mid, k .inside)) in
       takes n i
-      ∙ rw (le-ltb longestInputLine (length (take (e .end - p) (drop p input))) (rw (k .size) b))
-      (ap (λ c. fillsIn v (take (e .end - p) (drop p input)) after (withInput n (drop (e .next) input) c)) c)
+      ∙ rw (le-ltb longestInputLine (length (take (e .end .0 - p) (drop p input))) (rw (k .size) b))
+      (ap (λ c. fillsIn v (take (e .end .0 - p) (drop p input)) after (withInput n (drop (e .next .0) input) c)) c)
 
 -- the machine with another count of what was taken
 module _ {m : Machine} {input space room : List ℕ} (k : ℕ) where
@@ -170,25 +171,25 @@ module _ (text : List ℕ) {m : Machine} {input space room : List ℕ} (sound : 
 
   module _ {e : Extent} (h : m .taken < length input) (k : Reach input (m .taken) e) where
     -- the line is too long
-    takes-long : longestInputLine < e .end - m .taken
+    takes-long : longestInputLine < e .end .0 - m .taken
         → Turns text m input space room anyRecords (takesLine v after) (turnedTo m (next.Fails LineBufferOverflow)) space room
     takes-long b =
         turns-fails (leaves-unprinted sound refl refl refl)
         (λ rs l t n s. record { machine = n; is = taken-long input (m .taken) h k v after b n (s .left); same = s })
 
     -- it is taken
-    takes-short : e .end - m .taken ≤ longestInputLine → {r : Turned} {space′ : List ℕ}
-        → (Sound (withTaken m (e .next)) input space room
-        → Turns text (withTaken m (e .next)) input space room anyRecords (fillsIn v (take (e .end - m .taken) (drop (m .taken) input)) after) r space′ room)
+    takes-short : e .end .0 - m .taken ≤ longestInputLine → {r : Turned} {space′ : List ℕ}
+        → (Sound (withTaken m (e .next .0)) input space room
+        → Turns text (withTaken m (e .next .0)) input space room anyRecords (fillsIn v (take (e .end .0 - m .taken) (drop (m .taken) input)) after) r space′ room)
         → Turns text m input space room anyRecords (takesLine v after) r space′ room
     takes-short b t =
-        let w = taken-sound (e .next) sound (k .inside) in
-        turns-then (leaves-unprinted {r = turnedTo (withTaken m (e .next)) next.Ends} w refl refl refl)
+        let w = taken-sound (e .next .0) sound (k .inside) in
+        turns-then (leaves-unprinted {r = turnedTo (withTaken m (e .next .0)) next.Ends} w refl refl refl)
         (λ rs l u n s.
         record {
-          machine = withInput n (drop (e .next) input) (e .next);
+          machine = withInput n (drop (e .next .0) input) (e .next .0);
           is = taken-short input (m .taken) h k v after b n (s .left) (s .taken);
-          same = taken-same (e .next) s;
+          same = taken-same (e .next .0) s;
         })
         (t w)
 
@@ -201,8 +202,8 @@ module _ (text : List ℕ) {m : Machine} {input space room : List ℕ} (sound : 
       (λ h b. takes-long h (reach input (m .taken) h refl) b)
 
   pub takes-line : {e : Extent} → takenAt input (m .taken) ≡ asked.Is e → {r : Turned} {space′ : List ℕ}
-      → (Sound (withTaken m (e .next)) input space room
-      → Turns text (withTaken m (e .next)) input space room anyRecords (fillsIn v (take (e .end - m .taken) (drop (m .taken) input)) after) r space′ room)
+      → (Sound (withTaken m (e .next .0)) input space room
+      → Turns text (withTaken m (e .next .0)) input space room anyRecords (fillsIn v (take (e .end .0 - m .taken) (drop (m .taken) input)) after) r space′ room)
       → Turns text m input space room anyRecords (takesLine v after) r space′ room
   takes-line q =
       let k = took input (m .taken) q in takes-short (k .some) (reach input (m .taken) (k .some) (k .is)) (k .short)

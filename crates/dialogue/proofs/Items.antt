@@ -1,5 +1,5 @@
 -- The items of a PRINT, one after another.
-use mathlib.Core.Path.{_≡_, refl, sym, _∙_}
+use mathlib.Core.Path.{_≡_, refl, sym, _∙_, subst}
 use mathlib.Core.Bool.{Bool, true, false, _||_, false≢true}
 use mathlib.Core.List.{List, [], _∷_}
 use Prim.Native.Nat.{ℕ, _+_, _≤_}
@@ -15,12 +15,15 @@ use Rattle.grammar.specs.Trees.{Item, comma, semicolon, shown}
 use Rattle.grammar.specs.Formulas.{after}
 use Rattle.statements.specs.Statements.{items, isSeparator}
 use Rattle.statements.specs.bridge.Answers.{itemsOf}
-use Rattle.expressions.specs.bridge.Answers.{weight}
+use Rattle.skimming.specs.bridge.Remaining.{weight}
 use Rattle.statements.proofs.Fuel.{items-unrolled}
-use Rattle.expressions.proofs.Weights.{after-lighter, symbol-reads}
-use Rattle.expressions.proofs.Grammar.{formula-lighter}
+use Rattle.skimming.proofs.Weights.{after-lighter, symbol-reads}
+use Rattle.skimming.proofs.Grammar.{formula-lighter}
 use Rattle.statements.proofs.Views.{comma-view, semicolon-view, none-view, show-view}
 use Rattle.formulas.specs.bridge.Memory.{Scans}
+use native.Mathlib.Omega.{arith}
+use Rattle.expressions.specs.Types.{deepestNesting}
+use Rattle.statements.specs.Parts.{itemFormulas, deepest}
 use Rattle.turns.specs.bridge.Turns.{Formed}
 use Rattle.dialogue.specs.bridge.Showing.{ItemAt}
 
@@ -80,11 +83,14 @@ module _ (line : List ℕ) (t : Scanned) {all : List Item} {end : Scanned} (e : 
 
   module _ (goes-on : endsStatement (t .token) ≡ false) where
     -- what is no separator begins a formula
-    pub formed-item : length line ≤ longestLine → Fresh line t → isSeparator (t .token) ≡ false → Formed line t
-    formed-item short fresh h =
+    pub formed-item : length line ≤ longestLine → deepest (itemFormulas all) ≤ deepestNesting → Fresh line t → isSeparator (t .token) ≡ false
+        → Formed line t
+    unfolding deepest
+    formed-item short low fresh h =
         let n = neither (isSymbol Comma (t .token)) (isSymbol Semicolon (t .token)) h in
         let v = show-view line t e (n .0) (n .1) goes-on in
-        record { short = short; scans = fresh h goes-on; reads = record { of = v .of; next = v .at; is = v .from } }
+        let k = subst (λ is. deepest (itemFormulas is) ≤ deepestNesting) (v .shows .is) low in
+        record { short = short; scans = fresh h goes-on; reads = record { of = v .of; next = v .at; is = v .from; shallow = omega arith } }
 
     pub advances : endsStatement (end .token) ≡ true → Advances line t all end
     advances ends =

@@ -2,8 +2,9 @@
 use mathlib.Core.Path.{_≡_, refl, _∙_}
 use mathlib.Core.Bool.{Bool, true, false, cond}
 use mathlib.Core.List.{List, [], _∷_}
-use Prim.Native.Nat.{ℕ, _+_}
+use Prim.Native.Nat.{_≤_, ℕ, _+_}
 use borrow.Author.Tests.{le-leb, lt-leb}
+use native.Mathlib.Omega.{arith}
 use lib.ListN.{length}
 use Rattle.whole.specs.declared.errors.Error.{Error}
 use Rattle.words.specs.declared.places.Place.{Place}
@@ -14,6 +15,8 @@ use Rattle.space.proofs.Bounds.{by-bound}
 use Rattle.grammar.specs.Tests.{endsStatement}
 use Rattle.grammar.specs.Trees as tree
 use Rattle.grammar.specs.Trees.{Item, comma, semicolon, shown}
+use Rattle.expressions.specs.Types.{deepestNesting}
+use Rattle.statements.specs.Parts.{itemFormulas, deepest}
 use Rattle.statements.specs.Statements.{items, isSeparator}
 use Rattle.statements.specs.bridge.Answers.{itemsOf}
 use Rattle.machine.specs.Machine as spec
@@ -70,10 +73,18 @@ module _ {m : Machine} {space room : List ℕ} {m′ : Machine} {space′ room�
 
 -- ---- the loop
 
+-- fewer items nest no deeper
+fewer-shallow : (i : Item) (is : List Item) → deepest (itemFormulas (i ∷ is)) ≤ deepestNesting → deepest (itemFormulas is) ≤ deepestNesting
+unfolding deepest
+fewer-shallow comma is h = h
+fewer-shallow semicolon is h = h
+fewer-shallow (shown f) is h = omega arith
+
 -- what it has come to: the items from a token on are left
 pub record Prints (line : List ℕ) (all : List Item) (end : Scanned) (m : Machine) (space room : List ℕ) (m′ : Machine) (item : Scanned) (quiet : Bool) (space′ room′ : List ℕ) : Type 0 where
   pub rest : List Item
   pub reads : itemsOf line item ≡ items rest end
+  pub shallow : deepest (itemFormulas rest) ≤ deepestNesting
   pub fresh : Fresh line item
   pub printed : Printed m space room m′ space′ room′
   pub leads : (text : List ℕ) (rs : List Record) (input : List ℕ) (n : spec.Machine) → Same text rs m input space room n
@@ -91,6 +102,7 @@ module _ {line : List ℕ} {first : Scanned} (i : Itemed line first) {all : List
       record {
         rest = all;
         reads = e;
+        shallow = let f = i .reads in let k : i .all ≡ all = cc in rw (← k) (i .shallow);
         fresh = λ _ _. i .scans;
         printed = printed-none s f;
         leads = λ text rs input n same go. leads-self same;
@@ -121,6 +133,7 @@ module _ {line : List ℕ} {all : List Item} {end : Scanned} {m : Machine} {spac
         (record {
           rest = a .others;
           reads = a .reads;
+          shallow = fewer-shallow (a .first) (a .others) (rw (a .is) at (h .shallow));
           fresh = a .fresh;
           printed = printed-more (h .printed) p (s .spaceLong) (s .roomLong) (s .fitting) (s .more) (s .beyond);
           leads = λ text rs input n same go.

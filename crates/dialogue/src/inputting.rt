@@ -87,9 +87,10 @@ fn take_in(
     match take_line(input, from) {
         InputLine::Fault(error) => fails(machine, error),
         InputLine::Is(extent) => {
-            let end = extent.end;
+            let end = extent.end.0;
+            let next = extent.next.0;
             let mut m = machine;
-            m.taken = extent.next;
+            m.taken = next;
             fill(line, here, name, ahead, m, &input[from..end], space)
         }
     }

@@ -15,12 +15,13 @@ use Rattle.scanner.specs.Tokens.{tokenAt}
 use Rattle.space.proofs.Parts.{front-less}
 use Rattle.grammar.specs.Trees.{Formula, twoSided}
 use Rattle.grammar.specs.Formulas.{rightLevel, tightOperator, good, after, enough}
-use Rattle.expressions.specs.bridge.Answers.{weight, formulaIn, climbOf, operandOf}
+use Rattle.skimming.specs.bridge.Remaining.{weight, formulaIn, climbOf, operandOf}
 use Rattle.grammar.specs.declared.tests.OperatorFound.{OperatorFound}
 use Rattle.grammar.specs.declared.tests.OperatorFound.the-variants.{Is, None}
-use Rattle.expressions.proofs.Weights.{operator-reads, after-lighter}
-use Rattle.expressions.proofs.Grammar.{formula-lightens, operand-lightens}
+use Rattle.skimming.proofs.Weights.{operator-reads, after-lighter}
+use Rattle.skimming.proofs.Grammar.{formula-lightens, operand-lightens}
 use Rattle.expressions.proofs.Views.{made, formula-view, climb-stops, climb-goes}
+use Rattle.expressions.specs.Types.{depthOf}
 use Rattle.variables.specs.Strings.{Room, Outcome, fault}
 use Rattle.variables.specs.Variables.{Variables}
 use Rattle.operators.specs.Values.{valueOf}
@@ -35,6 +36,7 @@ use Rattle.operators.proofs.Sides.{sides-agree, sides-refused}
 use Rattle.variables.proofs.Agreements.{framed-less}
 use Rattle.operators.proofs.Fitting.{Stands, sides-stand}
 use Rattle.formulas.proofs.Faults.{climb-fault}
+use Rattle.formulas.proofs.Nesting.{left-depth}
 use Rattle.variables.proofs.Looking.{looked-kept}
 
 -- ---- what follows weighs less
@@ -126,10 +128,11 @@ failed e space used (fault x room) h = record { left = room; is = rw h refl }
 -- ---- a left side as far as it is worked out
 
 -- a formula that reads begins with an operand that does
-pub formula-operand : (line : List ℕ) (level : ℕ) (t : Scanned) → Reads (formulaIn line level t) → OperandReads line t
-formula-operand line level t r =
+pub formula-operand : (room : ℕ) (line : List ℕ) (level : ℕ) (t : Scanned) → Reads room (formulaIn line level t) → OperandReads room line t
+formula-operand room line level t r =
     let v = formula-view line level t (r .is) in
-    record { level = level; reads = record { of = v .of; next = v .at; is = v .from } }
+    let d = left-depth line level (v .of) (v .at) (v .climbs) in
+    record { level = level; reads = record { of = v .of; next = v .at; is = v .from; shallow = omega (arith, r .shallow) } }
 
 module _ (line names words labels lengths : List ℕ) (level used : ℕ) where
   abbrev Done : Formula → Scanned → List ℕ → Worked → List ℕ → Type 0
@@ -250,8 +253,12 @@ module _ {line names words labels lengths : List ℕ} {level used w : ℕ} {f : 
         short = c .ready .short;
       }
 
-      pub right-asks : Ready line lengths now (used + n) × (Scans line first × Reads (formulaIn line k first))
-      right-asks = (right-ready, (record { from = next; is = b }, record { of = side-of .side; next = side-of .then; is = reads-there }))
+      pub right-asks : (room : ℕ) → depthOf f ≤ room → Ready line lengths now (used + n) × (Scans line first × Reads room (formulaIn line k first))
+      unfolding depthOf
+      right-asks room d =
+          let v = side-of in
+          let h = left-depth line level (twoSided op (c .of) (v .side)) (v .then) (v .climbs) in
+          (right-ready, (record { from = next; is = b }, record { of = v .side; next = v .then; is = reads-there; shallow = omega arith }))
 
       module _ (right : Worked) {end : List ℕ}
           (rights : (g : Formula) (v : Scanned) → formulaIn line k first ≡ good g v

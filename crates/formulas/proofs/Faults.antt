@@ -14,9 +14,9 @@ use Rattle.grammar.specs.Tests.{isSymbol}
 use Rattle.grammar.specs.Trees.{Formula, twoSided, call, Arguments, also}
 use Rattle.grammar.specs.Functions.{takes}
 use Rattle.grammar.specs.Formulas.{rightLevel, tightOperator, Reading, bad, good, mapped, after, countOf, called, enough, formulaAt, climbAt, argumentsAt}
-use Rattle.expressions.specs.bridge.Answers.{climbOf, argumentsOf}
+use Rattle.skimming.specs.bridge.Remaining.{climbOf, argumentsOf}
 use Rattle.grammar.specs.declared.wanting.Want.{Want}
-use Rattle.expressions.proofs.Grammar.{by-found}
+use Rattle.skimming.proofs.Grammar.{by-found}
 use Rattle.expressions.proofs.Views.{list-view}
 use Rattle.variables.specs.Strings.{Room, Outcome, fault}
 use Rattle.variables.specs.Variables.{Variables}

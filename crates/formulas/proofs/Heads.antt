@@ -1,8 +1,8 @@
 -- An operand, by its first token: what is made of what stands behind it.
 use mathlib.Core.Path.{_≡_, refl, sym, ap, _∙_}
-use mathlib.Core.Bool.{true}
+use mathlib.Core.Bool.{false}
 use mathlib.Core.List.{List, []}
-use Prim.Native.Nat.{ℕ, _+_, _≤_}
+use Prim.Native.Nat.{ℕ, zero, suc, _+_, _-_, _≤_}
 use native.Mathlib.Omega.{arith}
 use lib.ListN.{length}
 use Rattle.whole.specs.Whole.{negated, flipped}
@@ -19,15 +19,19 @@ use Rattle.words.specs.declared.symbols.Sign.the-variants.{Open, Minus}
 use Rattle.words.specs.declared.symbols.Token.the-variants as token
 use Rattle.scanner.specs.Tokens.{reads, tokenAt}
 use Rattle.scanner.proofs.Ends.{scanned-ends}
-use Rattle.grammar.specs.Trees.{Formula, number, variable, text, minus, complement, none}
+use Rattle.grammar.specs.Trees.{Formula, number, variable, text, minus, none}
 use Rattle.grammar.specs.Formulas.{notLevel, tightest, good, after, quotedBytes}
-use Rattle.expressions.specs.bridge.Answers.{weight, formulaIn, operandOf, argumentsOf}
+use Rattle.skimming.specs.bridge.Remaining.{weight, formulaIn, operandOf, argumentsOf}
 use Rattle.expressions.specs.declared.readers.FormulaRead.the-variants.{Bad}
-use Rattle.expressions.proofs.Weights.{weight-enough, symbol-reads, after-lighter}
+use Rattle.skimming.proofs.Weights.{weight-enough, symbol-reads, after-lighter}
 use Rattle.expressions.proofs.Answering.{not-read}
 use Rattle.expressions.proofs.Steps.{OperandMet}
-use Rattle.expressions.proofs.Fuel.{operand-is}
-use Rattle.expressions.proofs.Views.{opened-view, negated-view, complemented-view, call-view}
+use Rattle.skimming.proofs.Fuel.{operand-is}
+use Rattle.expressions.specs.Types.{depthOf}
+use Rattle.expressions.specs.bridge.Nots.{turned, notsOf}
+use Rattle.expressions.specs.declared.nots.Nots.{Nots}
+use Rattle.expressions.proofs.Chains.{nots, nots-depth, behind, behind-lighter, chain-operand, chained}
+use Rattle.expressions.proofs.Views.{made, opened-view, negated-view, complemented-view, call-view}
 use Rattle.variables.specs.Strings as strings
 use Rattle.variables.specs.Strings.{Room, Outcome, value, fault, make, letAllGo}
 use Rattle.variables.specs.Variables.{Variables}
@@ -35,21 +39,22 @@ use Rattle.strings.specs.Functions.{answered}
 use Rattle.operators.specs.Values.{wholeThen, variableValue, valueOf}
 use Rattle.variables.specs.bridge.Memory.{textLength, answeredAs, Looked, Agrees, GoesOn, Made, stringsIn}
 use Rattle.variables.specs.Tables.{namesIn, numbersIn}
-use Rattle.formulas.specs.bridge.Memory.{wholeAs, closedAs, Scans, Reads, OperandReads, Evaluated}
+use Rattle.formulas.specs.bridge.Memory.{wholeAs, flippedBy, closedAs, Scans, Reads, OperandReads, Evaluated}
 use Rattle.variables.specs.declared.values.Worked.{Worked}
 use Rattle.variables.specs.declared.values.Worked.the-variants as worked
 use Rattle.operators.proofs.Sides.{answer-gives}
 use Rattle.variables.proofs.Agreements.{framed-less}
 use Rattle.variables.proofs.Looking.{looked-self}
 use Rattle.formulas.proofs.Making.{number-made}
+use Rattle.formulas.proofs.Nesting.{argument-depth}
 
 -- ---- what does not read is no operand
 
-pub not-operand : (s : List ℕ) (level : ℕ) (t : Scanned) {P : Type 0} {f : Formula} {u : Scanned} → OperandMet s level t Bad
+pub not-operand : (s : List ℕ) (level : ℕ) (t : Scanned) {P : Type 0} {f : Formula} {u : Scanned} → OperandMet 9 s level t Bad
     → operandOf s level t ≡ good f u → P
 unfolding operandOf
 not-operand s level t m e =
-    let b = not-read (operandOf s level t) (m _ (omega (arith, weight-enough s t))) refl in
+    let b = not-read 9 (operandOf s level t) (m _ (omega (arith, weight-enough s t))) refl in
     never (cc)
 
 -- ---- a quoted text lies within its line
@@ -101,38 +106,34 @@ closed-goes line (worked.Whole w t) u e = rw e refl
 closed-goes line (worked.Text n t) u e = rw e refl
 closed-goes line (worked.Fault x) u e = tt
 
--- ---- what the calls begin with; `a` is the token after the first
+-- ---- what the calls begin with, where so many pairs may nest; `a` is the token after the first
 
 module _ (line : List ℕ) (level : ℕ) (t : Scanned) {f : Formula} {u : Scanned} (e : operandOf line level t ≡ good f u) {a : Scanned}
     (b : a ≡ after line t) where
   behind-scans : Scans line a
   behind-scans = record { from = t .next; is = b }
 
-  behind-lighter : reads (t .token) ≡ true → weight line a + 4 ≤ weight line t
-  behind-lighter r = rw b (after-lighter line t r)
-
   module _ {x : Sign} (i : t .token ≡ token.Symbol x) where
     pub sign-lighter : weight line a + 4 ≤ weight line t
-    sign-lighter = behind-lighter (rw i)
+    sign-lighter = rw b (after-lighter line t (rw i))
 
-    pub opened-asks : x ≡ Open → Scans line a × Reads (formulaIn line 0 a)
-    opened-asks j =
+    -- a pair does where one stands
+    pub opened-room : (room : ℕ) → depthOf f ≤ room → x ≡ Open → 1 ≤ room
+    unfolding depthOf
+    opened-room room d j = let v = opened-view line level t e (i ∙ ap token.Symbol j) in omega (arith, rw (v .is) at d)
+
+    pub opened-asks : (room : ℕ) → depthOf f ≤ room → x ≡ Open → Scans line a × Reads (room - 1) (formulaIn line 0 a)
+    unfolding depthOf
+    opened-asks room d j =
         let v = opened-view line level t e (i ∙ ap token.Symbol j) in
-        (behind-scans, record { of = v .of; next = v .at; is = ap (formulaIn line 0) b ∙ v .from })
+        (behind-scans, record { of = v .of; next = v .at; is = ap (formulaIn line 0) b ∙ v .from; shallow = omega (arith, rw (v .is) at d) })
 
-    pub negated-asks : x ≡ Minus → Scans line a × OperandReads line a
-    negated-asks j =
+    pub negated-asks : (room : ℕ) → depthOf f ≤ room → x ≡ Minus → Scans line a × OperandReads room line a
+    unfolding depthOf
+    negated-asks room d j =
         let m = negated-view line level t e (i ∙ ap token.Symbol j) .1 in
-        (behind-scans, record { level = tightest; reads = record { of = m .of; next = u; is = ap (operandOf line tightest) b ∙ m .from } })
-
-  module _ (i : t .token ≡ token.Not) where
-    pub not-lighter : weight line a + 4 ≤ weight line t
-    not-lighter = behind-lighter (rw i)
-
-    pub complemented-asks : Scans line a × Reads (formulaIn line notLevel a)
-    complemented-asks =
-        let m = complemented-view line level t e i .1 in
-        (behind-scans, record { of = m .of; next = u; is = ap (formulaIn line notLevel) b ∙ m .from })
+        let r : Reads room (operandOf line tightest a) = record { of = m .of; next = u; is = ap (operandOf line tightest) b ∙ m .from; shallow = rw (m .is) at d } in
+        (behind-scans, record { level = tightest; reads = r })
 
   -- after the parenthesis that opens
   module _ {g : Function} (i : t .token ≡ token.Call g) {first : Scanned} (d : first ≡ tokenAt line (a .next)) where
@@ -147,8 +148,54 @@ module _ (line : List ℕ) (level : ℕ) (t : Scanned) {f : Formula} {u : Scanne
         let h = ap (weight line) (d ∙ ap (after line) b) in
         omega (arith, after-lighter line t (rw i), after-lighter line (after line t) o)
 
-    pub call-asks : Scans line first × Reads (argumentsOf line g none (formulaIn line 0 first))
-    call-asks = (record { from = a .next; is = d }, record { of = f; next = u; is = call-is })
+    pub call-room : (room : ℕ) → depthOf f ≤ room → 1 ≤ room
+    call-room room h =
+        let v = call-view line level t e g i .1 in omega (arith, argument-depth line g none (v .of) (v .at) (v .lists))
+
+    pub call-asks : (room : ℕ) → depthOf f ≤ room → Scans line first × Reads (room - 1 + 1) (argumentsOf line g none (formulaIn line 0 first))
+    call-asks room h = (record { from = a .next; is = d }, record { of = f; next = u; is = call-is; shallow = omega arith })
+
+-- ---- a chain of NOT, passed over
+
+module _ (line : List ℕ) (level : ℕ) (t : Scanned) {f : Formula} {u : Scanned} (e : operandOf line level t ≡ good f u) (i : t .token ≡ token.Not)
+    {x : Nots} (p : x ≡ notsOf line t) where
+  pub chain-lighter : weight line (x .ahead) + 4 ≤ weight line t
+  chain-lighter = rw p (behind-lighter line t i)
+
+  -- so many of them, and the formula behind
+  record Fronts : Type 0 where
+    more : ℕ
+    of : Formula
+    is : f ≡ nots (suc more) of
+    from : formulaIn line notLevel (x .ahead) ≡ good of u
+    parity : x .odd ≡ turned (suc more) false
+
+  fronts : Fronts
+  fronts =
+      let c = chained line t i in
+      let k = complemented-view line level t e i .0 in
+      let m = made (nots (suc (c .more))) (formulaIn line notLevel (notsOf line t .ahead)) (sym (chain-operand line level t i k ∙ c .reads) ∙ e) in
+      record { more = c .more; of = m .of; is = m .is; from = rw p (m .from); parity = rw p (c .parity) }
+
+  pub chain-asks : Scans line t → (room : ℕ) → depthOf f ≤ room → Scans line (x .ahead) × Reads room (formulaIn line notLevel (x .ahead))
+  chain-asks s room d =
+      let m = fronts in
+      let h = rw (m .is, nots-depth (suc (m .more)) (m .of)) at d in
+      (rw p (behind line (Scans line) (λ at. record { from = at; is = refl }) t s), record { of = m .of; next = u; is = m .from; shallow = h })
+
+-- what the word of a formula comes to behind so many of them
+whole-then : (h : ℕ → ℕ) (o : Outcome) → wholeThen (wholeThen o (λ w after. answered (Whole (h w)) [] after)) (λ w after. value (strings.whole (flipped w)) after)
+    ≡ wholeThen o (λ w after. answered (Whole (flipped (h w))) [] after)
+unfolding letAllGo
+whole-then h (value (strings.whole w) room) = refl
+whole-then h (value (strings.text b) room) = refl
+whole-then h (fault e room) = refl
+
+chain-worth : (n : ℕ) (g : Formula) (vars : Variables) (room : Room)
+    → valueOf (nots (suc n) g) vars room ≡ wholeThen (valueOf g vars room) (λ w after. answered (Whole (flippedBy (suc n) w)) [] after)
+unfolding valueOf letAllGo nots flippedBy
+chain-worth zero g vars room = refl
+chain-worth (suc n) g vars room = rw (chain-worth n g vars room) (whole-then (flippedBy (suc n)) (valueOf g vars room))
 
 -- ---- what comes of each token
 
@@ -213,14 +260,15 @@ module _ (line : List ℕ) (level : ℕ) (t : Scanned) {f : Formula} {u : Scanne
         goes = fronted-goes op r u now (d .goes);
       }
 
-      pub complemented-done : t .token ≡ token.Not
-          → ((g : Formula) (v : Scanned) → formulaIn line notLevel a ≡ good g v → Evaluated names words labels lengths g v before used r now)
-          → Evaluated names words labels lengths f u before used (wholeAs r (λ w t. worked.Whole (flipped w) t)) now
-      unfolding valueOf letAllGo
-      complemented-done i h =
-          let m = complemented-view line level t e i .1 in
-          fronted-done (λ w. Whole (flipped w)) complement (m .of) (m .is) (λ vars room. refl)
-          (h (m .of) u (ap (formulaIn line notLevel) b ∙ m .from))
+      pub complemented-done : (i : t .token ≡ token.Not) {x : Nots} → x ≡ notsOf line t
+          → ((g : Formula) (v : Scanned) → formulaIn line notLevel (x .ahead) ≡ good g v → Evaluated names words labels lengths g v before used r now)
+          → {q : Worked} → ((n : ℕ) → x .odd ≡ turned n false → q ≡ wholeAs r (λ w t. worked.Whole (flippedBy n w) t))
+          → Evaluated names words labels lengths f u before used q now
+      complemented-done i p h turns =
+          let m = fronts line level t e i p in
+          let n = suc (m .more) in
+          rw (turns n (m .parity))
+          (fronted-done (λ w. Whole (flippedBy n w)) (nots n) (m .of) (m .is) (λ vars room. chain-worth (m .more) (m .of) vars room) (h (m .of) u (m .from)))
 
       module _ {x : Sign} (i : t .token ≡ token.Symbol x) where
         -- in parentheses

@@ -1,9 +1,11 @@
-pub mod Wants
-pub mod Faults
-pub mod Making
-pub mod Thirds
 pub mod Climbing
+pub mod Faults
 pub mod Growing
-pub mod Taking
-pub mod Listing
 pub mod Heads
+pub mod Listing
+pub mod Making
+pub mod Nesting
+pub mod Taking
+pub mod Thirds
+pub mod Turning
+pub mod Wants

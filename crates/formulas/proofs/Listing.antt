@@ -19,11 +19,12 @@ use Rattle.grammar.specs.Trees.{Formula, call, Arguments, none, also}
 use Rattle.grammar.specs.Functions.{takes, wants}
 use Rattle.grammar.specs.Formulas as formulas
 use Rattle.grammar.specs.Formulas.{good}
-use Rattle.expressions.specs.bridge.Answers.{weight, formulaIn, argumentsOf}
+use Rattle.skimming.specs.bridge.Remaining.{weight, formulaIn, argumentsOf}
 use Rattle.grammar.specs.declared.wanting.Want.{Want}
+use Rattle.expressions.specs.Types.{depthOf}
 use Rattle.expressions.proofs.Sorting.{few}
-use Rattle.expressions.proofs.Weights.{symbol-reads, after-lighter}
-use Rattle.expressions.proofs.Fuel.{arguments-unrolled}
+use Rattle.skimming.proofs.Weights.{symbol-reads, after-lighter}
+use Rattle.skimming.proofs.Fuel.{arguments-unrolled}
 use Rattle.expressions.proofs.Views.{Listed, list-view, list-ends}
 use Rattle.variables.specs.Strings.{Room}
 use Rattle.variables.specs.Variables.{Variables}
@@ -45,6 +46,7 @@ use Rattle.formulas.proofs.Growing.{values-kept, more-count, more-lengt
 use Rattle.variables.proofs.Looking.{looked-kept}
 use Rattle.formulas.proofs.Taking.{want-told, argumentOf, worth, Taking, taken-fault, taken-all, taken-more, refused, met-next}
 use Rattle.formulas.proofs.Climbing.{formula-less}
+use Rattle.formulas.proofs.Nesting.{argument-depth}
 
 -- ---- the arguments so far
 
@@ -78,7 +80,7 @@ module _ (line names words labels lengths : List ℕ) (function : Function) (thr
   pub listing-begins : (t : Scanned) (f : Formula) (u : Scanned) (space : List ℕ)
       → argumentsOf line function none (formulaIn line 0 t) ≡ good f u
       → Scans line t → Ready line lengths space used
-      → ((a : Arguments) (v : Scanned) → argumentsOf line Instr none (formulaIn line 0 t) ≡ good (call Instr a) v
+      → ((a : Arguments) (v : Scanned) → function ≡ Instr → argumentsOf line Instr none (formulaIn line 0 t) ≡ good (call Instr a) v
       → three ≡ eqb (formulas.countOf a) 3)
       → Listing (weight line t) f u space given.None t space
   unfolding valueOf formulas.countOf
@@ -87,7 +89,7 @@ module _ (line names words labels lengths : List ℕ) (function : Function) (thr
       let k = arguments-call line function none x e in
       let b = k .b in
       let told : function ≡ Instr → three ≡ eqb (formulas.countOf b) 3 =
-      λ i. third b u (ap (λ g. argumentsOf line g none x) (sym i) ∙ e ∙ ap (λ g. good g u) (k .is ∙ ap (λ g. call g b) i)) in
+      λ i. third b u i (ap (λ g. argumentsOf line g none x) (sym i) ∙ e ∙ ap (λ g. good g u) (k .is ∙ ap (λ g. call g b) i)) in
       record {
         ready = r;
         so-far = none;
@@ -136,8 +138,11 @@ module _ {line names words labels lengths : List ℕ} {function : Function} {thr
       short = c .ready .short;
     }
 
-    pub next-asks : Ready line lengths now (used + n) × (Scans line here × Reads (formulaIn line 0 here))
-    next-asks = (next-ready, (c .scans, record { of = here-view .of; next = here-view .at; is = here-view .from }))
+    pub next-asks : (room : ℕ) → depthOf f ≤ room + 1 → Ready line lengths now (used + n) × (Scans line here × Reads room (formulaIn line 0 here))
+    next-asks room d =
+        let v = here-view in
+        let h = argument-depth line function (c .so-far) (v .of) (v .at) (v .lists) in
+        (next-ready, (c .scans, record { of = v .of; next = v .at; is = v .from; shallow = omega arith }))
 
   module _ {n : ℕ} (len : n ≡ givenLength has) (r : Worked) {next : List ℕ}
       (h : (g : Formula) (v : Scanned) → formulaIn line 0 here ≡ good g v

@@ -1,11 +1,10 @@
 -- Operands that are made: numbers, and strings that are copied to where the live bytes end.
 use mathlib.Core.Path.{_≡_, refl, sym, _∙_}
 use mathlib.Core.List.{List, []}
-use mathlib.Core.Logic.{_⊎_, ⊎-elim}
+use mathlib.Core.Logic.{_⊎_}
 use Prim.Native.Nat.{ℕ, _+_, _≤_, _<_, min}
 use native.Mathlib.Omega.{arith}
 use lib.ListN.{length, take, drop, getD}
-use denote.Enum.Declared
 use Rattle.whole.specs.declared.errors.Error.the-variants.{OutOfStringSpace}
 use Rattle.whole.specs.Texts.{longestString}
 use Rattle.space.specs.Moves.{copied, moved}
@@ -13,14 +12,14 @@ use Rattle.space.proofs.Frames.{copied-bytes, moved-bytes}
 use Rattle.space.proofs.Kept.{Kept, copied-kept, moved-kept}
 use Rattle.words.specs.declared.symbols.Scanned.{Scanned}
 use Rattle.variables.specs.Strings.{value, whole, make}
-use Rattle.variables.specs.bridge.Memory.{bytesAt, Made}
+use Rattle.variables.specs.bridge.Memory.{bytesAt, mismatchOf, Made}
 use Rattle.variables.specs.Tables.{sumOf}
-use Rattle.formulas.specs.bridge.Memory.{wholeAs, notWhole}
+use Rattle.formulas.specs.bridge.Memory.{wholeAs}
 use Rattle.variables.specs.declared.tables.Slot.the-variants as slot
 use Rattle.variables.specs.declared.values.Worked.{Worked}
 use Rattle.variables.specs.declared.values.Worked.the-variants as worked
 use Rattle.variables.proofs.Bytewise.{part-length}
-use Rattle.variables.proofs.Agreements.{make-agrees, make-refused}
+use Rattle.variables.proofs.Agreements.{make-agrees, make-refused, workedTag, no-whole}
 use Rattle.variables.proofs.Lookups.{sum-within}
 use Rattle.variables.specs.Variables.{mostVariables}
 
@@ -91,11 +90,6 @@ module _ (lengths before : List ℕ) (used : ℕ) (t : Scanned) (i : ℕ) {len :
 
 -- ---- where a whole number is wanted
 
-abbrev tagged : Worked → ℕ
-tagged x = denote.Enum.Declared.tagOf Rattle.variables.proofs.values.Worked.the-type x
-
--- an answer that is none, as the code tells it
-pub no-whole : (x : Worked) (go : ℕ → Scanned → Worked) → (tagged x ≡ 1) ⊎ (tagged x ≡ 2) → notWhole x ≡ wholeAs x go
-no-whole (worked.Whole w t) go k = absurd (⊎-elim (λ e. omega arith) (λ e. omega arith) k)
-no-whole (worked.Text n t) go k = refl
-no-whole (worked.Fault e) go k = refl
+-- an answer that is none
+pub refused-whole : (go : ℕ → Scanned → Worked) (x : Worked) → (workedTag x ≡ 1) ⊎ (workedTag x ≡ 2) → worked.Fault (mismatchOf x) ≡ wholeAs x go
+refused-whole go = no-whole (λ x. worked.Fault (mismatchOf x) ≡ wholeAs x go) (λ e. refl) (λ n t. refl)

@@ -105,7 +105,7 @@ module _ (function : Function) (three : Bool) (had : Given) where
 
   met-by : (r : Worked) (at : Scanned) → Fine r → textLength r ≡ argumentLength (argumentOf r)
       → (meetsWant Wanted (argumentOf r) ≡ false → Refusal r TypeMismatch)
-      → Met r at (takenBefore function three had (argumentOf r) at)
+      → Met r at (takenBefore Wanted had (argumentOf r) at)
   met-by r at f l refuse =
       by-test (meetsWant Wanted (argumentOf r))
       (λ m. rw m

@@ -13,10 +13,10 @@ use Rattle.grammar.specs.Tests.{isSymbol}
 use Rattle.grammar.specs.Trees.{Formula, call, Arguments, none, also}
 use Rattle.grammar.specs.Functions.{anyFor, takes}
 use Rattle.grammar.specs.Formulas.{good, after, countOf, formulaOf}
-use Rattle.expressions.specs.bridge.Answers.{formulaIn, argumentsOf, answerOf}
-use Rattle.expressions.specs.declared.readers.FormulaRead.the-variants as formula
-use Rattle.expressions.specs.declared.sorts.Sort.{Sort}
-use Rattle.expressions.proofs.Fuel.{formula-level}
+use Rattle.skimming.specs.bridge.Remaining.{formulaIn, argumentsOf}
+use Rattle.skimming.specs.bridge.Flat.{skimmedOf}
+use Rattle.skimming.specs.declared.skims.Skimmed.the-variants.{Bad, Good}
+use Rattle.skimming.proofs.Fuel.{formula-level}
 use Rattle.expressions.proofs.Views.{list-view, list-goes, list-ends}
 use Rattle.formulas.proofs.Faults.{arguments-call}
 use Rattle.formulas.proofs.Wants.{if-either}
@@ -74,22 +74,21 @@ module _ (s : List ℕ) (t : Scanned) {a : Arguments} {u : Scanned} (e : argumen
       (λ c. absurd (not-one (list-ends s Instr none (l .of) (l .at) c (l .lists) .applied .takes-them)))
 
   -- so both read
-  pub first-reads : formula.Bad ≡ answerOf (formulaOf s t) → ⊥
+  pub first-reads : Bad ≡ skimmedOf (formulaOf s t) → ⊥
   first-reads h =
       let p = parted in let f = rw (formula-level s t, p .first) at h in never (cc)
 
-  module _ {comma : Scanned} {k : Sort} {d : ℕ} (h : formula.Good comma k d ≡ answerOf (formulaOf s t)) where
+  module _ {comma : Scanned} (h : Good comma ≡ skimmedOf (formulaOf s t)) where
     comma-is : comma ≡ parted .comma
     comma-is = let p = parted in let f = rw (formula-level s t, p .first) at h in cc
 
-    second-is : answerOf (formulaOf s (after s comma)) ≡ answerOf (good (parted .two) (parted .follow))
-    second-is = ap answerOf (formula-level s (after s comma) ∙ ap (λ v. formulaIn s 0 (after s v)) comma-is ∙ parted .second)
+    second-is : skimmedOf (formulaOf s (after s comma)) ≡ Good (parted .follow)
+    second-is = ap skimmedOf (formula-level s (after s comma) ∙ ap (λ v. formulaIn s 0 (after s v)) comma-is ∙ parted .second)
 
-    pub second-reads : formula.Bad ≡ answerOf (formulaOf s (after s comma)) → ⊥
+    pub second-reads : Bad ≡ skimmedOf (formulaOf s (after s comma)) → ⊥
     second-reads g = let f = g ∙ second-is in never (cc)
 
     -- and what follows the second tells
-    pub third-told : {follow : Scanned} {j : Sort} {c : ℕ} → formula.Good follow j c ≡ answerOf (formulaOf s (after s comma))
-        → isSymbol Comma (follow .token) ≡ eqb (countOf a) 3
+    pub third-told : {follow : Scanned} → Good follow ≡ skimmedOf (formulaOf s (after s comma)) → isSymbol Comma (follow .token) ≡ eqb (countOf a) 3
     third-told {follow} g =
         let f = g ∙ second-is in let i : follow ≡ parted .follow = cc in rw i (parted .third)

@@ -1,11 +1,12 @@
 // The evaluators of formulas, operands and argument lists, which call each other in a cycle over a line that reads: at each call the
-// bytes that remain are fewer. Each takes the token that it begins with and hands on the one that follows. `names` and `words` are
-// the number variables, `labels` and `lengths` the string variables.
+// bytes that remain are fewer, and inside each pair of parentheses the pairs that may still nest. Each takes the token that it begins
+// with and hands on the one that follows. `names` and `words` are the number variables, `labels` and `lengths` the string variables.
 ghost use mathlib.Core.Path.{_≡_};
-ghost use Prim.Native.Nat.{ℕ};
+ghost use Prim.Native.Nat.{ℕ, _+_};
 ghost use Rattle.grammar.specs.Trees.{Formula, none, Arguments, call};
 ghost use Rattle.grammar.specs.Formulas.{good, formulaOf};
-ghost use Rattle.expressions.specs.bridge.Answers.{formulaIn, operandOf, argumentsOf};
+ghost use Rattle.expressions.specs.Types.{deepestNesting};
+ghost use Rattle.skimming.specs.bridge.Remaining.{formulaIn, operandOf, argumentsOf};
 ghost use Rattle.formulas.specs.bridge.Memory.{Scans, Reads, OperandReads, Ready, Evaluated};
 ghost use lib.Dec.{eqb};
 ghost use Rattle.words.specs.declared.symbols.Function.the-variants.{Instr};
@@ -16,7 +17,7 @@ use crate::operands::named;
 use crate::operands::negated;
 use crate::operands::quoted;
 use expressions::FormulaRead;
-use expressions::formula_at;
+use expressions::past_nots;
 use functions::Taken;
 use functions::called;
 use functions::take_argument;
@@ -28,6 +29,8 @@ use operators::Turn;
 use operators::joined;
 use operators::turn_of;
 use scanner::token_at;
+use skimming::Skimmed;
+use skimming::skim;
 use strings::Given;
 use strings::given_length;
 use variables::Tables;
@@ -44,6 +47,7 @@ fn formula(
     line: &[u8],
     ahead: Scanned,
     level: u8,
+    room: u8,
     names: &[u8; 128],
     words: &[u16; Tables::MOST],
     labels: &[u8; 128],
@@ -51,13 +55,23 @@ fn formula(
     space: &mut [u8],
     used: usize,
 ) -> Worked
-    requires { ⌜ Ready (now line) (now lengths) (now space) used × (Scans (now line) ahead × Reads (formulaIn (now line) level ahead)) ⌝ }
+    requires { ⌜ Ready (now line) (now lengths) (now space) used × (Scans (now line) ahead × Reads room (formulaIn (now line) level ahead)) ⌝ }
     ensures { λ r. ⌜
         ((f : Formula) (u : Scanned) → formulaIn (now (line .entry)) level ahead ≡ good f u
         → Evaluated (now (names .entry)) (now (words .entry)) (now (labels .entry)) (now (lengths .entry)) f u (now (space .entry)) used r (now (space .exit)))
         ⌝ }
 {
-    let mut left = operand(line, ahead, names, words, labels, lengths, space, used);
+    let mut left = operand(
+        line,
+        ahead,
+        room,
+        names,
+        words,
+        labels,
+        lengths,
+        space,
+        used,
+    );
     loop {
         match turn_of(level, left) {
             Turn::Ends => return left,
@@ -68,6 +82,7 @@ fn formula(
                     line,
                     first,
                     right_level(operator),
+                    room,
                     names,
                     words,
                     labels,
@@ -85,6 +100,7 @@ fn formula(
 fn operand(
     line: &[u8],
     ahead: Scanned,
+    room: u8,
     names: &[u8; 128],
     words: &[u16; Tables::MOST],
     labels: &[u8; 128],
@@ -92,7 +108,7 @@ fn operand(
     space: &mut [u8],
     used: usize,
 ) -> Worked
-    requires { ⌜ Ready (now line) (now lengths) (now space) used × (Scans (now line) ahead × OperandReads (now line) ahead) ⌝ }
+    requires { ⌜ Ready (now line) (now lengths) (now space) used × (Scans (now line) ahead × OperandReads room (now line) ahead) ⌝ }
     ensures { λ r. ⌜
         ((level : ℕ) (f : Formula) (u : Scanned) → operandOf (now (line .entry)) level ahead ≡ good f u
         → Evaluated (now (names .entry)) (now (words .entry)) (now (labels .entry)) (now (lengths .entry)) f u (now (space .entry)) used r (now (space .exit)))
@@ -123,6 +139,7 @@ fn operand(
                     line,
                     after,
                     LOOSEST,
+                    room - 1,
                     names,
                     words,
                     labels,
@@ -134,6 +151,7 @@ fn operand(
             Sign::Minus => negated(operand(
                 line,
                 after,
+                room,
                 names,
                 words,
                 labels,
@@ -143,17 +161,23 @@ fn operand(
             )),
             _ => Worked::Fault(Error::Syntax),
         },
-        Token::Not => complemented(formula(
-            line,
-            after,
-            NOT_LEVEL,
-            names,
-            words,
-            labels,
-            lengths,
-            space,
-            used,
-        )),
+        Token::Not => {
+            let nots = past_nots(line, ahead);
+            let behind = nots.ahead;
+            let worked = formula(
+                line,
+                behind,
+                NOT_LEVEL,
+                room,
+                names,
+                words,
+                labels,
+                lengths,
+                space,
+                used,
+            );
+            complemented(worked, nots.odd)
+        }
         Token::Call(function) => {
             let next = after.next;
             let first = token_at(line, next);
@@ -161,6 +185,7 @@ fn operand(
                 line,
                 first,
                 function,
+                room - 1,
                 names,
                 words,
                 labels,
@@ -180,25 +205,29 @@ fn has_third(line: &[u8], ahead: Scanned) -> bool
         → r ≡ eqb (formulas.countOf a) 3)
         ⌝ }
 {
-    let FormulaRead::Good {
-        ahead: comma,
-        sort: _,
-        deepest: _,
-    } = formula_at(line, ahead)
-    else {
+    let Skimmed::Good { ahead: comma } = skim(line, ahead) else {
         return false;
     };
     let second = token_at(line, comma.next);
-    let FormulaRead::Good {
-        ahead: follow,
-        sort: _,
-        deepest: _,
-    } = formula_at(line, second)
-    else {
+    let Skimmed::Good { ahead: follow } = skim(line, second) else {
         return false;
     };
     let token = follow.token;
     is_symbol(Sign::Comma, token)
+}
+
+// INSTR alone wants of its first argument what goes by how many there are.
+fn is_of_three(line: &[u8], ahead: Scanned, function: Function) -> bool
+    ensures { λ r. ⌜
+        ((a : Arguments) (u : Scanned) → function ≡ Instr
+        → argumentsOf (now (line .entry)) Instr none (formulaIn (now (line .entry)) 0 ahead) ≡ good (call Instr a) u
+        → r ≡ eqb (formulas.countOf a) 3)
+        ⌝ }
+{
+    match function {
+        Function::Instr => has_third(line, ahead),
+        _ => false,
+    }
 }
 
 // A function from its first argument on: each is tested as soon as it is worked out.
@@ -206,6 +235,7 @@ fn arguments(
     line: &[u8],
     ahead: Scanned,
     function: Function,
+    room: u8,
     names: &[u8; 128],
     words: &[u16; Tables::MOST],
     labels: &[u8; 128],
@@ -213,13 +243,13 @@ fn arguments(
     space: &mut [u8],
     used: usize,
 ) -> Worked
-    requires { ⌜ Ready (now line) (now lengths) (now space) used × (Scans (now line) ahead × Reads (argumentsOf (now line) function none (formulaIn (now line) 0 ahead))) ⌝ }
+    requires { ⌜ Ready (now line) (now lengths) (now space) used × (Scans (now line) ahead × Reads (room + 1) (argumentsOf (now line) function none (formulaIn (now line) 0 ahead))) ⌝ }
     ensures { λ r. ⌜
         ((f : Formula) (u : Scanned) → argumentsOf (now (line .entry)) function none (formulaIn (now (line .entry)) 0 ahead) ≡ good f u
         → Evaluated (now (names .entry)) (now (words .entry)) (now (labels .entry)) (now (lengths .entry)) f u (now (space .entry)) used r (now (space .exit)))
         ⌝ }
 {
-    let three = has_third(line, ahead);
+    let three = is_of_three(line, ahead, function);
     let mut given = Given::None;
     let mut here = ahead;
     loop {
@@ -227,6 +257,7 @@ fn arguments(
             line,
             here,
             LOOSEST,
+            room,
             names,
             words,
             labels,
@@ -259,7 +290,7 @@ pub fn work_out(
     space: &mut [u8],
     used: usize,
 ) -> Worked
-    requires { ⌜ Ready (now line) (now lengths) (now space) used × (Scans (now line) ahead × Reads (formulaOf (now line) ahead)) ⌝ }
+    requires { ⌜ Ready (now line) (now lengths) (now space) used × (Scans (now line) ahead × Reads deepestNesting (formulaOf (now line) ahead)) ⌝ }
     ensures { λ r. ⌜
         ((f : Formula) (u : Scanned) → formulaOf (now (line .entry)) ahead ≡ good f u
         → Evaluated (now (names .entry)) (now (words .entry)) (now (labels .entry)) (now (lengths .entry)) f u (now (space .entry)) used r (now (space .exit)))
@@ -269,6 +300,7 @@ pub fn work_out(
         line,
         ahead,
         LOOSEST,
+        FormulaRead::DEEPEST,
         names,
         words,
         labels,

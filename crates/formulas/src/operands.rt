@@ -1,17 +1,19 @@
 // Operands that are no formulas of their own, and what is made of those that are.
 ghost use mathlib.Core.Path.{_≡_};
-ghost use Prim.Native.Nat.{_+_, _≤_};
+ghost use mathlib.Core.Bool.{false};
+ghost use Prim.Native.Nat.{ℕ, _+_, _≤_};
 ghost use lib.ListN.{length};
-ghost use Rattle.whole.specs.Whole.{negated, flipped};
+ghost use Rattle.whole.specs.Whole.{negated};
 ghost use Rattle.words.specs.Names.{nameBytes, tellingOf};
 ghost use Rattle.words.specs.Places.{longestLine};
 ghost use Rattle.grammar.specs.Formulas.{quotedBytes};
+ghost use Rattle.expressions.specs.bridge.Nots.{turned};
 ghost use Rattle.variables.specs.Strings.{make};
 ghost use Rattle.variables.specs.Variables.{Variables, mostVariables};
 ghost use Rattle.operators.specs.Values.{variableValue};
 ghost use Rattle.variables.specs.bridge.Memory.{wordAt, bytesAt, SlotBelow, answeredAs, Looked, Made};
 ghost use Rattle.variables.specs.Tables.{sumOf};
-ghost use Rattle.formulas.specs.bridge.Memory.{wholeAs, notWhole, closedAs, Ready};
+ghost use Rattle.formulas.specs.bridge.Memory.{wholeAs, flippedBy, closedAs, Ready};
 ghost use Rattle.variables.specs.declared.values.Worked.the-variants as worked;
 use scanner::token_at;
 use space::Offset;
@@ -22,6 +24,7 @@ use variables::Tables;
 use variables::Worked;
 use variables::answered;
 use variables::has_room;
+use variables::mismatch;
 use variables::offset_of;
 use variables::slot_of;
 use variables::wide;
@@ -128,33 +131,29 @@ pub(crate) fn closed(line: &[u8], worked: Worked) -> Worked
     }
 }
 
-// Where a whole number is wanted, an error stands and a text is 13.
-fn not_whole(worked: Worked) -> Worked
-    ensures { λ r. ⌜ r ≡ notWhole worked ⌝ }
-{
-    match worked {
-        Worked::Fault(error) => Worked::Fault(error),
-        Worked::Whole(_, _) => worked,
-        Worked::Text(_, _) => Worked::Fault(Error::TypeMismatch),
-    }
-}
-
 // The minus sign before an operand.
 pub(crate) fn negated(operand: Worked) -> Worked
     ensures { λ r. ⌜ r ≡ wholeAs operand (λ w t. answeredAs (negated w) t) ⌝ }
 {
     let Worked::Whole(word, ahead) = operand else {
-        return not_whole(operand);
+        return Worked::Fault(mismatch(operand));
     };
     answered(negative(word), ahead)
 }
 
-// NOT before a formula.
-pub(crate) fn complemented(formula: Worked) -> Worked
-    ensures { λ r. ⌜ r ≡ wholeAs formula (λ w t. worked.Whole (flipped w) t) ⌝ }
+// NOT so many times on the 16 bits: twice is nothing.
+fn turned(word: u16, odd: bool) -> u16
+    ensures { λ r. ⌜ ((n : ℕ) → odd ≡ turned n false → r ≡ flippedBy n word) ⌝ }
+{
+    if odd { complement(word) } else { word }
+}
+
+// A chain of NOT before a formula.
+pub(crate) fn complemented(formula: Worked, odd: bool) -> Worked
+    ensures { λ r. ⌜ ((n : ℕ) → odd ≡ turned n false → r ≡ wholeAs formula (λ w t. worked.Whole (flippedBy n w) t)) ⌝ }
 {
     let Worked::Whole(word, ahead) = formula else {
-        return not_whole(formula);
+        return Worked::Fault(mismatch(formula));
     };
-    Worked::Whole(complement(word), ahead)
+    Worked::Whole(turned(word, odd), ahead)
 }

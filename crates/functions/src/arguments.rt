@@ -1,11 +1,13 @@
 // The arguments of a function, taken one by one as they are worked out.
 ghost use mathlib.Core.Path.{_≡_};
-ghost use Rattle.functions.specs.bridge.Memory.{countOf, withArgument, wantBy, meetsWant, takenBefore, takenAs};
+ghost use Rattle.functions.specs.bridge.Memory.{countOf, withArgument, wantBy, goneOn, takenWanted, takenAs};
+ghost use Rattle.grammar.specs.declared.wanting.Want.the-variants as want;
 use grammar::Want;
 use grammar::is_symbol;
 use strings::Argument;
 use strings::Given;
 use variables::Worked;
+use variables::mismatch;
 use whole::Error;
 use words::Function;
 use words::Place;
@@ -43,23 +45,6 @@ fn with_argument(given: Given, argument: Argument) -> Given
     }
 }
 
-// Whether it is of the type that is wanted.
-fn meets(want: Want, argument: Argument) -> bool
-    ensures { λ r. ⌜ r ≡ meetsWant want argument ⌝ }
-{
-    match want {
-        Want::Either => true,
-        Want::Whole => match argument {
-            Argument::Whole(_) => true,
-            Argument::Text(_) => false,
-        },
-        Want::Text => match argument {
-            Argument::Whole(_) => false,
-            Argument::Text(_) => true,
-        },
-    }
-}
-
 // What a function wants of the argument at a place, from 0; of INSTR it goes by whether there are three.
 fn want_of(function: Function, three: bool, place: usize) -> Want
     ensures { λ r. ⌜ r ≡ wantBy function three place ⌝ }
@@ -88,41 +73,10 @@ fn want_of(function: Function, three: bool, place: usize) -> Want
     }
 }
 
-// An argument is tested as soon as it is worked out.
-pub fn take_argument(function: Function, three: bool, given: Given, worked: Worked) -> Taken
-    ensures { λ r. ⌜ r ≡ takenAs function three given worked ⌝ }
+// An argument goes beside the others; a comma goes on to one more.
+fn gone_on(given: Given, argument: Argument, ahead: Scanned) -> Taken
+    ensures { λ r. ⌜ r ≡ goneOn given argument ahead ⌝ }
 {
-    match worked {
-        Worked::Fault(error) => Taken::Fault(error),
-        Worked::Whole(word, ahead) => taken_before(
-            function,
-            three,
-            given,
-            Argument::Whole(word),
-            ahead,
-        ),
-        Worked::Text(len, ahead) => taken_before(
-            function,
-            three,
-            given,
-            Argument::Text(len),
-            ahead,
-        ),
-    }
-}
-
-fn taken_before(
-    function: Function,
-    three: bool,
-    given: Given,
-    argument: Argument,
-    ahead: Scanned,
-) -> Taken
-    ensures { λ r. ⌜ r ≡ takenBefore function three given argument ahead ⌝ }
-{
-    if !meets(want_of(function, three, count_of(given)), argument) {
-        return Taken::Fault(Error::TypeMismatch);
-    }
     let all = with_argument(given, argument);
     let token = ahead.token;
     let next = ahead.next;
@@ -130,5 +84,47 @@ fn taken_before(
         Taken::More(all, next)
     } else {
         Taken::All(all, next)
+    }
+}
+
+// Where a whole number is wanted.
+fn take_whole(given: Given, worked: Worked) -> Taken
+    ensures { λ r. ⌜ r ≡ takenWanted want.Whole given worked ⌝ }
+{
+    let Worked::Whole(word, ahead) = worked else {
+        return Taken::Fault(mismatch(worked));
+    };
+    gone_on(given, Argument::Whole(word), ahead)
+}
+
+// Where a text is wanted.
+fn take_text(given: Given, worked: Worked) -> Taken
+    ensures { λ r. ⌜ r ≡ takenWanted want.Text given worked ⌝ }
+{
+    let Worked::Text(len, ahead) = worked else {
+        return Taken::Fault(mismatch(worked));
+    };
+    gone_on(given, Argument::Text(len), ahead)
+}
+
+// Where either does.
+fn take_either(given: Given, worked: Worked) -> Taken
+    ensures { λ r. ⌜ r ≡ takenWanted want.Either given worked ⌝ }
+{
+    match worked {
+        Worked::Whole(word, ahead) => gone_on(given, Argument::Whole(word), ahead),
+        Worked::Text(len, ahead) => gone_on(given, Argument::Text(len), ahead),
+        Worked::Fault(error) => Taken::Fault(error),
+    }
+}
+
+// An argument is tested as soon as it is worked out.
+pub fn take_argument(function: Function, three: bool, given: Given, worked: Worked) -> Taken
+    ensures { λ r. ⌜ r ≡ takenAs function three given worked ⌝ }
+{
+    match want_of(function, three, count_of(given)) {
+        Want::Whole => take_whole(given, worked),
+        Want::Text => take_text(given, worked),
+        Want::Either => take_either(given, worked),
     }
 }

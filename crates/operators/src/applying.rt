@@ -13,6 +13,7 @@ use grammar::tight_operator;
 use variables::Worked;
 use variables::answered;
 use variables::has_room;
+use variables::mismatch;
 use whole::Answer;
 use whole::Error;
 use whole::Operator;
@@ -180,11 +181,10 @@ fn on_texts(
 pub(crate) fn takes_left(operator: Operator, left: Worked) -> bool
     ensures { λ r. ⌜ r ≡ takesLeft operator left ⌝ }
 {
-    match left {
-        Worked::Whole(_, _) => true,
-        Worked::Text(_, _) => !wants_whole(operator),
-        Worked::Fault(_) => true,
-    }
+    let Worked::Text(_, _) = left else {
+        return true;
+    };
+    !wants_whole(operator)
 }
 
 // An error ends a formula, and so does whatever is no operator of its level or a tighter one.
@@ -217,11 +217,10 @@ fn turn_before(level: u8, left: Worked, ahead: Scanned) -> Turn
 fn beside_whole(operator: Operator, a: u16, right: Worked) -> Worked
     ensures { λ r. ⌜ ((space : List ℕ) (used : ℕ) → RightMet operator (whole a) used right space used r) ⌝ }
 {
-    match right {
-        Worked::Fault(_) => right,
-        Worked::Whole(b, ahead) => answered(apply(operator, a, b), ahead),
-        Worked::Text(_, _) => Worked::Fault(Error::TypeMismatch),
-    }
+    let Worked::Whole(b, ahead) = right else {
+        return Worked::Fault(mismatch(right));
+    };
+    answered(apply(operator, a, b), ahead)
 }
 
 // The same of a text on the left.
@@ -231,11 +230,10 @@ fn beside_text(operator: Operator, first: usize, right: Worked, space: &[u8], us
         RightMet operator (text (take first (drop used (now (space .entry))))) (used + first) right (now (space .entry)) used r
         ⌝ }
 {
-    match right {
-        Worked::Fault(_) => right,
-        Worked::Whole(_, _) => Worked::Fault(Error::TypeMismatch),
-        Worked::Text(second, ahead) => on_texts(operator, space, used, first, second, ahead),
-    }
+    let Worked::Text(second, ahead) = right else {
+        return Worked::Fault(mismatch(right));
+    };
+    on_texts(operator, space, used, first, second, ahead)
 }
 
 // Both sides' answers: the first error stands, and the right value must be of the left one's type.
@@ -243,9 +241,11 @@ pub fn joined(operator: Operator, left: Worked, right: Worked, space: &[u8], use
     requires { ⌜ used + textLength left + textLength right ≤ length (now space) ⌝ }
     ensures { λ r. ⌜ SidesMet operator left right (now (space .entry)) used r ⌝ }
 {
-    match left {
-        Worked::Fault(_) => left,
-        Worked::Whole(a, _) => beside_whole(operator, a, right),
-        Worked::Text(first, _) => beside_text(operator, first, right, space, used),
+    if let Worked::Text(first, _) = left {
+        return beside_text(operator, first, right, space, used);
     }
+    let Worked::Whole(a, _) = left else {
+        return left;
+    };
+    beside_whole(operator, a, right)
 }

@@ -12,6 +12,8 @@ use Rattle.grammar.specs.Trees.{Variable}
 use Rattle.grammar.specs.Formulas.{after}
 use Rattle.grammar.specs.bridge.Answers.{lineOf}
 use Rattle.grammar.specs.declared.tests.NamedLine.the-variants.{Names, NoLine}
+use native.Mathlib.Omega.{arith}
+use Rattle.statements.specs.Parts.{deepest}
 use Rattle.statements.specs.Statements.{Begun, assignAt}
 use Rattle.statements.proofs.Findings.{by-line}
 use Rattle.statements.proofs.Ways.{by-assign}
@@ -20,9 +22,10 @@ use Rattle.turns.specs.bridge.Doing.{Begins}
 
 module _ (s : List ℕ) (short : length s ≤ longestLine) where
   pub assign-formed : (v : Variable) (t : Scanned) → Begins (assignAt s v t) → Formed s (after s t)
+  unfolding deepest
   assign-formed v t =
       by-assign (λ b. Begins b → Formed s (after s t)) (λ x. absurd x) s t v
-      (λ f u e _. record { short = short; scans = record { from = t .next; is = refl }; reads = record { of = f; next = u; is = e } })
+      (λ f u e h. record { short = short; scans = record { from = t .next; is = refl }; reads = record { of = f; next = u; is = e; shallow = omega (arith, h .1) } })
 
 pub on-line : (t : Token) (go : LineNumber → Begun) (other : Begun) {l : LineNumber} → lineOf t ≡ Names l → onLine t go other ≡ go l
 on-line t go other {l} e =

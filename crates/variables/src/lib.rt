@@ -18,4 +18,5 @@ pub use tables::wide;
 pub use values::Worked;
 pub use values::answered;
 pub use values::has_room;
+pub use values::mismatch;
 pub use values::text_length;

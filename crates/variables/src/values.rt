@@ -3,7 +3,7 @@ ghost use mathlib.Core.Path.{_≡_};
 ghost use Prim.Native.Nat.{_+_};
 ghost use lib.Dec.{leb};
 ghost use lib.ListN.{length};
-ghost use Rattle.variables.specs.bridge.Memory.{answeredAs, textLength};
+ghost use Rattle.variables.specs.bridge.Memory.{answeredAs, mismatchOf, textLength};
 use space::fits;
 use whole::Answer;
 use whole::Error;
@@ -23,6 +23,17 @@ pub fn answered(answer: Answer, ahead: Scanned) -> Worked
     match answer {
         Answer::Whole(word) => Worked::Whole(word, ahead),
         Answer::Fault(error) => Worked::Fault(error),
+    }
+}
+
+// Where an answer is not of the type that is wanted: its own error, or 13.
+pub fn mismatch(worked: Worked) -> Error
+    ensures { λ r. ⌜ r ≡ mismatchOf worked ⌝ }
+{
+    match worked {
+        Worked::Whole(_, _) => Error::TypeMismatch,
+        Worked::Text(_, _) => Error::TypeMismatch,
+        Worked::Fault(error) => error,
     }
 }
 

@@ -15,6 +15,8 @@ use Rattle.space.specs.Moves.{copied}
 use Rattle.grammar.specs.Tests.{isSymbol, endsStatement}
 use Rattle.grammar.specs.Trees.{Item, comma, semicolon, shown}
 use Rattle.grammar.specs.Formulas.{good, after, formulaOf}
+use Rattle.expressions.specs.Types.{deepestNesting}
+use Rattle.statements.specs.Parts.{itemFormulas, deepest}
 use Rattle.statements.specs.Statements.{items}
 use Rattle.statements.specs.bridge.Answers.{itemsOf}
 use Rattle.operators.specs.Values.{valueOf}
@@ -60,6 +62,7 @@ pub record Itemed (line : List ℕ) (first : Scanned) : Type 0 where
   pub end : Scanned
   pub reads : itemsOf line first ≡ items all end
   pub ends : endsStatement (end .token) ≡ true
+  pub shallow : deepest (itemFormulas all) ≤ deepestNesting
 
 -- ---- an item
 

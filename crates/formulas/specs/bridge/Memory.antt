@@ -2,10 +2,11 @@
 -- The contracts of functions that crates use among themselves cite it; no demand and no promise of run, check_recipe or ask rests on it.
 use mathlib.Core.Path.{_≡_}
 use mathlib.Core.List.{List}
-use Prim.Native.Nat.{ℕ, _≤_}
+use Prim.Native.Nat.{ℕ, zero, suc, _≤_}
 use lib.ListN.{length}
 use Rattle.variables.specs.Strings.{Room, longestSpace}
 use Rattle.variables.specs.Variables.{Variables}
+use Rattle.whole.specs.Whole.{flipped}
 use Rattle.whole.specs.declared.errors.Error.the-variants.{TypeMismatch}
 use Rattle.words.specs.declared.symbols.Scanned.{Scanned}
 use Rattle.words.specs.declared.places.Place.{Place}
@@ -13,7 +14,8 @@ use Rattle.words.specs.Places.{longestLine}
 use Rattle.scanner.specs.Tokens.{tokenAt}
 use Rattle.grammar.specs.Trees.{Formula}
 use Rattle.grammar.specs.Formulas.{Reading, good}
-use Rattle.expressions.specs.bridge.Answers.{operandOf}
+use Rattle.skimming.specs.bridge.Remaining.{operandOf}
+use Rattle.expressions.specs.Types.{depthOf}
 use Rattle.operators.specs.Values.{valueOf}
 use Rattle.variables.specs.declared.values.Worked.{Worked}
 use Rattle.variables.specs.declared.values.Worked.the-variants as worked
@@ -27,16 +29,17 @@ pub record Scans (line : List ℕ) (t : Scanned) : Type 0 where
   pub from : Place
   pub is : t ≡ tokenAt line from
 
--- something reads
-pub record Reads (x : Reading) : Type 0 where
+-- something reads, and no more than so many pairs of parentheses nest in it
+pub record Reads (room : ℕ) (x : Reading) : Type 0 where
   pub of : Formula
   pub next : Scanned
   pub is : x ≡ good of next
+  pub shallow : depthOf of ≤ room
 
--- an operand reads at some level
-pub record OperandReads (line : List ℕ) (t : Scanned) : Type 0 where
+-- an operand does at some level
+pub record OperandReads (room : ℕ) (line : List ℕ) (t : Scanned) : Type 0 where
   pub level : ℕ
-  pub reads : Reads (operandOf line level t)
+  pub reads : Reads room (operandOf line level t)
 
 -- what working out begins with: the variables' strings stand below `used`
 pub record Ready (line lengths space : List ℕ) (used : ℕ) : Type 0 where
@@ -59,11 +62,10 @@ wholeAs (worked.Whole w t) go = go w t
 wholeAs (worked.Text n t) go = worked.Fault TypeMismatch
 wholeAs (worked.Fault e) go = worked.Fault e
 
--- an error stands, and a text is 13
-abbrev pub notWhole : Worked → Worked
-notWhole (worked.Whole w t) = worked.Whole w t
-notWhole (worked.Text n t) = worked.Fault TypeMismatch
-notWhole (worked.Fault e) = worked.Fault e
+-- a word turned so many times
+unfoldable pub flippedBy : ℕ → ℕ → ℕ
+flippedBy zero w = w
+flippedBy (suc n) w = flipped (flippedBy n w)
 
 abbrev pub closedAs : List ℕ → Worked → Worked
 closedAs line (worked.Whole w t) = worked.Whole w (tokenAt line (t .next))

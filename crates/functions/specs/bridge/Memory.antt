@@ -66,17 +66,21 @@ wantBy function.Abs three place = want.Whole
 wantBy function.Sgn three place = want.Whole
 wantBy function.Fre three place = want.Either
 
--- an argument is tested as soon as it is worked out; a comma goes on, and all else closes the list
-abbrev pub takenBefore : Function → Bool → Given → Argument → Scanned → Taken
-takenBefore f three g a t =
-    cond (meetsWant (wantBy f three (countOf g)) a)
-    (cond (isSymbol Comma (t .token)) (taken.More (withArgument g a) (t .next)) (taken.All (withArgument g a) (t .next)))
-    (taken.Fault TypeMismatch)
+-- a comma goes on to one more, and all else closes the list
+abbrev pub goneOn : Given → Argument → Scanned → Taken
+goneOn g a t = cond (isSymbol Comma (t .token)) (taken.More (withArgument g a) (t .next)) (taken.All (withArgument g a) (t .next))
+
+-- an argument is tested as soon as it is worked out
+abbrev pub takenBefore : Want → Given → Argument → Scanned → Taken
+takenBefore w g a t = cond (meetsWant w a) (goneOn g a t) (taken.Fault TypeMismatch)
+
+abbrev pub takenWanted : Want → Given → Worked → Taken
+takenWanted w g (worked.Whole x t) = takenBefore w g (argument.Whole x) t
+takenWanted w g (worked.Text n t) = takenBefore w g (argument.Text n) t
+takenWanted w g (worked.Fault e) = taken.Fault e
 
 abbrev pub takenAs : Function → Bool → Given → Worked → Taken
-takenAs f three g (worked.Whole w t) = takenBefore f three g (argument.Whole w) t
-takenAs f three g (worked.Text n t) = takenBefore f three g (argument.Text n) t
-takenAs f three g (worked.Fault e) = taken.Fault e
+takenAs f three g x = takenWanted (wantBy f three (countOf g)) g x
 
 -- ---- a number
 

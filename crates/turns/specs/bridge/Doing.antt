@@ -3,16 +3,18 @@
 use mathlib.Core.Path.{_≡_}
 use mathlib.Core.Bool.{true, false}
 use mathlib.Core.List.{List}
-use Prim.Native.Nat.{ℕ}
+use Prim.Native.Nat.{ℕ, _≤_}
 use Rattle.words.specs.declared.places.Place.{Place}
 use Rattle.words.specs.declared.symbols.Scanned.{Scanned}
 use Rattle.words.specs.declared.symbols.Word.the-variants.{Else}
 use Rattle.grammar.specs.Tests.{isKeyword, endsStatement}
 use Rattle.grammar.specs.Trees as tree
 use Rattle.grammar.specs.Trees.{Part}
+use Rattle.expressions.specs.Types.{deepestNesting, depthOf}
+use Rattle.statements.specs.Parts.{formulasOf, deepest}
 use Rattle.statements.specs.Statements.{Begun, bad, done, choice, goodPart, partOf}
 use Rattle.machine.specs.Machine as spec
-use Rattle.machine.specs.bridge.Holding.{linesAt, Positioned, positionOf}
+use Rattle.machine.specs.bridge.Holding.{linesAt, Shallow, Positioned, positionOf}
 use Rattle.machine.specs.bridge.Seeking.{soughtBy}
 use Rattle.machine.specs.declared.state.Machine.{Machine}
 use Rattle.machine.specs.declared.positions.Turned.{Turned}
@@ -22,11 +24,11 @@ use Rattle.machine.specs.bridge.Wanted as sought
 use Rattle.turns.specs.Steps.{doStatement}
 use Rattle.turns.specs.bridge.Turns.{afterOf, Turns, Told}
 
--- it reads: what follows it ends it
+-- it reads: what follows it ends it, and its formulas do not nest too deep
 abbrev pub Begins : Begun → Type 0
 Begins bad = ⊥
-Begins (done x u) = endsStatement (u .token) ≡ true
-Begins (choice c u) = Unit {0}
+Begins (done x u) = (endsStatement (u .token) ≡ true) × (deepest (formulasOf x) ≤ deepestNesting)
+Begins (choice c u) = depthOf c ≤ deepestNesting
 
 -- what was done is what the definition does, wherever the statement or the IF's parts read
 module _ (text line : List ℕ) (here : Place) (at : ℕ) (m : Machine) (found : Found) (entry : Record) (input space room : List ℕ) (r : Turned)
@@ -39,8 +41,8 @@ module _ (text line : List ℕ) (here : Place) (at : ℕ) (m : Machine) (found :
       (λ n. doStatement text at x n (positionOf text (afterOf here u))) r space′ room′
   Does (choice c way) =
       (p : Part) (u : Scanned) (after : spec.Position) → after .lines ≡ linesAt text (here .0)
-      → partOf line true (way .next .0) ≡ goodPart p u
+      → partOf line true (way .next .0) ≡ goodPart p u → Shallow p
       → (isKeyword Else (u .token) ≡ false
       → Turns text m input space room (Told sought.Nothing (m .depth) found entry) (λ n. doStatement text at (tree.ifThen c p) n after) r space′ room′)
-      × (isKeyword Else (u .token) ≡ true → (q : Part) (v : Scanned) → partOf line true (u .next .0) ≡ goodPart q v
+      × (isKeyword Else (u .token) ≡ true → (q : Part) (v : Scanned) → partOf line true (u .next .0) ≡ goodPart q v → Shallow q
       → Turns text m input space room (Told sought.Nothing (m .depth) found entry) (λ n. doStatement text at (tree.ifElse c p q) n after) r space′ room′)

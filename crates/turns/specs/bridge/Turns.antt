@@ -14,6 +14,7 @@ use Rattle.words.specs.Places.{longestLine}
 use Rattle.grammar.specs.Tests.{isSymbol}
 use Rattle.grammar.specs.Trees.{Formula}
 use Rattle.grammar.specs.Formulas.{formulaOf}
+use Rattle.expressions.specs.Types.{deepestNesting}
 use Rattle.variables.specs.Strings.{Room}
 use Rattle.operators.specs.Values.{valueOf}
 use Rattle.formulas.specs.bridge.Memory.{Scans, Reads}
@@ -107,7 +108,7 @@ anyRecords rs = Unit {0}
 pub record Formed (line : List ℕ) (first : Scanned) : Type 0 where
   pub short : length line ≤ longestLine
   pub scans : Scans line first
-  pub reads : Reads (formulaOf line first)
+  pub reads : Reads deepestNesting (formulaOf line first)
 
 -- what working out a formula with the machine's tables leaves
 pub record Valued (m : Machine) (f : Formula) (u : Scanned) (before : List ℕ) (r : Worked) (after : List ℕ) : Type 0 where

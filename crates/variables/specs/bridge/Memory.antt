@@ -12,6 +12,8 @@ use Rattle.variables.specs.Tables.{namesFrom, namesIn, numbersIn, slotIn
 use Rattle.variables.specs.Variables.{NumberVariable, StringVariable, Variables, wordOf, bytesOf, mostVariables}
 use Rattle.whole.specs.declared.arithmetic.Answer.{Answer}
 use Rattle.whole.specs.declared.arithmetic.Answer.the-variants.{Whole, Fault}
+use Rattle.whole.specs.declared.errors.Error.{Error}
+use Rattle.whole.specs.declared.errors.Error.the-variants.{TypeMismatch}
 use Rattle.whole.specs.Texts.{longestString}
 use Rattle.words.specs.declared.symbols.Scanned.{Scanned}
 use Rattle.space.specs.Moves.{copied, moved}
@@ -75,6 +77,12 @@ Agrees (worked.Fault e) space used (fault f room) = e ≡ f
 abbrev pub answeredAs : Answer → Scanned → Worked
 answeredAs (Whole w) t = worked.Whole w t
 answeredAs (Fault e) t = worked.Fault e
+
+-- where it is not of the type that is wanted: its own error, or 13
+abbrev pub mismatchOf : Worked → Error
+mismatchOf (worked.Whole w t) = TypeMismatch
+mismatchOf (worked.Text n t) = TypeMismatch
+mismatchOf (worked.Fault e) = e
 
 abbrev pub textLength : Worked → ℕ
 textLength (worked.Whole w t) = 0

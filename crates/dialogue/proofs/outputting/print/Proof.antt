@@ -9,7 +9,7 @@ use Rattle.grammar.specs.Tests.{endsStatement}
 use Rattle.grammar.specs.Trees.{Item}
 use Rattle.statements.specs.Statements.{items}
 use Rattle.statements.specs.bridge.Answers.{itemsOf}
-use Rattle.expressions.specs.bridge.Answers.{weight}
+use Rattle.skimming.specs.bridge.Remaining.{weight}
 use Rattle.dialogue.proofs.Items.{Advances, formed-item, advances}
 use Rattle.dialogue.proofs.Prints.{Prints, items-end, prints-begin, prints-on, prints-fails, prints-ends}
 use Rattle.dialogue.proofs.outputting.print.Statement.{statement}
@@ -66,7 +66,7 @@ print-item-requires : tie.Need-print-item-requires Inv-loop μ-loop
 print-item-requires c κs =
     let k = c .before .before .before in let l = k .before .before in let s = l .before .before .before .before in
     let i = s .pre .0 in let h = l .loop .inv (i .all) (i .end) (i .reads) in (
-      formed-item (s .args .line .now) (l .loop .item) (h .reads) (goes-on k) (i .short) (h .fresh),
+      formed-item (s .args .line .now) (l .loop .item) (h .reads) (goes-on k) (i .short) (h .shallow) (h .fresh),
       (h .printed .settled, h .printed .fitting),
     )
 

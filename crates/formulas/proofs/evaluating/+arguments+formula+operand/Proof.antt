@@ -11,14 +11,15 @@ use Rattle.words.specs.declared.symbols.Scanned.{Scanned}
 use Rattle.scanner.proofs.token_at.Reads as token-at-reads
 use Rattle.grammar.specs.Trees.{Formula, none}
 use Rattle.grammar.specs.Formulas.{good}
-use Rattle.expressions.specs.bridge.Answers.{weight, formulaIn, argumentsOf}
+use Rattle.skimming.specs.bridge.Remaining.{weight, formulaIn, argumentsOf}
 use Rattle.expressions.proofs.Steps.{operand-other, operand-no-sign}
+use Rattle.expressions.proofs.past_nots.Reads as past-nots-reads
 use Rattle.grammar.proofs.right_level.Reads as right-level-reads
 use Rattle.formulas.proofs.Climbing.{heft, formula-operand, Climbing, climbing-begins, climbing-ends, climbing-refused, right-lighter, right-ready, right-asks, right-fits, climbing-goes, climbing-lightens}
-use Rattle.formulas.proofs.Heads.{not-operand, quoted-within, sign-lighter, opened-asks, negated-asks, not-lighter, complemented-asks, call-is, call-lighter, call-asks, number-done, hexadecimal-done, named-done, quoted-done, opened-done, negated-done, complemented-done}
+use Rattle.formulas.proofs.Heads.{not-operand, quoted-within, sign-lighter, opened-room, opened-asks, negated-asks, chain-asks, chain-lighter, call-is, call-lighter, call-room, call-asks, number-done, hexadecimal-done, named-done, quoted-done, opened-done, negated-done, complemented-done}
 use Rattle.formulas.proofs.Listing.{Listing, listing-begins, next-ready, next-asks, listing-long, listing-fault, all-placed, listing-ends, listing-lightens, listing-goes}
 use Rattle.strings.proofs.given_length.Reads as given-length-reads
-use Rattle.formulas.proofs.evaluating.has_third.Reads as has-third-reads
+use Rattle.formulas.proofs.evaluating.is_of_three.Reads as is-of-three-reads
 use Rattle.functions.proofs.take_argument.Reads as take-argument-reads
 use Rattle.functions.proofs.called.Reads as called-reads
 use Rattle.formulas.proofs.operands.closed.Reads as closed-reads
@@ -74,18 +75,18 @@ operand-below t = and 6 operand-kinds.ps (falls 6 operand-kinds.ps _<_ μ-operan
 -- ---- arguments
 
 abbrev arguments-Inv-loop : arguments-lts.InvT-loop
-arguments-Inv-loop line function names words labels lengths space₀ used three given₀ here₀ space given here =
+arguments-Inv-loop line function room names words labels lengths space₀ used three given₀ here₀ space given here =
     (w : ℕ) (before : List ℕ) (f : Formula) (u : Scanned)
     → Listing line names words labels lengths function three used w f u before given₀ here₀ space₀
     → Listing line names words labels lengths function three used w f u before given here space
 
 abbrev arguments-μ-loop : arguments-lts.MeasureT-loop
-arguments-μ-loop line function names words labels lengths space₀ used three given₀ here₀ space given here = weight line here
+arguments-μ-loop line function room names words labels lengths space₀ used three given₀ here₀ space given here = weight line here
 
 abbrev arguments-claims : ℕ → arguments-lts.Claims
 arguments-claims t = (
-  has-third-reads.Asked,
-  has-third-reads.Learnt,
+  is-of-three-reads.Asked,
+  is-of-three-reads.Learnt,
   given-length-reads.Asked,
   given-length-reads.Learnt,
   formula-below t,
@@ -103,27 +104,28 @@ arguments-had : (t : ℕ) (c : arguments-lts.At-loop (arguments-claims t) (argum
     (f : Formula) (u : Scanned)
     → let p = c .before .before .before .before .args in
     argumentsOf (p .line .now) (p .function) none (formulaIn (p .line .now) 0 (p .ahead)) ≡ good f u
-    → Listing (p .line .now) (p .names .now) (p .words .now) (p .labels .now) (p .lengths .now) (p .function) (c .before .has-third .result) (p .used)
+    → Listing (p .line .now) (p .names .now) (p .words .now) (p .labels .now) (p .lengths .now) (p .function) (c .before .is-of-three .result) (p .used)
     (weight (p .line .now) (p .ahead)) f u (p .space .now) (c .loop .given) (c .loop .here) (c .loop .space)
 arguments-had t c f u e =
     let k = c .before .before .before .before in
     let p = k .args in
     c .loop .inv (weight (p .line .now) (p .ahead)) (p .space .now) f u
-    (listing-begins (p .line .now) (p .names .now) (p .words .now) (p .labels .now) (p .lengths .now) (p .function) (c .before .has-third .result) (p .used)
-    (p .ahead) f u (p .space .now) e (k .pre .1 .1 .0) (k .pre .1 .0) (c .before .has-third .ensures))
+    (listing-begins (p .line .now) (p .names .now) (p .words .now) (p .labels .now) (p .lengths .now) (p .function) (c .before .is-of-three .result) (p .used)
+    (p .ahead) f u (p .space .now) e (k .pre .1 .1 .0) (k .pre .1 .0) (c .before .is-of-three .ensures))
 
 -- of the call that is worked out
 arguments-here : (t : ℕ) (c : arguments-lts.At-loop (arguments-claims t) (arguments-at t) arguments.Post arguments-Inv-loop arguments-μ-loop)
     → let p = c .before .before .before .before .args in
     let r = c .before .before .before .before .pre .1 .1 .1 in
-    Listing (p .line .now) (p .names .now) (p .words .now) (p .labels .now) (p .lengths .now) (p .function) (c .before .has-third .result) (p .used)
+    Listing (p .line .now) (p .names .now) (p .words .now) (p .labels .now) (p .lengths .now) (p .function) (c .before .is-of-three .result) (p .used)
     (weight (p .line .now) (p .ahead)) (r .of) (r .next) (p .space .now) (c .loop .given) (c .loop .here) (c .loop .space)
 arguments-here t c = let r = c .before .before .before .before .pre .1 .1 .1 in arguments-had t c (r .of) (r .next) (r .is)
 
 arguments-formula-requires : (t : ℕ) → arguments-lts.Need-formula-requires (arguments-claims t) (arguments-at t) arguments.Post arguments-Inv-loop arguments-μ-loop
 arguments-formula-requires t c κs =
     let here = arguments-here t (c .before .before) in
-    (omega (arith, here .lighter, c .before .before .before .before .before .before .pre .0), next-asks here (c .given-length .ensures))
+    let k = c .before .before .before .before .before .before in
+    (omega (arith, here .lighter, k .pre .0), next-asks here (c .given-length .ensures) (k .args .room) (k .pre .1 .1 .1 .shallow))
 
 arguments-same-length : (t : ℕ) → arguments-lts.Need-same-length (arguments-claims t) (arguments-at t) arguments.Post arguments-Inv-loop arguments-μ-loop
 arguments-same-length t c =
@@ -162,13 +164,13 @@ arguments-loop-again t c w before f u l =
 -- ---- a formula
 
 abbrev formula-Inv-loop : formula-lts.InvT-loop
-formula-Inv-loop line level names words labels lengths space₀ used left₀ space left =
+formula-Inv-loop line level room names words labels lengths space₀ used left₀ space left =
     (w : ℕ) (before : List ℕ) (f : Formula) (u : Scanned)
     → Climbing line names words labels lengths level used w f u before left₀ space₀
     → Climbing line names words labels lengths level used w f u before left space
 
 abbrev formula-μ-loop : formula-lts.MeasureT-loop
-formula-μ-loop line level names words labels lengths space₀ used left₀ space left = heft line left
+formula-μ-loop line level room names words labels lengths space₀ used left₀ space left = heft line left
 
 abbrev formula-claims : ℕ → formula-lts.Claims
 formula-claims t = (
@@ -213,7 +215,7 @@ formula-operand-requires : (t : ℕ) → formula-lts.Need-operand-requires (form
 formula-operand-requires t c κs =
     let k = c .before .before .before in
     let r = k .pre .1 in
-    (omega (arith, k .pre .0), (r .0, (r .1 .0, formula-operand (k .args .line .now) (k .args .level) (k .args .ahead) (r .1 .1))))
+    (omega (arith, k .pre .0), (r .0, (r .1 .0, formula-operand (k .args .room) (k .args .line .now) (k .args .level) (k .args .ahead) (r .1 .1))))
 
 formula-add-formula : (t : ℕ) → formula-lts.Need-add-formula (formula-claims t) (formula-at t) formula.Post formula-Inv-loop formula-μ-loop
 formula-add-formula t c =
@@ -227,7 +229,8 @@ formula-formula-requires t c κs =
     let h = c .before .before .before .before .before .before .before .turn-of .ensures in
     let e = c .before .before .before .before .before .operator .given .1 in
     let b = c .before .before .before .token-at .ensures in
-    (omega (arith, right-lighter here h e b, c .before .before .before .before .before .before .before .before .before .before .before .before .before .before .before .pre .0), right-asks here h e b (c .before .before .right-level .ensures) (c .text-length .ensures))
+    let k = c .before .before .before .before .before .before .before .before .before .before .before .before .before .before .before in
+    (omega (arith, right-lighter here h e b, k .pre .0), right-asks here h e b (c .before .before .right-level .ensures) (c .text-length .ensures) (k .args .room) (k .pre .1 .1 .1 .shallow))
 
 formula-joined-requires : (t : ℕ) → formula-lts.Need-joined-requires (formula-claims t) (formula-at t) formula.Post formula-Inv-loop formula-μ-loop
 formula-joined-requires t c κs =
@@ -264,6 +267,8 @@ operand-claims t = (
   operand.Post,
   negated-reads.Asked,
   negated-reads.Learnt,
+  past-nots-reads.Asked,
+  past-nots-reads.Learnt,
   complemented-reads.Asked,
   complemented-reads.Learnt,
   arguments-below t,
@@ -276,6 +281,12 @@ operand-quoted-requires t c κs =
     let p = c .before .before .before .before .before .before .before .before .pre .1 in
     (quoted-within (p .1 .0) (q .0 .0) (q .1), (p .0 .short, p .0 .within))
 
+operand-sub-formula : (t : ℕ) → operand-lts.Need-sub-formula (operand-claims t) (operand-at t) operand.Post
+operand-sub-formula t c =
+    let k = c .before .before .before .before .before .before .before .before .before in
+    let r = k .pre .1 .1 .1 in
+    opened-room (k .args .line .now) (r .level) (k .args .ahead) (r .reads .is) (c .before .before .before .before .before .token-at .ensures) (c .before .before .before .token5 .given .1) (k .args .room) (r .reads .shallow) (c .enum-told .given .1)
+
 operand-formula-requires : (t : ℕ) → operand-lts.Need-formula-requires (operand-claims t) (operand-at t) operand.Post
 operand-formula-requires t c κs =
     let k = c .before .before .before .before .before .before .before .before .before .before in
@@ -285,7 +296,7 @@ operand-formula-requires t c κs =
     let b = c .before .before .before .before .before .before .token-at .ensures in
     let i = c .before .before .before .before .token5 .given .1 in (
       omega (arith, k .pre .0, sign-lighter s (r .level) a (r .reads .is) b i),
-      (k .pre .1 .0, opened-asks s (r .level) a (r .reads .is) b i (c .before .enum-told .given .1)),
+      (k .pre .1 .0, opened-asks s (r .level) a (r .reads .is) b i (k .args .room) (r .reads .shallow) (c .before .enum-told .given .1)),
     )
 
 operand-operand-requires : (t : ℕ) → operand-lts.Need-operand-requires (operand-claims t) (operand-at t) operand.Post
@@ -297,20 +308,26 @@ operand-operand-requires t c κs =
     let b = c .before .before .before .before .before .before .token-at .ensures in
     let i = c .before .before .before .before .token5 .given .1 in (
       omega (arith, k .pre .0, sign-lighter s (r .level) a (r .reads .is) b i),
-      (k .pre .1 .0, negated-asks s (r .level) a (r .reads .is) b i (c .before .enum-told2 .given .1)),
+      (k .pre .1 .0, negated-asks s (r .level) a (r .reads .is) b i (k .args .room) (r .reads .shallow) (c .before .enum-told2 .given .1)),
     )
 
 operand-formula-requires-2 : (t : ℕ) → operand-lts.Need-formula-requires-2 (operand-claims t) (operand-at t) operand.Post
 operand-formula-requires-2 t c κs =
-    let k = c .before .before .before .before .before .before .before in
+    let k = c .before .before .before .before .before .before .before .before .before in
     let s = k .args .line .now in
     let a = k .args .ahead in
     let r = k .pre .1 .1 .1 in
-    let b = c .before .before .before .token-at .ensures in
-    let i = c .before .enum-told3 .given .1 in (
-      omega (arith, k .pre .0, not-lighter s (r .level) a (r .reads .is) b i),
-      (k .pre .1 .0, complemented-asks s (r .level) a (r .reads .is) b i),
+    let b = c .before .before .past-nots .ensures in
+    let i = c .before .before .before .enum-told3 .given .1 in (
+      omega (arith, k .pre .0, chain-lighter s (r .level) a (r .reads .is) i b),
+      (k .pre .1 .0, chain-asks s (r .level) a (r .reads .is) i b (k .pre .1 .1 .0) (k .args .room) (r .reads .shallow)),
     )
+
+operand-sub-arguments : (t : ℕ) → operand-lts.Need-sub-arguments (operand-claims t) (operand-at t) operand.Post
+operand-sub-arguments t c =
+    let k = c .before .before .before .before .before .before .before .before .before in
+    let r = k .pre .1 .1 .1 in
+    call-room (k .args .line .now) (r .level) (k .args .ahead) (r .reads .is) (c .before .before .before .before .before .token-at .ensures) (c .before .before .before .token6 .given .1) (c .token-at2 .ensures) (k .args .room) (r .reads .shallow)
 
 operand-arguments-requires : (t : ℕ) → operand-lts.Need-arguments-requires (operand-claims t) (operand-at t) operand.Post
 operand-arguments-requires t c κs =
@@ -322,7 +339,7 @@ operand-arguments-requires t c κs =
     let i = c .before .before .before .before .token6 .given .1 in
     let d = c .before .token-at2 .ensures in (
       omega (arith, k .pre .0, call-lighter s (r .level) a (r .reads .is) b i d),
-      (k .pre .1 .0, call-asks s (r .level) a (r .reads .is) b i d),
+      (k .pre .1 .0, call-asks s (r .level) a (r .reads .is) b i d (k .args .room) (r .reads .shallow)),
     )
 
 operand-returns : (t : ℕ) → operand-lts.Need-returns (operand-claims t) (operand-at t) operand.Post
@@ -367,13 +384,13 @@ operand-returns-7 : (t : ℕ) → operand-lts.Need-returns-7 (operand-claims t) 
 operand-returns-7 t c level f u e =
     let p = c .before .before .before .before .before .before .before .before .args in
     let s = c .before .before .token5 .given in
-    not-operand (p .line .now) level (p .ahead) (operand-no-sign (p .line .now) level (p .ahead) (s .0 .0) (s .1) (c .match2 .keys3)) e
+    not-operand (p .line .now) level (p .ahead) (operand-no-sign 8 (p .line .now) level (p .ahead) (s .0 .0) (s .1) (c .match2 .keys3)) e
 
 operand-returns-8 : (t : ℕ) → operand-lts.Need-returns-8 (operand-claims t) (operand-at t) operand.Post
 operand-returns-8 t c level f u e =
-    let p = c .before .before .before .before .before .before .before .before .before .before .before .args in
-    rw (c .complemented .ensures)
-    (complemented-done (p .line .now) level (p .ahead) e (c .before .before .before .before .before .before .before .token-at .ensures) (c .before .before .before .formula2 .result) (c .before .before .before .before .before .enum-told3 .given .1) (c .before .before .before .formula2 .ensures))
+    let p = c .before .before .before .before .before .before .before .before .before .before .before .before .before .args in
+    complemented-done (p .line .now) level (p .ahead) e (c .before .before .before .before .before .before .before .before .before .token-at .ensures) (c .before .before .before .formula2 .result) (c .before .before .before .before .before .before .before .enum-told3 .given .1)
+    (c .before .before .before .before .before .before .past-nots .ensures) (c .before .before .before .formula2 .ensures) (c .complemented .ensures)
 
 operand-returns-9 : (t : ℕ) → operand-lts.Need-returns-9 (operand-claims t) (operand-at t) operand.Post
 operand-returns-9 t c level f u e =
@@ -384,7 +401,7 @@ operand-returns-9 t c level f u e =
 operand-returns-10 : (t : ℕ) → operand-lts.Need-returns-10 (operand-claims t) (operand-at t) operand.Post
 operand-returns-10 t c level f u e =
     let p = c .before .before .before .before .before .args in
-    not-operand (p .line .now) level (p .ahead) (operand-other (p .line .now) level (p .ahead) (c .match .keys8)) e
+    not-operand (p .line .now) level (p .ahead) (operand-other 8 (p .line .now) level (p .ahead) (c .match .keys8)) e
 
 -- ---- the cycle
 
@@ -447,16 +464,19 @@ pub +arguments+formula+operand-spec : {M : Type 1} → statement M
     (operand-quoted-requires t)
     (λ c. search needs)
     (λ c. search needs)
+    (operand-sub-formula t)
     (operand-formula-requires t)
     (λ c κs. search needs)
     (λ c. search needs)
     (operand-operand-requires t)
     (λ c κs. search needs)
     (λ c. search needs)
+    (λ c κs. search needs)
     (operand-formula-requires-2 t)
     (λ c κs. search needs)
     (λ c. search needs)
     (λ c κs. search needs)
+    (operand-sub-arguments t)
     (operand-arguments-requires t)
     (operand-returns t)
     (operand-returns-2 t)

@@ -1,7 +1,7 @@
 -- The loosest level is that of a whole formula.
 use mathlib.Core.Path.{sym, _∙_}
 use borrow.Author.Needs.{needs}
-use Rattle.expressions.proofs.Fuel.{formula-level}
+use Rattle.skimming.proofs.Fuel.{formula-level}
 use Rattle.formulas.proofs.evaluating.work_out.Statement.{statement}
 use Rattle.formulas.proofs.evaluating.work_out.Tie as tie
 

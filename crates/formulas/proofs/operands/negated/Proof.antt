@@ -1,8 +1,7 @@
 -- What is no whole number is a text or an error.
-use mathlib.Core.Path.{_∙_}
 use Rattle.variables.specs.bridge.Memory.{answeredAs}
 use Rattle.whole.specs.Whole.{negated}
-use Rattle.formulas.proofs.Making.{no-whole}
+use Rattle.formulas.proofs.Making.{refused-whole}
 use borrow.Author.Needs.{needs}
 use Rattle.formulas.proofs.operands.negated.Statement.{statement}
 use Rattle.formulas.proofs.operands.negated.Tie as tie
@@ -13,7 +12,7 @@ negated-spec =
     (tie.spec
     (λ c. search needs)
     (λ c κs. search needs)
-    (λ c. c .not-whole .ensures ∙ no-whole (c .before .before .args .operand) (λ w t. answeredAs (negated w) t) (c .before .match .keys2))
+    (λ c. rw (c .mismatch .ensures) (refused-whole (λ w t. answeredAs (negated w) t) (c .before .before .args .operand) (c .before .match .keys2)))
     (λ c κs. search needs)
     (λ c κs. search needs)
     (λ c. rw (c .before .before .before .operand .given .1, c .answered .ensures, c .before .negative .ensures)))

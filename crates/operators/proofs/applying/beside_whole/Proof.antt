@@ -1,10 +1,22 @@
--- Each arm is a clause of the definition.
+-- What is no whole number is a text or an error.
 use mathlib.Core.Path.{refl}
 use borrow.Author.Needs.{needs}
 use Rattle.whole.specs.Whole.{applied}
+use Rattle.variables.specs.Strings.{whole}
+use Rattle.variables.specs.bridge.Memory.{mismatchOf}
+use Rattle.variables.specs.declared.values.Worked.the-variants as worked
+use Rattle.variables.proofs.Agreements.{no-whole}
+use Rattle.operators.specs.bridge.Memory.{RightMet}
 use Rattle.operators.proofs.Sides.{answer-gives}
 use Rattle.operators.proofs.applying.beside_whole.Statement.{statement}
 use Rattle.operators.proofs.applying.beside_whole.Tie as tie
+
+returns : tie.Need-returns
+returns c space used =
+    let p = c .before .before .args in
+    rw (c .mismatch .ensures)
+    (no-whole (λ x. RightMet (p .operator) (whole (p .a)) used x space used (worked.Fault (mismatchOf x)))
+    (λ e. refl) (λ n t. (λ room h. refl, tt)) (p .right) (c .before .match .keys2))
 
 returns-2 : tie.Need-returns-2
 returns-2 c space used =
@@ -16,10 +28,8 @@ beside-whole-spec =
     tie.close
     (tie.spec
     (λ c. search needs)
-    (λ c. search needs)
+    (λ c κs. search needs)
+    returns
     (λ c κs. search needs)
     (λ c κs. search needs)
-    (λ c. search needs)
-    (λ c space used. rw (c .enum-told .given .1))
-    returns-2
-    (λ c space used. rw (c .enum-told2 .given .1) (λ room h. refl, tt)))
+    returns-2)
