@@ -19,7 +19,7 @@ use Rattle.reader.specs.declared.branches.Start.the-variants as way
 use Rattle.variables.specs.declared.values.Worked.the-variants.{Whole, Text, Fault}
 use Rattle.machine.specs.Machine as spec
 use Rattle.statements.specs.Parts.{part}
-use Rattle.machine.specs.bridge.Holding.{linesAt, bodyOf, positionOf, Positioned, Sound}
+use Rattle.machine.specs.bridge.Holding.{linesAt, bodyOf, Shallow, positionOf, Positioned, Sound}
 use Rattle.machine.specs.declared.state.Machine.{Machine}
 use Rattle.machine.specs.declared.positions.Position.{Position}
 use Rattle.machine.specs.declared.positions.Turned.{Turned}
@@ -39,12 +39,12 @@ module _ {text line : List ℕ} {here : Place} (st : Standing text line here) wh
   abbrev inside : Place → Position
   inside at = record { line = here; at = at; over = false }
 
-  module _ (at : Place) {p : Part} {u : Scanned} (e : partOf line true (at .0) ≡ goodPart p u) where
+  module _ (at : Place) {p : Part} {u : Scanned} (e : partOf line true (at .0) ≡ goodPart p u) (low : Shallow p) where
     here-reads : partOf (bodyOf (linesAt text (here .0))) true (at .0) ≡ goodPart p u
     here-reads = ap (λ s. partOf s true (at .0)) (sym (st .is)) ∙ e
 
     inside-placed : Positioned text (inside at)
-    inside-placed = record { begins = st .begins; reads = λ _. record { of = p; end = u; is = here-reads } }
+    inside-placed = record { begins = st .begins; reads = λ _. record { of = p; end = u; is = here-reads; shallow = low } }
 
     inside-is : positionOf text (inside at) ≡ record { lines = linesAt text (here .0); rest = part p }
     inside-is = rw here-reads
@@ -52,15 +52,15 @@ module _ {text line : List ℕ} {here : Place} (st : Standing text line here) wh
   module _ {m : Machine} {input space room : List ℕ} {told : List Record → Type 0} {does : spec.Machine → step.Next}
       (sound : Sound m input space room) (lines : List Line) (all : lines ≡ linesAt text (here .0)) where
     -- a part that reads is entered
-    turns-part : (at : Place) {p : Part} {u : Scanned} → partOf line true (at .0) ≡ goodPart p u
+    turns-part : (at : Place) {p : Part} {u : Scanned} → partOf line true (at .0) ≡ goodPart p u → Shallow p
         → ((n : spec.Machine) → does n ≡ branch n lines p)
         → Turns text m input space room told does (takenTurn m here (way.At at)) space room
-    turns-part at {p} e h =
-        turns-on (leaves-unprinted sound refl refl refl) (inside-placed at e)
+    turns-part at {p} e low h =
+        turns-on (leaves-unprinted sound refl refl refl) (inside-placed at e low)
         (λ rs l t n s.
         record {
           machine = n;
-          is = h n ∙ ap (goesOn n) (ap (λ ls. record { lines = ls; rest = part p }) all ∙ sym (inside-is at e));
+          is = h n ∙ ap (goesOn n) (ap (λ ls. record { lines = ls; rest = part p }) all ∙ sym (inside-is at e low));
           same = s;
         })
 
@@ -85,19 +85,19 @@ abbrev IfTurns : (text line : List ℕ) (at : ℕ) (m : Machine) (input space ro
 IfTurns text line at m input space room c p u after r space′ =
     (isKeyword Else (u .token) ≡ false
     → Turns text m input space room anyRecords (λ n. doStatement text at (ifThen c p) n after) r space′ room)
-    × (isKeyword Else (u .token) ≡ true → (q : Part) (v : Scanned) → partOf line true (u .next .0) ≡ goodPart q v
+    × (isKeyword Else (u .token) ≡ true → (q : Part) (v : Scanned) → partOf line true (u .next .0) ≡ goodPart q v → Shallow q
     → Turns text m input space room anyRecords (λ n. doStatement text at (ifElse c p q) n after) r space′ room)
 
 module _ {text line input space room space′ : List ℕ} {here : Place} {m : Machine} {c : Formula} {t : Scanned} {p : Part} {u : Scanned}
     (at : ℕ) (after : spec.Position) (st : Standing text line here) (sound : Sound m input space room) (lines : after .lines ≡ linesAt text (here .0))
-    (reads : partOf line true (t .next .0) ≡ goodPart p u) where
+    (reads : partOf line true (t .next .0) ≡ goodPart p u) (low : Shallow p) where
   pub if-fault : {e : Error} → Valued m c t space (Fault e) space′
       → IfTurns text line at m input space room c p u after (turnedTo m (next.Fails e)) space′
-  if-fault v = (λ _. turns-fault (thens after p) sound v, λ _ q w _. turns-fault (elses after p q) sound v)
+  if-fault v = (λ _. turns-fault (thens after p) sound v, λ _ q w _ _. turns-fault (elses after p q) sound v)
 
   pub if-text : {len : ℕ} {x : Scanned} → Valued m c t space (Text len x) space′
       → IfTurns text line at m input space room c p u after (turnedTo m (next.Fails TypeMismatch)) space′
-  if-text v = (λ _. turns-text (thens after p) sound v, λ _ q w _. turns-text (elses after p q) sound v)
+  if-text v = (λ _. turns-text (thens after p) sound v, λ _ q w _ _. turns-text (elses after p q) sound v)
 
   module _ {w : ℕ} {x : Scanned} (v : Valued m c t space (Whole w x) space′) where
     -- not 0: the first part
@@ -105,8 +105,8 @@ module _ {text line input space room space′ : List ℕ} {here : Place} {m : Ma
     if-true z =
         let k = sound-kept (v .framed .long) sound in
         rw (v .goes) (
-          λ _. turns-whole (thens after p) sound v (turns-part st k (after .lines) lines (t .next) reads (λ n. rw (ne-eqb w 0 z))),
-          λ _ q y _. turns-whole (elses after p q) sound v (turns-part st k (after .lines) lines (t .next) reads (λ n. rw (ne-eqb w 0 z))),
+          λ _. turns-whole (thens after p) sound v (turns-part st k (after .lines) lines (t .next) reads low (λ n. rw (ne-eqb w 0 z))),
+          λ _ q y _ _. turns-whole (elses after p q) sound v (turns-part st k (after .lines) lines (t .next) reads low (λ n. rw (ne-eqb w 0 z))),
         )
 
     -- 0: the other, or none
@@ -114,5 +114,5 @@ module _ {text line input space room space′ : List ℕ} {here : Place} {m : Ma
     if-false z =
         let k = sound-kept (v .framed .long) sound in (
           λ f. rw f (turns-whole (thens after p) sound v (turns-over st k (after .lines) lines (λ n. rw (eq-eqb w 0 z)))),
-          λ f q y e. rw f (turns-whole (elses after p q) sound v (turns-part st k (after .lines) lines (u .next) e (λ n. rw (eq-eqb w 0 z)))),
+          λ f q y e lower. rw f (turns-whole (elses after p q) sound v (turns-part st k (after .lines) lines (u .next) e lower (λ n. rw (eq-eqb w 0 z)))),
         )

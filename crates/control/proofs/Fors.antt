@@ -17,6 +17,8 @@ use Rattle.words.proofs.Choices.{by-test}
 use Rattle.grammar.specs.Tests.{choose, isSymbol, isKeyword}
 use Rattle.grammar.specs.Trees as tree
 use Rattle.grammar.specs.Trees.{Formula, number, Variable, Statement}
+use Rattle.expressions.specs.Types.{deepestNesting, depthOf}
+use Rattle.statements.specs.Parts.{deepest}
 use Rattle.grammar.specs.Formulas as formulas
 use Rattle.grammar.specs.Formulas.{Reading, good, after, formulaOf}
 use Rattle.statements.specs.Statements.{Begun, bad, done, onFormula, variableOf, limitAt, stepAt, forAt}
@@ -115,19 +117,24 @@ step-formed {line} {t} s h =
     record {
       short = s .short;
       scans = record { from = t .next; is = refl };
-      reads = record { of = s .step; next = s .end; is = step-stands line t (s .reads) h };
+      reads = record { of = s .step; next = s .end; is = step-stands line t (s .reads) h; shallow = s .shallow };
     }
 
 module _ {line : List ℕ} {name : Name} {equals : Scanned} (k : Counts line name equals) where
   pub for-parts : ForRead line equals (k .start) (k .limit) (k .step) (k .end)
   for-parts = for-read line (variableOf line name) equals (k .is)
 
+  -- none of its formulas nests too deep
+  for-shallow : (depthOf (k .start) ≤ deepestNesting) × ((depthOf (k .limit) ≤ deepestNesting) × (depthOf (k .step) ≤ deepestNesting))
+  unfolding deepest
+  for-shallow = let h = k .shallow in (omega arith, (omega arith, omega arith))
+
   pub start-formed : Formed line (after line equals)
   start-formed =
       record {
         short = k .short;
         scans = record { from = equals .next; is = refl };
-        reads = record { of = k .start; next = for-parts .upto; is = for-parts .from };
+        reads = record { of = k .start; next = for-parts .upto; is = for-parts .from; shallow = for-shallow .0 };
       }
 
   pub limit-read : Limited line (after line (for-parts .upto))
@@ -137,7 +144,8 @@ module _ {line : List ℕ} {name : Name} {equals : Scanned} (k : Counts line nam
         limit = k .limit;
         at = for-parts .steps;
         reads = for-parts .limit;
-        steps = record { short = k .short; step = k .step; end = k .end; reads = for-parts .by };
+        shallow = for-shallow .1 .0;
+        steps = record { short = k .short; step = k .step; end = k .end; reads = for-parts .by; shallow = for-shallow .1 .1 };
       }
 
 -- ---- the record of a FOR

@@ -49,7 +49,7 @@ next-whole at v after e t = simp e t
 pub for-counts : (s : List ℕ) → length s ≤ longestLine → (w : Scanned) (name : Name) → Begins (forAt s (variableOf s name) (after s w)) → Counts s name (after s w)
 for-counts s short w name =
     by-for (λ b. Begins b → Counts s name (after s w)) (λ x. absurd x) s (after s w) (variableOf s name)
-    (λ a b c u e _. record { short = short; scans = record { from = w .next; is = refl }; start = a; limit = b; step = c; end = u; is = e })
+    (λ a b c u e h. record { short = short; scans = record { from = w .next; is = refl }; start = a; limit = b; step = c; end = u; is = e; shallow = h .1 })
 
 module _ (text line : List ℕ) (here : Place) (at : ℕ) (m : Machine) (found : Found) (entry : Record) (input space room : List ℕ) (r : Turned)
     (space′ room′ : List ℕ) where

@@ -9,7 +9,7 @@ ghost use Rattle.grammar.specs.Trees.{Formula, Part, ifThen, ifElse};
 ghost use Rattle.grammar.specs.Formulas.{good, formulaOf};
 ghost use Rattle.statements.specs.Statements.{goodPart, partOf};
 ghost use Rattle.machine.specs.Machine as spec;
-ghost use Rattle.machine.specs.bridge.Holding.{linesAt, Settled, Sound};
+ghost use Rattle.machine.specs.bridge.Holding.{Shallow, linesAt, Settled, Sound};
 ghost use Rattle.machine.specs.declared.positions.Next.the-variants as next;
 ghost use Rattle.turns.specs.Steps.{doStatement};
 ghost use Rattle.turns.specs.bridge.Turns.{turnedTo, Turns, anyRecords, Formed, Standing};
@@ -64,10 +64,10 @@ pub fn choose(
     ensures { λ r. ⌜
         ((text input room : List ℕ) (at : ℕ) (c : Formula) (way : Scanned) (p : Part) (u : Scanned) (after : spec.Position)
         → Sound machine input (now (space .entry)) room → Standing text (now (line .entry)) here → after .lines ≡ linesAt text (here .0)
-        → formulaOf (now (line .entry)) first ≡ good c way → partOf (now (line .entry)) true (way .next .0) ≡ goodPart p u
+        → formulaOf (now (line .entry)) first ≡ good c way → partOf (now (line .entry)) true (way .next .0) ≡ goodPart p u → Shallow p
         → (isKeyword Else (u .token) ≡ false
         → Turns text machine input (now (space .entry)) room anyRecords (λ n. doStatement text at (ifThen c p) n after) r (now (space .exit)) room)
-        × (isKeyword Else (u .token) ≡ true → (q : Part) (v : Scanned) → partOf (now (line .entry)) true (u .next .0) ≡ goodPart q v
+        × (isKeyword Else (u .token) ≡ true → (q : Part) (v : Scanned) → partOf (now (line .entry)) true (u .next .0) ≡ goodPart q v → Shallow q
         → Turns text machine input (now (space .entry)) room anyRecords (λ n. doStatement text at (ifElse c p q) n after) r (now (space .exit)) room))
         ⌝ }
 {

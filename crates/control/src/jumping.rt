@@ -6,16 +6,18 @@ ghost use Rattle.grammar.specs.Trees as tree;
 ghost use Rattle.machine.specs.Machine as spec;
 ghost use Rattle.machine.specs.bridge.Holding.{positionOf, Positioned, Sound};
 ghost use Rattle.machine.specs.bridge.Wanted as sought;
+ghost use Rattle.rows.specs.bridge.Rows.{Tabled, Ordered};
 ghost use Rattle.turns.specs.Steps.{doStatement};
 ghost use Rattle.turns.specs.bridge.Turns.{afterOf, Turns, anyRecords, Told, FoundBelow};
 ghost use Rattle.control.specs.bridge.Answers.{pushedTurn};
 use loader::LineFound;
-use loader::find_line;
 use machine::Found;
 use machine::Machine;
 use machine::Next;
 use machine::Record;
 use machine::Turned;
+use rows::Rows;
+use rows::line_numbered;
 use turns::after;
 use turns::fails;
 use turns::turned_to;
@@ -25,13 +27,14 @@ use words::Place;
 use words::Scanned;
 
 // A missing line is 8.
-pub fn goto(text: &[u8], number: LineNumber, machine: Machine) -> Turned
+pub fn goto(rows: &Rows, number: LineNumber, machine: Machine) -> Turned
+    requires { ⌜ Ordered (now rows) ⌝ }
     ensures { λ r. ⌜
-        ((input space room : List ℕ) (at : ℕ) (after : spec.Position) → Sound machine input space room
-        → Turns (now (text .entry)) machine input space room anyRecords (λ n. doStatement (now (text .entry)) at (tree.goto number) n after) r space room)
+        ((text input space room : List ℕ) (at : ℕ) (after : spec.Position) → Tabled text (now (rows .entry)) → Sound machine input space room
+        → Turns text machine input space room anyRecords (λ n. doStatement text at (tree.goto number) n after) r space room)
         ⌝ }
 {
-    match find_line(text, number) {
+    match line_numbered(rows, number) {
         LineFound::None => fails(machine, Error::UndefinedLine),
         LineFound::Is(span) => {
             let place = span.place;
@@ -60,19 +63,21 @@ pub(crate) fn push(machine: Machine, held: Record, next: Next) -> Turned
 
 // The line is tested before room for a record.
 pub fn gosub(
-    text: &[u8],
+    rows: &Rows,
     number: LineNumber,
     here: Place,
     ahead: Scanned,
     machine: Machine,
 ) -> Turned
+    requires { ⌜ Ordered (now rows) ⌝ }
     ensures { λ r. ⌜
-        ((input space room : List ℕ) (at : ℕ) → Sound machine input space room → Positioned (now (text .entry)) (afterOf here ahead)
-        → Turns (now (text .entry)) machine input space room anyRecords
-        (λ n. doStatement (now (text .entry)) at (tree.gosub number) n (positionOf (now (text .entry)) (afterOf here ahead))) r space room)
+        ((text input space room : List ℕ) (at : ℕ) → Tabled text (now (rows .entry)) → Sound machine input space room
+        → Positioned text (afterOf here ahead)
+        → Turns text machine input space room anyRecords
+        (λ n. doStatement text at (tree.gosub number) n (positionOf text (afterOf here ahead))) r space room)
         ⌝ }
 {
-    match find_line(text, number) {
+    match line_numbered(rows, number) {
         LineFound::None => fails(machine, Error::UndefinedLine),
         LineFound::Is(span) => {
             let held = Record::calls(after(here, ahead));

@@ -4,6 +4,7 @@ ghost use Prim.Native.Nat.{ℕ, _≤_};
 ghost use lib.ListN.{length};
 ghost use Rattle.machine.specs.bridge.Holding.{Settled, Sound};
 ghost use Rattle.turns.specs.bridge.Turns.{FoundBelow};
+ghost use Rattle.rows.specs.bridge.Rows.{Tabled, Ordered};
 ghost use Rattle.words.specs.declared.symbols.Word.the-variants as led;
 ghost use Rattle.statements.specs.Statements.{byWord};
 ghost use Rattle.turns.specs.bridge.Doing.{Begins, Does};
@@ -18,6 +19,7 @@ use machine::Found;
 use machine::Machine;
 use machine::Record;
 use machine::Turned;
+use rows::Rows;
 use scanner::token_at;
 use turns::fails;
 use whole::Error;
@@ -77,28 +79,31 @@ pub fn next_loop(
     }
 }
 
-pub fn jump(text: &[u8], target: Scanned, machine: Machine) -> Turned
+pub fn jump(rows: &Rows, target: Scanned, machine: Machine) -> Turned
+    requires { ⌜ Ordered (now rows) ⌝ }
     ensures { λ r. ⌜
-        ((line input space room : List ℕ) (here : Place) (at : ℕ) (found : Found) (entry : Record) → Sound machine input space room
-        → Does (now (text .entry)) line here at machine found entry input space room r space room (byWord line led.Goto target))
+        ((text line input space room : List ℕ) (here : Place) (at : ℕ) (found : Found) (entry : Record) → Tabled text (now (rows .entry))
+        → Sound machine input space room
+        → Does text line here at machine found entry input space room r space room (byWord line led.Goto target))
         ⌝ }
 {
     let token = target.token;
     match line_of(token) {
         NamedLine::NoLine => fails(machine, Error::Syntax),
-        NamedLine::Names(number) => goto(text, number, machine),
+        NamedLine::Names(number) => goto(rows, number, machine),
     }
 }
 
-pub fn call(text: &[u8], line: &[u8], here: Place, target: Scanned, machine: Machine) -> Turned
+pub fn call(rows: &Rows, line: &[u8], here: Place, target: Scanned, machine: Machine) -> Turned
+    requires { ⌜ Ordered (now rows) ⌝ }
     ensures { λ r. ⌜
-        ((input space room : List ℕ) (at : ℕ) (found : Found) (entry : Record) → Sound machine input space room
-        → Does (now (text .entry)) (now (line .entry)) here at machine found entry input space room r space room (byWord (now (line .entry)) led.Gosub target))
+        ((text input space room : List ℕ) (at : ℕ) (found : Found) (entry : Record) → Tabled text (now (rows .entry)) → Sound machine input space room
+        → Does text (now (line .entry)) here at machine found entry input space room r space room (byWord (now (line .entry)) led.Gosub target))
         ⌝ }
 {
     let token = target.token;
     match line_of(token) {
         NamedLine::NoLine => fails(machine, Error::Syntax),
-        NamedLine::Names(number) => gosub(text, number, here, token_at(line, target.next), machine),
+        NamedLine::Names(number) => gosub(rows, number, here, token_at(line, target.next), machine),
     }
 }

@@ -6,7 +6,6 @@ use mathlib.Core.List.{List, [], _∷_, _++_, append-assoc, cons-ne-nil}
 use Prim.Native.Nat.{ℕ, _+_, _-_, _≤_, _<_}
 use native.Mathlib.Omega.{arith}
 use lib.ListN.{length, take, drop, length-drop}
-use lib.Seq.{take-add, drop-at, drop-drop, length-take-le}
 use Rattle.whole.specs.Digits.{leadingDigits, leadingValue}
 use Rattle.whole.proofs.Numbers.{less}
 use Rattle.whole.proofs.Never.{never}
@@ -20,8 +19,9 @@ use Rattle.loader.specs.declared.lines.LineSpan.{LineSpan}
 use Rattle.loader.specs.declared.lines.LineFound.the-variants.{Is, None}
 use Rattle.loader.specs.declared.loading.Loaded.the-variants.{Fine}
 use Rattle.loader.proofs.Extents.{cut, walked}
-use Rattle.loader.proofs.Found.{digits-inside, from-suffix, from-has, from-at}
+use Rattle.loader.proofs.Found.{from-suffix, from-has, from-at}
 use Rattle.loader.proofs.Rising.{Rising, recipe, rising-suffix}
+use Rattle.loader.proofs.Spans.{Spanned, spanned-as, none-left}
 use Rattle.machine.specs.bridge.Holding.{linesAt, bodyOf, Begins}
 
 -- ---- one line after another
@@ -69,16 +69,6 @@ begins-next {text} {p} b q e = begins-here (reaches-next b q) (after-line text p
 
 -- ---- the line that is found at a place
 
--- what stands after the number of a line, in the text
-part-inside : (text : List ℕ) (p n m : ℕ) → n ≤ m → p + m ≤ length text → drop n (take m (drop p text)) ≡ take (m - n) (drop (p + n) text)
-part-inside text p n m h k =
-    let e : m ≡ n + (m - n) = omega arith in
-    let i = length-take-le n (drop p text) (omega (arith, length-drop p text)) in
-    ap (λ x. drop n (take x (drop p text))) e
-    ∙ ap (drop n) (take-add n (m - n) (drop p text))
-    ∙ drop-at (take n (drop p text)) (take (m - n) (drop n (drop p text))) n i
-    ∙ ap (take (m - n)) (drop-drop n p text)
-
 -- a span is that of the line at a place
 pub record Told (text : List ℕ) (p : ℕ) (span : LineSpan) : Type 0 where
   pub line : Line
@@ -96,61 +86,33 @@ pub record Told (text : List ℕ) (p : ℕ) (span : LineSpan) : Type 0 where
   pub onward : p < span .next .0
   pub inside : span .next .0 ≤ length text
 
--- of a text that loads a line is found where one begins
-pub record LineTold (text : List ℕ) (p : ℕ) : Type 0 where
-  pub span : LineSpan
-  pub is : lineAt text (place p) ≡ Is span
-  pub told : Told text p span
-
-told-by : (text : List ℕ) (p : ℕ) (l : Line) (ls : List Line) → linesAt text p ≡ l ∷ ls → Rising 0 (l ∷ ls) → LineTold text p
-told-by text p l ls q r =
-    let k = cut text p q in
-    let n = length (leadingDigits (l .bytes)) in
-    let m = length (l .bytes) in
-    let h : n ≤ m = digits-inside (l .bytes) (r .0 .is) in
-    let size : l .start + m - (l .start + n) ≡ m - n = omega arith in
+told-by : {text : List ℕ} {p : ℕ} {span : LineSpan} → Spanned text p span → Told text p span
+told-by {text} {p} {span} s =
     record {
-      span = record {
-        number = lineNumber (leadingValue (l .bytes));
-        place = place (l .start);
-        body = place (l .start + n);
-        end = place (l .start + m);
-        next = place (l .next);
-      };
-      is = rw (q, r .0 .is);
-      told = record {
-        line = l;
-        others = ls;
-        here = q;
-        rest = sym (k .rest);
-        starts = ap place (k .start);
-        next = refl;
-        number = refl;
-        small = r .0 .small;
-        body = rw (size, k .start, q) (sym (part-inside text p n m h (omega arith)) ∙ ap (drop n) (sym (k .bytes)));
-        short = rw (q, length-drop n (l .bytes)) (omega (arith, r .0 .short));
-        low = omega arith;
-        high = omega (arith, k .within, k .inside);
-        onward = k .onward;
-        inside = k .inside;
-      };
+      line = s .line;
+      others = linesAt text (span .next .0);
+      here = s .lines;
+      rest = refl;
+      starts = s .starts;
+      next = s .next;
+      number = s .number;
+      small = s .sound .small;
+      body = rw (s .lines) (s .bytes);
+      short = rw (s .lines, length-drop (length (leadingDigits (s .line .bytes))) (s .line .bytes)) (omega (arith, s .sound .short));
+      low = s .low;
+      high = s .high;
+      onward = s .onward;
+      inside = s .inside;
     }
 
 -- the last of its lines rise
 pub reaches-rising : {text : List ℕ} {p : ℕ} → Reaches text p → loadOf text ≡ Fine → Rising 0 (linesAt text p)
 reaches-rising {text} w fine = rising-suffix 0 (w .before, sym (w .all)) (recipe text fine .rising)
 
-pub line-told : {text : List ℕ} {p : ℕ} → Begins text p → loadOf text ≡ Fine → LineTold text p
-line-told {text} {p} b fine =
-    told-by text p (b .first) (b .others) (b .here) (rw (b .here) at (reaches-rising (reaches-line b) fine))
-
--- so what is found there is its span
+-- what is found where one begins is its span
 pub told-as : {text : List ℕ} {p : ℕ} → Begins text p → loadOf text ≡ Fine → {span : LineSpan} → lineAt text (place p) ≡ Is span
     → Told text p span
-told-as b fine {span} e =
-    let t = line-told b fine in
-    let f : t .span ≡ span = cc (t .is) in
-    rw (← f) (t .told)
+told-as {text} {p} b fine e = told-by (spanned-as text p (reaches-rising (reaches-line b) fine) e)
 
 -- where one is found one begins,
 some-first : (text : List ℕ) (p : ℕ) (ls : List Line) → linesAt text p ≡ ls → Reaches text p → {span : LineSpan} → firstOf ls ≡ Is span
@@ -162,12 +124,12 @@ pub reached-some : {text : List ℕ} {p : ℕ} → Reaches text p → {span : Li
 reached-some {text} {p} w e = some-first text p (linesAt text p) refl w e
 
 -- and where none is, none is left
-none-first : (ls : List Line) → Rising 0 ls → firstOf ls ≡ None → ls ≡ []
-none-first [] r e = refl
-none-first (l ∷ ls) r e = let f = rw (r .0 .is) at e in never (cc)
-
 pub reached-none : {text : List ℕ} {p : ℕ} → Reaches text p → loadOf text ≡ Fine → lineAt text (place p) ≡ None → linesAt text p ≡ []
-reached-none {text} {p} w fine e = none-first (linesAt text p) (reaches-rising w fine) e
+reached-none {text} {p} w fine e = none-left (linesAt text p) (reaches-rising w fine) e
+
+-- so one is found where one begins
+pub none-here : {text : List ℕ} {p : ℕ} → Begins text p → loadOf text ≡ Fine → {P : Type 0} → lineAt text (place p) ≡ None → P
+none-here b fine e = absurd (cons-ne-nil _ _ (sym (b .here) ∙ reached-none (reaches-line b) fine e))
 
 -- ---- the line with a number
 

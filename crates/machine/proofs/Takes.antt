@@ -27,18 +27,18 @@ module _ (input : List ℕ) (p : ℕ) where
 
   -- some are
   module _ {e : Extent} (h : p < length input) (q : e ≡ extentAt p (drop p input)) where
-    taken-some : takenAt input p ≡ cond (ltb longestInputLine (e .end - p)) (Fault LineBufferOverflow) (Is e)
+    taken-some : takenAt input p ≡ cond (ltb longestInputLine (e .end .0 - p)) (Fault LineBufferOverflow) (Is e)
     taken-some =
         let w = walked input p h q in
         let s = walked-size input p w in
-        let k : length (passed input p e .bytes) ≡ e .end - p = omega arith in
+        let k : length (passed input p e .bytes) ≡ e .end .0 - p = omega arith in
         rw (w .lines, s, k)
 
-    pub taken-long : longestInputLine < e .end - p → takenAt input p ≡ Fault LineBufferOverflow
-    taken-long b = taken-some ∙ rw (lt-ltb longestInputLine (e .end - p) b)
+    pub taken-long : longestInputLine < e .end .0 - p → takenAt input p ≡ Fault LineBufferOverflow
+    taken-long b = taken-some ∙ rw (lt-ltb longestInputLine (e .end .0 - p) b)
 
-    pub taken-line : e .end - p ≤ longestInputLine → takenAt input p ≡ Is e
-    taken-line b = taken-some ∙ rw (le-ltb longestInputLine (e .end - p) b)
+    pub taken-line : e .end .0 - p ≤ longestInputLine → takenAt input p ≡ Is e
+    taken-line b = taken-some ∙ rw (le-ltb longestInputLine (e .end .0 - p) b)
 
   -- ---- what was taken tells
 
@@ -46,19 +46,19 @@ module _ (input : List ℕ) (p : ℕ) where
   pub record Took (e : Extent) : Type 0 where
     pub some : p < length input
     pub is : e ≡ extentAt p (drop p input)
-    pub low : p ≤ e .end
-    pub inside : e .end ≤ length input
-    pub short : e .end - p ≤ longestInputLine
+    pub low : p ≤ e .end .0
+    pub inside : e .end .0 ≤ length input
+    pub short : e .end .0 - p ≤ longestInputLine
 
   pub took : {e : Extent} → takenAt input p ≡ Is e → Took e
   took {e} t =
       ⊎-elim
       (λ h.
       let x = extentAt p (drop p input) in
-      by-test (ltb longestInputLine (x .end - p))
-      (λ b. let f = taken-long h refl (ltb-true longestInputLine (x .end - p) b) in never (cc))
+      by-test (ltb longestInputLine (x .end .0 - p))
+      (λ b. let f = taken-long h refl (ltb-true longestInputLine (x .end .0 - p) b) in never (cc))
       (λ b.
-      let s = ltb-false longestInputLine (x .end - p) b in
+      let s = ltb-false longestInputLine (x .end .0 - p) b in
       let f = taken-line {e = x} h refl s in
       let g : e ≡ x = cc in
       let w = walked input p h g in
@@ -68,18 +68,18 @@ module _ (input : List ℕ) (p : ℕ) where
 
   -- or why there is none
   pub untaken : (P : Error → Type 0) {x : Error} → takenAt input p ≡ Fault x → (length input ≤ p → P InputPastEnd)
-      → (p < length input → longestInputLine < extentAt p (drop p input) .end - p → P LineBufferOverflow) → P x
+      → (p < length input → longestInputLine < extentAt p (drop p input) .end .0 - p → P LineBufferOverflow) → P x
   untaken P {x} t none long =
       ⊎-elim
       (λ h.
       let w = extentAt p (drop p input) in
-      by-test (ltb longestInputLine (w .end - p))
+      by-test (ltb longestInputLine (w .end .0 - p))
       (λ b.
-      let s = ltb-true longestInputLine (w .end - p) b in
+      let s = ltb-true longestInputLine (w .end .0 - p) b in
       let f = taken-long {e = w} h refl s in
       let g : x ≡ LineBufferOverflow = cc in rw g (long h s))
       (λ b.
-      let f = taken-line {e = w} h refl (ltb-false longestInputLine (w .end - p) b) in
+      let f = taken-line {e = w} h refl (ltb-false longestInputLine (w .end .0 - p) b) in
       never (cc)))
       (λ h. let f = taken-none h in let g : x ≡ InputPastEnd = cc in rw g (none h))
       (less p (length input))

@@ -44,7 +44,7 @@ pub struct Sought {
 }
 
 impl Sought {
-    const NONE: u8 = 0;
+    pub const NONE: u8 = 0;
 
     const NEAREST_CALL: u8 = 1;
 

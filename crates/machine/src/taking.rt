@@ -5,6 +5,7 @@ use crate::state::Machine;
 use loader::Extent;
 use loader::extent_at;
 use whole::Error;
+use words::Place;
 
 // How far a line of the input goes, or why none is taken.
 pub enum InputLine {
@@ -19,8 +20,8 @@ pub fn take_line(input: &[u8], from: usize) -> InputLine
     if input.len() <= from {
         return InputLine::Fault(Error::InputPastEnd);
     }
-    let extent = extent_at(input, from);
-    let end = extent.end;
+    let extent = extent_at(input, Place(from));
+    let end = extent.end.0;
     if Machine::LONGEST_INPUT_LINE < end - from {
         return InputLine::Fault(Error::LineBufferOverflow);
     }

@@ -6,10 +6,12 @@ pub mod Words
 pub mod Scanner
 pub mod Loader
 pub mod Grammar
+pub mod Skimming
 pub mod Expressions
 pub mod Statements
 pub mod Reader
 pub mod Checker
+pub mod Rows
 pub mod Space
 pub mod Variables
 pub mod Strings

@@ -1,19 +1,20 @@
 -- The end of a run: what is answered and left in memory, where the code's machine is the definition's.
 use mathlib.Core.Path.{_≡_, refl, sym, ap, ap₂, _∙_}
-use mathlib.Core.Bool.{false}
+use mathlib.Core.Bool.{true, false, false≢true}
 use mathlib.Core.List.{List, _++_}
-use Prim.Native.Nat.{ℕ, _-_, _≤_, _<_}
+use Prim.Native.Nat.{ℕ, _-_, _≤_}
 use native.Mathlib.Omega.{arith}
-use borrow.Author.Tests.{lt-ltb, le-ltb}
+use borrow.Author.Tests.{le-ltb, ltb-false}
+use lib.Dec.{ltb}
 use lib.ListN.{length, drop, replicate, take-append-drop}
 use lib.Seq.{length-take-le}
 use Rattle.space.specs.Moves.{cleared}
-use Rattle.words.specs.Places.{place}
 use Rattle.words.specs.declared.places.Place.{Place}
+use Rattle.words.proofs.Choices.{by-test}
 use Rattle.loader.specs.Loading.{loadOf}
+use Rattle.loader.specs.declared.loading.Loaded.{Loaded}
 use Rattle.loader.specs.declared.loading.Loaded.the-variants as loaded
 use Rattle.loader.specs.declared.refusals.Refusal.{Refusal}
-use Rattle.loader.specs.declared.refusals.Refusal.the-variants.{SpaceTooLong}
 use Rattle.variables.specs.Variables.{stringBytes, joinedStrings}
 use Rattle.variables.specs.bridge.Memory.{stringsHeld}
 use Rattle.variables.specs.declared.tables.Tables.{Tables}
@@ -27,7 +28,8 @@ use Rattle.machine.specs.declared.state.Machine.{Machine}
 use Rattle.machine.specs.declared.records.Record.{Record}
 use Rattle.runner.specs.Run as run
 use Rattle.runner.specs.Run.{endsWith, isRefused, tablesOf, answerOf, spaceAfter, roomAfter, runOf}
-use Rattle.runner.specs.bridge.Standings.{runIn, endedAs, RanAs, refusedAs}
+use Rattle.runner.specs.bridge.Endings.{runIn, endedAs, RanAs, refusedAs, beforeOf}
+use Rattle.runner.specs.declared.running.Before.{Before}
 use Rattle.runner.specs.declared.running.Outcome.{Outcome}
 use Rattle.runner.specs.declared.running.Outcome.the-variants.{Refused}
 use Rattle.runner.specs.declared.running.Ran.{Ran}
@@ -73,6 +75,16 @@ module _ {text : List ℕ} {rs : List Record} {m : Machine} {input space room : 
 
 -- ---- the whole run
 
+-- what is not refused loads
+fine-by : (n : ℕ) (l : Loaded) → beforeOf n l .fine ≡ true → (l ≡ loaded.Fine) × (n ≤ longestSpace)
+fine-by n loaded.Fine f = by-test (ltb longestSpace n) (λ t. absurd (false≢true (rw t at f))) (λ t. (refl, ltb-false longestSpace n t))
+fine-by n (loaded.Refused x p) f =
+    by-test (ltb longestSpace n) (λ t. absurd (false≢true (rw t at f))) (λ t. absurd (false≢true (rw t at f)))
+
+pub before-fine : (text space : List ℕ) {b : Before} → b ≡ beforeOf (length space) (loadOf text) → b .fine ≡ true
+    → (loadOf text ≡ loaded.Fine) × (length space ≤ longestSpace)
+before-fine text space is f = fine-by (length space) (loadOf text) (rw is at f)
+
 -- what holds of an answer, and of the memory after it
 abbrev Met : run.Ran → Tables → List ℕ → List ℕ → Ran → List ℕ → List ℕ → Type 0
 Met ran tables space room r space′ room′ = (r ≡ answerOf ran tables) × ((space′ ≡ spaceAfter ran space) × (room′ ≡ roomAfter ran room))
@@ -81,24 +93,26 @@ module _ (text input space room : List ℕ) (budget : ℕ) (tables : Tables) whe
   abbrev whole : run.Ran
   whole = runOf text input (lentBy space room) budget
 
-  left : {f : Refusal} {p : Place} → whole ≡ endsWith (Refused f p) (spec.fresh input (lentBy space room))
+  refused-as : {f : Refusal} {p : Place} → whole ≡ endsWith (Refused f p) (spec.fresh input (lentBy space room))
       → {r : Ran} → r ≡ refusedAs f p tables → Met whole tables space room r space room
-  left e a = rw e (a, (refl, refl))
+  refused-as e a = rw e (a, (refl, refl))
 
-  -- the space is too long,
-  pub run-long : longestSpace < length space → {r : Ran} → r ≡ refusedAs SpaceTooLong (place 0) tables → Met whole tables space room r space room
+  refused-by : (l : Loaded) → loadOf text ≡ l → beforeOf (length space) l .fine ≡ false
+      → {r : Ran} → r ≡ refusedAs (beforeOf (length space) l .refusal) (beforeOf (length space) l .place) tables → Met whole tables space room r space room
   unfolding runOf
-  run-long h a = left (rw (lt-ltb longestSpace (length space) h)) a
+  refused-by loaded.Fine e f a =
+      by-test (ltb longestSpace (length space)) (λ t. refused-as (rw t) (rw t at a)) (λ t. absurd (false≢true (sym (rw t at f))))
+  refused-by (loaded.Refused x p) e f a =
+      by-test (ltb longestSpace (length space)) (λ t. refused-as (rw t) (rw t at a)) (λ t. refused-as (rw (t, e)) (rw t at a))
 
-  module _ (h : length space ≤ longestSpace) where
-    -- the text is refused,
-    pub run-refused : {f : Refusal} {p : Place} → loadOf text ≡ loaded.Refused f p → {r : Ran} → r ≡ refusedAs f p tables
-        → Met whole tables space room r space room
-    unfolding runOf
-    run-refused e a = left (rw (le-ltb longestSpace (length space) h, e)) a
+  module _ {b : Before} (is : b ≡ beforeOf (length space) (loadOf text)) where
+    -- what is refused is answered so,
+    pub run-refused : b .fine ≡ false → {r : Ran} → r ≡ refusedAs (b .refusal) (b .place) tables → Met whole tables space room r space room
+    run-refused f a = refused-by (loadOf text) refl (rw is at f) (rw is at a)
 
-    -- or it loads
-    pub run-fine : loadOf text ≡ loaded.Fine → {r : Ran} {space′ room′ : List ℕ} → RanAs (runIn text input (lentBy space room) budget) space room r space′ room′
+    -- and all else is run
+    pub run-fine : b .fine ≡ true → {r : Ran} {space′ room′ : List ℕ} → RanAs (runIn text input (lentBy space room) budget) space room r space′ room′
         → Met whole tables space room r space′ room′
     unfolding runOf
-    run-fine e a = rw (le-ltb longestSpace (length space) h, e) (a .answers tables, (a .spaced, a .roomy))
+    run-fine f a =
+        let e = before-fine text space is f in rw (le-ltb longestSpace (length space) (e .1), e .0) (a .answers tables, (a .spaced, a .roomy))

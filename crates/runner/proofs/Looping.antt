@@ -1,37 +1,40 @@
 -- The run's loop: what holds at each of its turns, that a turn keeps it, and what it gives at the end.
 use mathlib.Core.Path.{_≡_, refl, sym, ap, _∙_}
-use mathlib.Core.Bool.{false}
+use mathlib.Core.Bool.{true, false, false≢true}
 use mathlib.Core.List.{List}
 use Prim.Native.Nat.{ℕ, zero, suc, _+_, _-_, _≤_, _<_}
 use native.Mathlib.Omega.{arith}
+use borrow.Author.Tests.{ltb-true, ltb-false}
 use lib.ListN.{length, drop, set, replicate, length-set, length-replicate}
 use lib.Seq.{drop-drop}
-use Rattle.words.specs.declared.places.Place.{Place}
-use Rattle.loader.specs.Lines.{Line}
-use Rattle.loader.specs.declared.lines.LineSpan.{LineSpan}
+use Rattle.loader.specs.Lines.{Line, linesOf}
 use Rattle.grammar.specs.Trees.{Part}
 use Rattle.space.specs.Moves.{cleared}
-use Rattle.variables.proofs.Holding.{empty-numbers, empty-strings, empty-numbers-held, empty-strings-held, empty-sum}
-use Rattle.machine.specs.Machine.{lentBy, mostRecords}
-use Rattle.statements.specs.Parts.{placeOf, headOf, tailOf}
 use Rattle.variables.specs.Strings.{longestSpace}
+use Rattle.variables.proofs.Holding.{empty-numbers, empty-strings, empty-numbers-held, empty-strings-held, empty-sum}
+use Rattle.rows.specs.bridge.Rows.{spanIn, Tabled}
+use Rattle.rows.proofs.Ordering.{row-lines}
+use Rattle.machine.specs.Machine.{lentBy, mostRecords}
 use Rattle.machine.specs.Machine as spec
 use Rattle.machine.specs.bridge.Holding.{linesAt, blankRecord, freshMachine, Sound, Same}
-use Rattle.machine.specs.declared.state.Machine.{Machine}
-use Rattle.machine.specs.declared.positions.Turned.{Turned}
 use Rattle.machine.specs.declared.records.Record.{Record}
+use Rattle.machine.specs.declared.records.Sought.{Sought}
 use Rattle.machine.proofs.Stacking.{records-none}
-use Rattle.turns.specs.Steps.{doStatement}
 use Rattle.runner.specs.Run as run
 use Rattle.runner.specs.Run.{finished, endsWith, running, entering, lineNumberOf, isRefused}
-use Rattle.runner.specs.bridge.Standings.{OverAs, AtAs, StandsAs, GoesTo, nextOf, Turnable, TurnAs, runIn, endedAs, RanAs}
-use Rattle.runner.specs.declared.running.Outcome.{Outcome}
+use Rattle.runner.specs.bridge.Standings.{AtAs, StandsAs, Rowed, StandsIn}
+use Rattle.runner.specs.bridge.Acting.{goesOf, StandsAt, LooksUp, Ready, Acts, ActsAt}
+use Rattle.runner.specs.bridge.Endings.{runIn, outcomeOf, endedAs, RanAs}
+use Rattle.runner.specs.declared.going.Acted.{Acted}
+use Rattle.runner.specs.declared.going.Asked.{Asked}
+use Rattle.runner.specs.declared.going.Going.{Going}
+use Rattle.runner.specs.declared.going.Lookup.{Lookup}
 use Rattle.runner.specs.declared.running.Outcome.the-variants.{Out}
 use Rattle.runner.specs.declared.running.Ran.{Ran}
-use Rattle.runner.specs.declared.running.Standing.{Standing}
-use Rattle.runner.specs.declared.running.Standing.the-variants as standing
-use Rattle.runner.proofs.Entering.{told-number}
-use Rattle.runner.proofs.Turning.{stood-told, Came, came}
+use Rattle.runner.specs.declared.standing.Standing.{Standing}
+use Rattle.runner.specs.declared.standing.Standing.the-variants as standing
+use Rattle.runner.proofs.Entering.{row-numbered}
+use Rattle.runner.proofs.Turning.{looked-below}
 use Rattle.runner.proofs.Finishing.{ran-as}
 
 -- ---- the definition's run
@@ -57,19 +60,21 @@ running-turn k l text z m ls p e = rw (z, e)
 -- ---- what the loop keeps
 
 -- the code's machine and standing are a definition's, from which what is left of the run comes to the same
-pub record Kept (text input space₀ room₀ : List ℕ) (budget : ℕ) (space room : List ℕ) (m : Machine) (rs : List Record) (s : Standing) : Type 0 where
-  pub sound : Sound m input space room
+pub record Kept (text rows input space₀ room₀ : List ℕ) (budget : ℕ) (space room : List ℕ) (g : Going) (rs : List Record) : Type 0 where
+  pub sound : Sound (g .machine) input space room
   pub spaceLong : length space ≡ length space₀
   pub roomLong : length room ≡ length room₀
-  pub beyond : drop (m .printer .written) room ≡ drop (m .printer .written) room₀
+  -- output beyond the bytes written is unchanged
+  pub beyond : drop (g .machine .printer .written) room ≡ drop (g .machine .printer .written) room₀
   pub slots : length rs ≡ mostRecords
-  pub within : m .steps ≤ budget
+  pub within : g .machine .steps ≤ budget
+  pub rowed : Rowed rows (g .standing)
   -- the definition's machine, and where its run stands
   pub machine : spec.Machine
-  pub same : Same text rs m input space room machine
+  pub same : Same text rs (g .machine) input space room machine
   pub place : run.Standing
-  pub stands : StandsAs text s machine place
-  pub comes : running (budget - m .steps) text place ≡ runIn text input (lentBy space₀ room₀) budget
+  pub stands : StandsAs text rows (g .standing) machine place
+  pub comes : running (budget - g .machine .steps) text place ≡ runIn text input (lentBy space₀ room₀) budget
 
 -- it holds at the start
 module _ (text input space room : List ℕ) (small : length space ≤ longestSpace) where
@@ -97,24 +102,24 @@ module _ (text input space room : List ℕ) (small : length space ≤ longestSpa
         placed = λ i h. absurd (omega arith);
       }
 
-  pub kept-fresh : (budget : ℕ) {m : Machine} {rs : List Record} (s : Standing) → m ≡ freshMachine → rs ≡ replicate mostRecords blankRecord
-      → ((n : spec.Machine) → StandsAs text s n (entering n (linesAt text 0)))
-      → Kept text input space room budget space room m rs s
-  kept-fresh budget {m} {rs} s e f stands =
-      rw e
-      (record {
-        sound = fresh-sound;
+  pub kept-fresh : (budget : ℕ) {rows : List ℕ} {g : Going} {rs : List Record} → Tabled text rows → rs ≡ replicate mostRecords blankRecord
+      → (g .machine ≡ freshMachine) × StandsIn rows (g .standing) (λ x. Unit {0}) (λ x n. entering n (linesOf x))
+      → Kept text rows input space room budget space room g rs
+  kept-fresh budget {rows} {g} {rs} t f e =
+      record {
+        sound = rw (e .0) fresh-sound;
         spaceLong = refl;
         roomLong = refl;
         beyond = refl;
         slots = rw f (length-replicate mostRecords blankRecord);
-        within = omega arith;
+        within = rw (e .0) (omega arith);
+        rowed = e .1 .rowed;
         machine = spec.fresh input (lentBy space room);
-        same = fresh-same rs;
-        place = entering (spec.fresh input (lentBy space room)) (linesAt text 0);
-        stands = stands (spec.fresh input (lentBy space room));
-        comes = let z : budget - 0 ≡ budget = omega arith in rw z;
-      })
+        same = rw (e .0) (fresh-same rs);
+        place = entering (spec.fresh input (lentBy space room)) (linesOf text);
+        stands = e .1 .stands text t tt (spec.fresh input (lentBy space room));
+        comes = let z : budget - 0 ≡ budget = omega arith in rw (e .0, z);
+      }
 
 -- what is dropped twice, further on
 drop-more : (x y : List ℕ) (a b : ℕ) → a ≤ b → drop a x ≡ drop a y → drop b x ≡ drop b y
@@ -122,80 +127,75 @@ drop-more x y a b h e =
     let s : b ≡ a + (b - a) = omega arith in
     rw s (sym (drop-drop (b - a) a x) ∙ ap (drop (b - a)) e ∙ drop-drop (b - a) a y)
 
-module _ {text input space₀ room₀ : List ℕ} {budget : ℕ} {space room : List ℕ} {m : Machine} {rs : List Record} {s : Standing}
-    (k : Kept text input space₀ room₀ budget space room m rs s) where
-  ends-as : (o : Outcome) → isRefused o ≡ false → endsWith o (k .machine) ≡ runIn text input (lentBy space₀ room₀) budget
-      → {r : Ran} {space′ : List ℕ} → r ≡ endedAs o m → space′ ≡ cleared space (m .used)
+-- a run that goes on stands at a statement, and has a step left
+module _ {text rows : List ℕ} (t : Tabled text rows) (m : spec.Machine) (p : run.Standing) {steps budget : ℕ} where
+  goes-at : (s : Standing) → Rowed rows s → StandsAs text rows s m p → goesOf s steps budget ≡ true → StandsAt text rows s × (steps < budget)
+  goes-at (standing.Over o) r w e = absurd (false≢true e)
+  goes-at (standing.At row at) r w e =
+      (record { row = row; at = at; is = refl; here = record { tabled = t; inside = r; stood = w .stood } }, ltb-true steps budget e)
+
+  -- one that does not is over, or has none
+  stays-out : (s : Standing) → Rowed rows s → StandsAs text rows s m p → steps ≤ budget → goesOf s steps budget ≡ false
+      → (isRefused (outcomeOf rows s) ≡ false) × (running (budget - steps) text p ≡ endsWith (outcomeOf rows s) m)
+  stays-out (standing.Over o) r w h e =
+      (w .begun, ap (running (budget - steps) text) (w .is) ∙ running-over (budget - steps) text (endsWith o m))
+  stays-out (standing.At row at) r w h e =
+      let none : budget - steps ≡ 0 = omega (arith, ltb-false steps budget e) in (
+        refl,
+        running-out (budget - steps) text none _ _ _ (w .is)
+            ∙ ap (λ x. endsWith (Out x) m) (ap lineNumberOf (row-lines t (row .0) r) ∙ row-numbered t (row .0) r),
+      )
+
+module _ {text rows input space₀ room₀ : List ℕ} {budget : ℕ} {space room : List ℕ} {g : Going} {rs : List Record}
+    (t : Tabled text rows) (k : Kept text rows input space₀ room₀ budget space room g rs) where
+  -- where no step is made any more, the answer is the run's
+  pub kept-out : goesOf (g .standing) (g .machine .steps) budget ≡ false → {r : Ran} {space′ : List ℕ}
+      → r ≡ endedAs (outcomeOf rows (g .standing)) (g .machine) → space′ ≡ cleared space (g .machine .used)
       → RanAs (runIn text input (lentBy space₀ room₀) budget) space₀ room₀ r space′ room
-  ends-as o f is a b = ran-as (k .sound) (k .same) o f is space₀ room₀ (k .spaceLong) (k .beyond) a b
+  kept-out e a b =
+      let o = stays-out t (k .machine) (k .place) (g .standing) (k .rowed) (k .stands) (k .within) e in
+      ran-as (k .sound) (k .same) (outcomeOf rows (g .standing)) (o .0) (sym (o .1) ∙ k .comes) space₀ room₀ (k .spaceLong) (k .beyond) a b
 
-  -- at the end of the run, the answer is the run's
-  pub kept-over : {o : Outcome} → s ≡ standing.Over o → {r : Ran} {space′ : List ℕ} → r ≡ endedAs o m → space′ ≡ cleared space (m .used)
-      → RanAs (runIn text input (lentBy space₀ room₀) budget) space₀ room₀ r space′ room
-  kept-over {o} e a b =
-      let w : OverAs o (k .machine) (k .place) = rw e at (k .stands) in
-      ends-as o (w .begun) (sym (running-over (budget - m .steps) text (endsWith o (k .machine))) ∙ ap (running (budget - m .steps) text) (sym (w .is)) ∙ k .comes) a b
+  module _ (e : goesOf (g .standing) (g .machine .steps) budget ≡ true) where
+    -- otherwise a statement is done,
+    pub kept-at : StandsAt text rows (g .standing)
+    kept-at = goes-at t (k .machine) (k .place) (g .standing) (k .rowed) (k .stands) e .0
 
-  module _ {span : LineSpan} {at : Place} (e : s ≡ standing.At span at) where
-    here : AtAs text span at (k .machine) (k .place)
-    here = rw e at (k .stands)
+    left : g .machine .steps < budget
+    left = goes-at t (k .machine) (k .place) (g .standing) (k .rowed) (k .stands) e .1
 
-    number : lineNumberOf (linesAt text (span .place .0)) ≡ span .number
-    number = told-number (stood-told (here .stood))
+    pub kept-ready : budget < 4294967296 → {sought : Sought} {lookup : Lookup} → LooksUp sought (g .machine .depth) rs lookup
+        → Ready (g .machine) lookup input space room
+    kept-ready h w = record { below = looked-below w; sound = k .sound; few = omega (arith, left) }
 
-    -- and where no step is left
-    pub kept-out : m .steps ≡ budget → {r : Ran} {space′ : List ℕ} → r ≡ endedAs (Out (span .number)) m → space′ ≡ cleared space (m .used)
-        → RanAs (runIn text input (lentBy space₀ room₀) budget) space₀ room₀ r space′ room
-    kept-out z a b =
-        let none : budget - m .steps ≡ 0 = omega arith in
-        ends-as (Out (span .number)) refl
-        (ap (λ x. endsWith (Out x) (k .machine)) (sym number) ∙ sym (running-out (budget - m .steps) text none _ _ _ (here .is)) ∙ k .comes)
-        a b
+    module _ {asked : Asked} {lookup : Lookup} {r : Acted} {space′ room′ : List ℕ} (acted : ActsAt text rows g asked lookup input space room r space′ room′) where
+      abbrev acts : Acts text rows (kept-at .row .0) (kept-at .at) (g .machine) asked lookup input space room r space′ room′
+      acts = acted .acts (kept-at .row) (kept-at .at) (kept-at .is)
 
-    module _ (left : m .steps ≡ budget → ⊥) where
-      -- otherwise a statement is done,
-      pub kept-turnable : budget < 4294967296 → Turnable text span at m rs input space room
-      kept-turnable h = record { stood = here .stood; slots = k .slots; sound = k .sound; few = omega (arith, k .within) }
+      -- which takes a step,
+      pub kept-less : budget - r .going .machine .steps < budget - g .machine .steps
+      kept-less = omega (arith, left, acts .leaves .steps)
 
-      module _ {r : Turned} {space′ room′ : List ℕ} (t : TurnAs text span at m rs input space room r space′ room′) where
-        done : Came text (r .next)
-            (doStatement text (placeOf (here .stood .reads .of)) (headOf (here .stood .reads .of)) (spec.withStep (k .machine))
-            (record { lines = linesAt text (span .place .0); rest = tailOf (here .stood .reads .of) }))
-            (Same text (set rs (r .slot) (r .held)) (r .machine) input space′ room′)
-        done = came text (r .next) _ _ (t .comes (here .stood) (k .machine) (k .same))
-
-        -- which leads somewhere,
-        pub kept-goes : GoesTo text (r .next)
-        kept-goes = done .goes
-
-        -- takes a step,
-        pub kept-less : budget - r .machine .steps < budget - m .steps
-        kept-less = omega (arith, k .within, t .leaves .steps)
-
-        -- and keeps all
-        pub kept-again : {rs′ : List Record} (s′ : Standing) → rs′ ≡ set rs (r .slot) (r .held)
-            → ((n : spec.Machine) → StandsAs text s′ n (run.following (span .number) (nextOf text (r .next) n)))
-            → Kept text input space₀ room₀ budget space′ room′ (r .machine) rs′ s′
-        kept-again s′ f stands =
-            let d = done in
-            let l = t .leaves in
-            let one : budget - m .steps ≡ suc (budget - r .machine .steps) = omega (arith, k .within, l .steps) in
-            rw f
-            (record {
-              sound = l .sound;
-              spaceLong = l .spaceLong ∙ k .spaceLong;
-              roomLong = l .roomLong ∙ k .roomLong;
-              beyond = l .beyond ∙ drop-more room room₀ _ _ (l .more) (k .beyond);
-              slots = length-set rs (r .slot) (r .held) ∙ k .slots;
-              within = omega (arith, k .within, l .steps);
-              machine = d .machine;
-              same = d .holds;
-              place = run.following (span .number) (nextOf text (r .next) (d .machine));
-              stands = stands (d .machine);
-              comes =
-                  ap (running (budget - r .machine .steps) text)
-                  (ap (λ x. run.following x (nextOf text (r .next) (d .machine))) (sym number)
-                  ∙ ap (run.following (lineNumberOf (linesAt text (span .place .0)))) (sym (d .is)))
-                  ∙ sym (running-turn (budget - m .steps) (budget - r .machine .steps) text one _ _ _ (here .is))
-                  ∙ k .comes;
-            })
+      -- and keeps all
+      pub kept-again : {rs′ : List Record} → LooksUp (asked .sought) (g .machine .depth) rs lookup → rs′ ≡ set rs (r .slot) (r .held)
+          → Kept text rows input space₀ room₀ budget space′ room′ (r .going) rs′
+      kept-again look f =
+          let l = acts .leaves in
+          let w : AtAs text (spanIn rows (kept-at .row .0)) (kept-at .at) (k .machine) (k .place) = rw (kept-at .is) at (k .stands) in
+          let d = acts .went (w .stood) rs (k .slots) look (k .machine) (k .same) in
+          let one : budget - g .machine .steps ≡ suc (budget - r .going .machine .steps) = omega (arith, left, l .steps) in
+          rw f
+          (record {
+            sound = l .sound;
+            spaceLong = l .spaceLong ∙ k .spaceLong;
+            roomLong = l .roomLong ∙ k .roomLong;
+            beyond = l .beyond ∙ drop-more room room₀ _ _ (l .more) (k .beyond);
+            slots = length-set rs (r .slot) (r .held) ∙ k .slots;
+            within = omega (arith, left, l .steps);
+            rowed = acts .rowed;
+            machine = d .machine;
+            same = d .same;
+            place = run.turn text (k .machine) (linesAt text (spanIn rows (kept-at .row .0) .place .0)) (w .stood .reads .of);
+            stands = d .stands;
+            comes = sym (running-turn (budget - g .machine .steps) (budget - r .going .machine .steps) text one _ _ _ (w .is)) ∙ k .comes;
+          })

@@ -1,37 +1,57 @@
--- One turn: the machine that a statement begins with, the statement that is done, and where it leads.
-use mathlib.Core.Path.{_≡_, refl, sym, ap, _∙_}
-use mathlib.Core.Bool.{true}
+-- One turn: the machine that a statement begins with, the record that it asked for, the statement that is done, and where it leads.
+use mathlib.Core.Path.{_≡_, refl, ap, sym, subst, _∙_}
+use mathlib.Core.Bool.{true, false}
 use mathlib.Core.List.{List}
-use Prim.Native.Nat.{ℕ, _-_}
+use Prim.Native.Nat.{ℕ}
 use native.Mathlib.Omega.{arith}
-use lib.ListN.{take, drop}
+use borrow.Author.Tests.{eqb-true, ltb-false, not-false}
+use lib.Dec.{eqb}
+use lib.ListN.{length, getD, set, List·getD-eq-default}
+use Rattle.whole.proofs.Never.{never}
 use Rattle.words.specs.declared.places.Place.{Place}
 use Rattle.words.specs.declared.symbols.Scanned.{Scanned}
+use Rattle.scanner.specs.Tokens.{tokenAt}
 use Rattle.loader.specs.declared.lines.LineSpan.{LineSpan}
 use Rattle.grammar.specs.Trees.{Part}
 use Rattle.statements.specs.Statements.{leadOf, begunBy, goodPart, partOf}
-use Rattle.statements.specs.Parts.{headOf, tailOf, placeOf}
-use Rattle.machine.specs.Machine as spec
-use Rattle.machine.specs.bridge.Holding.{linesAt, Parted, Sound, Same}
-use Rattle.machine.specs.bridge.Wanted.{foundIn, entryAt}
-use Rattle.scanner.specs.Tokens.{tokenAt}
 use Rattle.statements.specs.declared.leading.Lead.{Lead}
+use Rattle.statements.specs.Parts.{headOf, tailOf, placeOf}
+use Rattle.rows.specs.bridge.Rows.{spanIn, Tabled}
+use Rattle.rows.specs.declared.cells.Row.{Row}
+use Rattle.rows.proofs.Ordering.{row-lines}
+use Rattle.machine.specs.Machine as spec
+use Rattle.machine.specs.Machine.{mostRecords}
+use Rattle.machine.specs.bridge.Holding.{linesAt, blankRecord, Parted, Sound, Same}
+use Rattle.machine.specs.bridge.Wanted.{foundIn, entryAt}
 use Rattle.machine.specs.bridge.Seeking.{soughtBy, Seeks}
-use Rattle.machine.proofs.Seeking.{part-seeks}
 use Rattle.machine.specs.declared.state.Machine.{Machine}
 use Rattle.machine.specs.declared.positions.Next.{Next}
 use Rattle.machine.specs.declared.positions.Next.the-variants as next
 use Rattle.machine.specs.declared.positions.Turned.{Turned}
 use Rattle.machine.specs.declared.records.Record.{Record}
 use Rattle.machine.specs.declared.records.Found.{Found}
+use Rattle.machine.specs.declared.records.Found.the-variants as found
 use Rattle.machine.specs.declared.records.Sought.{Sought}
-use Rattle.machine.proofs.Standing as standing
+use Rattle.machine.proofs.Searching.{nothing-found}
+use Rattle.machine.proofs.Stacking.{records-past}
+use Rattle.machine.proofs.Seeking.{part-seeks}
+use Rattle.machine.proofs.Standing as told
 use Rattle.machine.proofs.Standing.{told-as}
 use Rattle.turns.specs.Steps as step
 use Rattle.turns.specs.Steps.{doStatement}
-use Rattle.turns.specs.bridge.Turns.{Comes, Turns, Told, FoundBelow, Standing}
+use Rattle.turns.specs.bridge.Turns.{turnedTo, Comes, Leaves, Turns, Told, FoundBelow, Standing}
 use Rattle.control.proofs.Jumps.{found-low}
-use Rattle.runner.specs.bridge.Standings.{GoesTo, nextOf, stepped, Stood, Turnable, TurnAs}
+use Rattle.runner.specs.Run as run
+use Rattle.runner.specs.bridge.Standings.{lineIn, Stood, StandsAs, StandsIn, GoesTo, nextOf}
+use Rattle.runner.specs.bridge.Acting.{At, StandsAt, Asks, AsksAt, seeksOne, slotOf, noLookup, LooksUp, stepped, Ready, Acts, ActsAt, leavesOne}
+use Rattle.runner.specs.declared.going.Acted.{Acted}
+use Rattle.runner.specs.declared.going.Asked.{Asked}
+use Rattle.runner.specs.declared.going.Going.{Going}
+use Rattle.runner.specs.declared.going.Lookup.{Lookup}
+use Rattle.runner.specs.declared.running.Outcome.{Outcome}
+use Rattle.runner.specs.declared.standing.Standing as code
+use Rattle.runner.specs.declared.standing.Standing.the-variants as standing
+use Rattle.runner.proofs.Entering.{row-numbered}
 
 -- ---- one step more changes nothing else
 
@@ -68,12 +88,8 @@ same-stepped s =
 
 -- ---- the statement
 
--- the bytes after the number of a line
-abbrev pub lineIn : List ℕ → LineSpan → List ℕ
-lineIn text span = take (span .end .0 - span .body .0) (drop (span .body .0) text)
-
 module _ {text : List ℕ} {span : LineSpan} {at : Place} (w : Stood text span at) where
-  pub stood-told : standing.Told text (span .place .0) span
+  pub stood-told : told.Told text (span .place .0) span
   stood-told = told-as (w .begins) (w .loads) (w .spans)
 
   pub stood-line : Standing text (lineIn text span) (span .place)
@@ -85,36 +101,13 @@ module _ {text : List ℕ} {span : LineSpan} {at : Place} (w : Stood text span a
   stood-reads = rw (stood-told .body) (w .reads .is)
 
   pub stood-parted : Parted (lineIn text span) (at .0)
-  stood-parted = record { of = w .reads .of; end = w .reads .end; is = stood-reads }
+  stood-parted = record { of = w .reads .of; end = w .reads .end; is = stood-reads; shallow = w .reads .shallow }
 
-module _ {text : List ℕ} {span : LineSpan} {at : Place} {m : Machine} {rs : List Record} {input space room : List ℕ} (pre : Turnable text span at m rs input space room) where
-  -- what the statement asks of the caller
-  pub turn-begins : (k : Sought) {slot : Found} {l : Lead} → slot ≡ foundIn k rs (m .depth)
-      → l ≡ leadOf (lineIn text span) true (tokenAt (lineIn text span) at)
-      → Standing text (lineIn text span) (span .place)
-      × (Parted (lineIn text span) (at .0)
-      × (Sound (stepped m) input space room × (FoundBelow (m .depth) slot × (l ≡ leadOf (lineIn text span) true (tokenAt (lineIn text span) at)))))
-  turn-begins k e led =
-      (stood-line (pre .stood), (stood-parted (pre .stood), (sound-stepped (pre .sound), (rw e (found-low k rs (m .depth)), led))))
-
-  -- and what it does, with the record that it asked for
-  pub turn-made : (k : Sought) {slot : Found} {entry : Record} {r : Turned} {space′ room′ : List ℕ} {l : Lead}
-      → l ≡ leadOf (lineIn text span) true (tokenAt (lineIn text span) at) → Seeks k (begunBy (lineIn text span) l)
-      → slot ≡ foundIn k rs (m .depth)
-      → entry ≡ entryAt slot rs
-      → ((p : Part) (end : Scanned) → partOf (lineIn text span) true (at .0) ≡ goodPart p end
-      → Turns text (stepped m) input space room (Told (soughtBy (headOf p)) (m .depth) slot entry)
-      (λ n. doStatement text (placeOf p) (headOf p) n (record { lines = linesAt text (span .place .0); rest = tailOf p })) r space′ room′)
-      → TurnAs text span at m rs input space room r space′ room′
-  turn-made k led seeks finds entry does =
-      record {
-        leaves = does _ _ (stood-reads (pre .stood)) .leaves;
-        comes = λ w n s.
-            let p = stood-reads w in
-            does _ _ p .comes rs (pre .slots)
-            (record { at = finds ∙ ap (λ x. foundIn x rs (m .depth)) (part-seeks (lineIn text span) (at .0) led seeks _ _ p); is = entry })
-            (spec.withStep n) (same-stepped s);
-      }
+-- what was left of a machine
+leaves-as : {m : Machine} {input space room : List ℕ} {r : Turned} {space′ room′ : List ℕ} → Leaves m input space room r space′ room′
+    → Leaves m input space room (turnedTo (r .machine) next.Ends) space′ room′
+leaves-as l =
+    record { sound = l .sound; spaceLong = l .spaceLong; roomLong = l .roomLong; steps = l .steps; more = l .more; beyond = l .beyond }
 
 -- ---- where a statement leads
 
@@ -151,3 +144,93 @@ came text (next.Fails e) (step.enters m ls) P h = absurd h
 came text (next.Fails e) (step.ends m) P h = absurd h
 came text (next.Fails e) (step.stops m) P h = absurd h
 came text (next.Fails e) (step.fails f m) P h = record { machine = m; holds = h .1; is = ap (λ x. step.fails x m) (sym (h .0)); goes = tt }
+
+-- ---- the record that was looked up
+
+-- one that was found lies below the depth
+pub looked-below : {k : Sought} {d : ℕ} {rs : List Record} {l : Lookup} → LooksUp k d rs l → FoundBelow d (l .found)
+looked-below {k} {d} {rs} w = rw (w .found) (found-low k rs d)
+
+-- where none is asked for, none is found
+pub looked-none : (asked : Asked) (d : ℕ) (rs : List Record) {l : Lookup} → seeksOne asked ≡ false → l ≡ noLookup → LooksUp (asked .sought) d rs l
+looked-none asked d rs z e =
+    let k : asked .sought .kind ≡ 0 = eqb-true _ _ (not-false (eqb (asked .sought .kind) 0) z) in
+    rw e (record { found = nothing-found (asked .sought) rs d k; entry = refl })
+
+-- what stands at the slot that was found is what was found
+pub looked-at : (f : Found) (rs : List Record) → length rs ≡ mostRecords → getD rs (slotOf f) blankRecord ≡ entryAt f rs
+looked-at (found.At i) rs h = refl
+looked-at found.None rs h = List·getD-eq-default rs blankRecord (omega arith)
+
+-- where none is left, none is written
+pub left-none : (r : Acted) (rs : List Record) → length rs ≡ mostRecords → leavesOne r ≡ false → rs ≡ set rs (r .slot) (r .held)
+left-none r rs h e = sym (records-past rs (r .slot) (r .held) (omega (arith, ltb-false (r .slot) mostRecords e)))
+
+-- ---- a turn
+
+-- one that is over stands at none
+pub not-over : {P : Type 0} {s : code.Standing} {o : Outcome} {row : Row} {at : Place} → s ≡ standing.Over o → s ≡ standing.At row at → P
+not-over e f = never (cc)
+
+-- the statement that a run stands at
+pub stands-here : {text rows : List ℕ} {s : code.Standing} {row : Row} {at : Place} → StandsAt text rows s → s ≡ standing.At row at → At text rows (row .0) at
+stands-here {row = row} {at = at} w e =
+    let a : w .row ≡ row = cc (w .is) in let b : w .at ≡ at = cc (w .is) in rw (a, b) at (w .here)
+
+-- asks as it is led,
+pub asks-made : {text rows : List ℕ} {s : code.Standing} {row : Row} {at : Place} {span : LineSpan} {lead : Lead} {sought : Sought}
+    → s ≡ standing.At row at → span ≡ spanIn rows (row .0) → lead ≡ leadOf (lineIn text span) true (tokenAt (lineIn text span) at)
+    → Seeks sought (begunBy (lineIn text span) lead) → AsksAt text rows s (record { lead = lead; sought = sought })
+asks-made {text} {row = row} {at = at} {span = span} {lead = lead} {sought = sought} e f led seeks =
+    let r : Asks (lineIn text span) at (record { lead = lead; sought = sought }) = record { led = led; seeks = seeks } in
+    record { asks = λ row′ at′ e′. let a : row ≡ row′ = cc in let b : at ≡ at′ = cc in rw (f, a, b) at r }
+
+-- and acts
+pub acts-at : {text rows : List ℕ} {g : Going} {asked : Asked} {lookup : Lookup} {input space room : List ℕ} {r : Acted} {space′ room′ : List ℕ} {row : Row} {at : Place}
+    → g .standing ≡ standing.At row at → Acts text rows (row .0) at (g .machine) asked lookup input space room r space′ room′
+    → ActsAt text rows g asked lookup input space room r space′ room′
+acts-at {row = row} {at = at} e a =
+    record { acts = λ row′ at′ e′. let x : row ≡ row′ = cc in let y : at ≡ at′ = cc in rw (x, y) at a }
+
+module _ {text rows : List ℕ} {row : ℕ} {at : Place} {m : Machine} {asked : Asked} {lookup : Lookup} {input space room : List ℕ}
+    (here : At text rows row at) (asks : Asks (lineIn text (spanIn rows row)) at asked) (ready : Ready m lookup input space room) where
+  -- what the statement asks of the caller
+  pub acts-begins : Standing text (lineIn text (spanIn rows row)) (spanIn rows row .place)
+      × (Parted (lineIn text (spanIn rows row)) (at .0)
+      × (Sound (stepped m) input space room
+      × (FoundBelow (m .depth) (lookup .found)
+      × ((asked .lead ≡ leadOf (lineIn text (spanIn rows row)) true (tokenAt (lineIn text (spanIn rows row)) at)) × Tabled text rows))))
+  acts-begins =
+      (stood-line (here .stood), (stood-parted (here .stood), (sound-stepped (ready .sound), (ready .below, (asks .led, here .tabled)))))
+
+  -- and what it does
+  pub acts-made : {turned : Turned} {s : code.Standing} {space′ room′ : List ℕ}
+      → ((p : Part) (end : Scanned) → partOf (lineIn text (spanIn rows row)) true (at .0) ≡ goodPart p end
+      → Turns text (stepped m) input space room (Told (soughtBy (headOf p)) (m .depth) (lookup .found) (lookup .entry))
+      (λ n. doStatement text (placeOf p) (headOf p) n (record { lines = linesAt text (spanIn rows row .place .0); rest = tailOf p })) turned space′ room′)
+      → StandsIn rows s (λ x. GoesTo x (turned .next)) (λ x n. run.following (spanIn rows row .number) (nextOf x (turned .next) n))
+      → Acts text rows row at m asked lookup input space room
+      (record { going = record { machine = turned .machine; standing = s }; slot = turned .slot; held = turned .held }) space′ room′
+  acts-made {turned} {s} does follows =
+      record {
+        leaves = leaves-as (does _ _ (stood-reads (here .stood)) .leaves);
+        rowed = follows .rowed;
+        went = λ w rs long look n same.
+            let p = stood-reads w in
+            let told : Told (soughtBy (headOf (w .reads .of))) (m .depth) (lookup .found) (lookup .entry) rs = record {
+              at = look .found ∙ ap (λ x. foundIn x rs (m .depth)) (part-seeks (lineIn text (spanIn rows row)) (at .0) (asks .led) (asks .seeks) _ _ p);
+              is = look .entry;
+            } in
+            let c = came text (turned .next) _ _ (does _ _ p .comes rs long told (spec.withStep n) (same-stepped same)) in
+            let number : run.lineNumberOf (linesAt text (spanIn rows row .place .0)) ≡ spanIn rows row .number =
+            ap run.lineNumberOf (row-lines (here .tabled) row (here .inside)) ∙ row-numbered (here .tabled) row (here .inside) in
+            record {
+              machine = c .machine;
+              same = c .holds;
+              stands =
+                  subst (λ (x : run.Standing). StandsAs text rows s (c .machine) x)
+                  (ap (λ x. run.following x (nextOf text (turned .next) (c .machine))) (sym number)
+                  ∙ ap (run.following (run.lineNumberOf (linesAt text (spanIn rows row .place .0)))) (sym (c .is)))
+                  (follows .stands text (here .tabled) (c .goes) (c .machine));
+            };
+      }

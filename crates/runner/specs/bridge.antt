@@ -1,1 +1,3 @@
 pub mod Standings
+pub mod Acting
+pub mod Endings

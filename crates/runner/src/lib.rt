@@ -1,5 +1,7 @@
 // Running a recipe.
+mod going;
 mod running;
+mod standing;
 
 pub use running::Outcome;
 pub use running::Ran;

@@ -2,40 +2,37 @@
 ghost use mathlib.Core.Path.{_≡_};
 ghost use Prim.Native.Nat.{_≤_};
 ghost use lib.ListN.{length};
-ghost use Rattle.space.specs.Moves.{cleared};
 ghost use Rattle.loader.specs.Loading.{loadOf};
 ghost use Rattle.loader.specs.declared.loading.Loaded.the-variants.{Fine};
-ghost use Rattle.machine.specs.Machine as spec;
-ghost use Rattle.machine.specs.Machine.{lentBy};
-ghost use Rattle.machine.specs.bridge.Holding.{linesAt, positionOf, Positioned};
-ghost use Rattle.machine.specs.bridge.Wanted.{entryAt};
-ghost use Rattle.runner.specs.Run as run;
+ghost use Rattle.rows.specs.bridge.Rows.{Tabled};
+ghost use Rattle.machine.specs.Machine.{lentBy, mostRecords};
 ghost use Rattle.runner.specs.Run.{runOf, answerOf, spaceAfter, roomAfter};
-ghost use Rattle.runner.specs.bridge.Standings.{Reached, StandsAs, GoesTo, nextOf, Turnable, TurnAs, runIn, endedAs, RanAs, refusedAs};
+ghost use Rattle.runner.specs.bridge.Acting.{LooksUp};
+ghost use Rattle.runner.specs.bridge.Endings.{runIn, RanAs, refusedAs, beforeOf};
 ghost use Rattle.variables.specs.Strings.{longestSpace};
-use loader::LineFound;
-use loader::LineSpan;
+use crate::going::Lookup;
+use crate::going::act;
+use crate::going::asks;
+use crate::going::begins;
+use crate::going::goes;
+use crate::going::leaves;
+use crate::going::no_lookup;
+use crate::going::seeks;
+use crate::going::slot_of;
+use crate::going::told;
 use loader::Loaded;
 use loader::Refusal;
-use loader::line_at;
 use loader::load;
-use machine::Found;
 use machine::Machine;
-use machine::Next;
-use machine::Position;
-use machine::Record;
+use machine::Sought;
 use machine::Stack;
-use machine::Turned;
 use machine::find_record;
 use machine::record_at;
-use machine::sought_record;
 use machine::with_record;
-use reader::Judged;
-use reader::judge;
-use statements::lead_at;
-use steps::do_statement;
+use rows::Row;
+use rows::Rows;
+use rows::make_rows;
 use variables::Tables;
-use variables::clean_up;
 use whole::Error;
 use words::LineNumber;
 use words::Place;
@@ -56,174 +53,103 @@ pub struct Ran {
     pub tables: Tables,
 }
 
-// Where a run stands: at a statement of a line, or it is over.
-pub enum Standing {
-    At(LineSpan, Place),
-    Over(Outcome),
+// What is tested before a run: whether it goes, or why not.
+pub struct Before {
+    pub fine: bool,
+    pub refusal: Refusal,
+    pub place: Place,
 }
 
-// A line is judged whole each time it is entered from its start; after the last one the run has ended.
-fn entered(text: &[u8], place: Place) -> Standing
-    requires { ⌜ Reached (now text) (place .0) ⌝ }
-    ensures { λ r. ⌜
-        ((m : spec.Machine) → StandsAs (now (text .entry)) r m (run.entering m (linesAt (now (text .entry)) (place .0))))
-        ⌝ }
+// The record that a statement asks for.
+fn look_up(stack: Stack, depth: usize, sought: Sought) -> Lookup
+    requires { ⌜ depth ≤ mostRecords ⌝ }
+    ensures { λ r. ⌜ LooksUp sought depth (stack .records) r ⌝ }
 {
-    let LineFound::Is(span) = line_at(text, place) else {
-        return Standing::Over(Outcome::Ended);
-    };
-    let number = span.number;
-    let from = span.body.0;
-    let end = span.end.0;
-    match judge(&text[from..end]) {
-        Judged::Unreadable => Standing::Over(Outcome::Failed(Error::Syntax, number)),
-        Judged::TooDeep => Standing::Over(Outcome::Failed(Error::FormulaTooComplex, number)),
-        Judged::Reads(_) => Standing::At(span, Place(0)),
-    }
+    let found = find_record(stack, depth, sought);
+    let entry = record_at(stack, slot_of(found));
+    Lookup { found, entry }
 }
 
-// What is left of a line, or the next line.
-fn onward(text: &[u8], position: Position) -> Standing
-    requires { ⌜ (loadOf (now text) ≡ Fine) × Positioned (now text) position ⌝ }
-    ensures { λ r. ⌜
-        ((m : spec.Machine) → StandsAs (now (text .entry)) r m
-        (run.onward m (positionOf (now (text .entry)) position .lines) (positionOf (now (text .entry)) position .rest)))
-        ⌝ }
-{
-    let line = position.line;
-    let at = position.at;
-    let LineFound::Is(span) = line_at(text, line) else {
-        return Standing::Over(Outcome::Ended);
-    };
-    if position.over {
-        let next = span.next;
-        return entered(text, next);
-    }
-    Standing::At(span, at)
-}
-
-// Where a run stands after a statement of a line with a number.
-fn following(text: &[u8], number: LineNumber, next: Next) -> Standing
-    requires { ⌜ (loadOf (now text) ≡ Fine) × GoesTo (now text) next ⌝ }
-    ensures { λ r. ⌜
-        ((m : spec.Machine) → StandsAs (now (text .entry)) r m (run.following number (nextOf (now (text .entry)) next m)))
-        ⌝ }
-{
-    match next {
-        Next::On(position) => onward(text, position),
-        Next::Enter(place) => entered(text, place),
-        Next::Ends => Standing::Over(Outcome::Ended),
-        Next::Stops => Standing::Over(Outcome::Stopped(number)),
-        Next::Fails(error) => Standing::Over(Outcome::Failed(error, number)),
-    }
-}
-
-// The record that was found, or a blank one.
-fn found_record(stack: Stack, found: Found) -> Record
-    ensures { λ r. ⌜ r ≡ entryAt found (stack .records) ⌝ }
-{
-    match found {
-        Found::At(slot) => record_at(stack, slot),
-        Found::None => Record::blank(),
-    }
-}
-
-// One statement counts one step when begun; the record that it may ask for is looked up before it.
-fn turn(
+// A run of a text that loads, by the table of its lines. The records are touched only for a statement that asks for one or leaves one.
+fn run_loaded(
     text: &[u8],
-    span: LineSpan,
-    at: Place,
-    machine: Machine,
-    stack: Stack,
+    rows: &Rows,
     input: &[u8],
     space: &mut [u8],
     room: &mut [u8],
-) -> Turned
-    requires { ⌜ Turnable (now text) span at machine (stack .records) (now input) (now space) (now room) ⌝ }
+    budget: u32,
+) -> Ran
+    requires { ⌜ Tabled (now text) (now rows) × (length (now space) ≤ longestSpace) ⌝ }
     ensures { λ r. ⌜
-        TurnAs (now (text .entry)) span at machine (stack .records) (now (input .entry)) (now (space .entry)) (now (room .entry)) r (now (space .exit)) (now (room .exit))
+        RanAs (runIn (now (text .entry)) (now (input .entry)) (lentBy (now (space .entry)) (now (room .entry))) budget)
+        (now (space .entry)) (now (room .entry)) r (now (space .exit)) (now (room .exit))
         ⌝ }
 {
-    let here = span.place;
-    let from = span.body.0;
-    let end = span.end.0;
-    let line = &text[from..end];
-    let lead = lead_at(line, at, true);
-    let sought = sought_record(line, lead);
-    let found = find_record(stack, machine.depth, sought);
-    let entry = found_record(stack, found);
-    let mut begun = machine;
-    begun.steps = machine.steps + 1;
-    do_statement(
-        text,
-        line,
-        here,
-        at,
-        lead,
-        begun,
-        found,
-        entry,
-        input,
-        space,
-        room,
-    )
-}
-
-// A run that is over: the strings' bytes are left in the space, and zeros after them.
-fn ended(outcome: Outcome, machine: Machine, space: &mut [u8]) -> Ran
-    ensures { λ r. ⌜
-        (r ≡ endedAs outcome machine) × (now (space .exit) ≡ cleared (now (space .entry)) (machine .used))
-        ⌝ }
-{
-    clean_up(space, machine.used);
-    let printer = machine.printer;
-    let tables = machine.tables;
-    Ran {
-        outcome,
-        steps: machine.steps,
-        written: printer.written,
-        taken: machine.taken,
-        tables,
+    let mut stack = Stack::empty();
+    let mut going = begins(rows);
+    while goes(going, budget) {
+        let asked = asks(text, rows, going);
+        let mut lookup = no_lookup();
+        if seeks(asked) {
+            let sought = asked.sought;
+            let machine = going.machine;
+            lookup = look_up(stack, machine.depth, sought);
+        }
+        let acted = act(text, rows, going, asked, lookup, input, space, room);
+        if leaves(acted) {
+            let held = acted.held;
+            stack = with_record(stack, acted.slot, held);
+        }
+        let next = acted.going;
+        going = next;
     }
+    told(rows, going, space)
 }
 
-// A run of a text that loads.
-fn run_loaded(text: &[u8], input: &[u8], space: &mut [u8], room: &mut [u8], budget: u32) -> Ran
+// Each line is found and judged once.
+fn run_fine(text: &[u8], input: &[u8], space: &mut [u8], room: &mut [u8], budget: u32) -> Ran
     requires { ⌜ (loadOf (now text) ≡ Fine) × (length (now space) ≤ longestSpace) ⌝ }
     ensures { λ r. ⌜
         RanAs (runIn (now (text .entry)) (now (input .entry)) (lentBy (now (space .entry)) (now (room .entry))) budget)
         (now (space .entry)) (now (room .entry)) r (now (space .exit)) (now (room .exit))
         ⌝ }
 {
-    let mut machine = Machine::fresh();
-    let mut stack = Stack::empty();
-    let mut standing = entered(text, Place(0));
-    loop {
-        match standing {
-            Standing::Over(outcome) => {
-                return ended(outcome, machine, space);
-            }
-            Standing::At(span, at) => {
-                let number = span.number;
-                if machine.steps == budget {
-                    return ended(Outcome::Out(number), machine, space);
-                }
-                let turned = turn(text, span, at, machine, stack, input, space, room);
-                let next = turned.next;
-                let held = turned.held;
-                let after = turned.machine;
-                machine = after;
-                stack = with_record(stack, turned.slot, held);
-                standing = following(text, number, next);
-            }
-        }
+    let mut rows = [0; Row::CELLS];
+    make_rows(text, &mut rows);
+    run_loaded(text, &rows, input, space, room, budget)
+}
+
+// 106 is tested before 100 and the lines.
+fn refusal_of(text: &[u8], space: usize) -> Before
+    ensures { λ r. ⌜ r ≡ beforeOf space (loadOf (now (text .entry))) ⌝ }
+{
+    if Machine::LONGEST_SPACE < space {
+        return Before {
+            fine: false,
+            refusal: Refusal::SpaceTooLong,
+            place: Place(0),
+        };
+    }
+    match load(text) {
+        Loaded::Refused(refusal, place) => Before {
+            fine: false,
+            refusal,
+            place,
+        },
+        Loaded::Fine => Before {
+            fine: true,
+            refusal: Refusal::SpaceTooLong,
+            place: Place(0),
+        },
     }
 }
 
 // What a refused run answers: it changes nothing.
-fn refused(refusal: Refusal, place: Place, tables: Tables) -> Ran
-    ensures { λ r. ⌜ r ≡ refusedAs refusal place tables ⌝ }
+fn refused(before: Before, tables: Tables) -> Ran
+    ensures { λ r. ⌜ r ≡ refusedAs (before .refusal) (before .place) tables ⌝ }
 {
+    let refusal = before.refusal;
+    let place = before.place;
     Ran {
         outcome: Outcome::Refused(refusal, place),
         steps: 0,
@@ -233,7 +159,6 @@ fn refused(refusal: Refusal, place: Place, tables: Tables) -> Ran
     }
 }
 
-// 106 is tested before 100 and the lines.
 pub fn run(
     text: &[u8],
     input: &[u8],
@@ -248,11 +173,9 @@ pub fn run(
         × (now (room .exit) ≡ roomAfter (runOf (now (text .entry)) (now (input .entry)) (lentBy (now (space .entry)) (now (room .entry))) budget) (now (room .entry))))
         ⌝ }
 {
-    if Machine::LONGEST_SPACE < space.len() {
-        return refused(Refusal::SpaceTooLong, Place(0), tables);
+    let before = refusal_of(text, space.len());
+    if before.fine {
+        return run_fine(text, input, space, room, budget);
     }
-    match load(text) {
-        Loaded::Refused(refusal, place) => refused(refusal, place, tables),
-        Loaded::Fine => run_loaded(text, input, space, room, budget),
-    }
+    refused(before, tables)
 }

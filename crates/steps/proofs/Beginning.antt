@@ -21,12 +21,12 @@ module _ (s : List ℕ) (short : length s ≤ longestLine) (q : Place) {t : Scan
   pub print-itemed : Begins (printAt s t) → Itemed s t
   print-itemed =
       by-items (λ b. Begins b → Itemed s t) (λ x. absurd x) s t
-      (λ is u e h. record { short = short; scans = record { from = q; is = scanned }; all = is; end = u; reads = e; ends = h })
+      (λ is u e h. record { short = short; scans = record { from = q; is = scanned }; all = is; end = u; reads = e; ends = h .0; shallow = h .1 })
 
   pub if-formed : Begins (ifAt s (formulaOf s t)) → Formed s t
   if-formed =
       by-condition (λ b. Begins b → Formed s t) (λ x. absurd x) s t
-      (λ c u e _. record { short = short; scans = record { from = q; is = scanned }; reads = record { of = c; next = u; is = e } })
+      (λ c u e h. record { short = short; scans = record { from = q; is = scanned }; reads = record { of = c; next = u; is = e; shallow = h } })
 
 module _ (s : List ℕ) (short : length s ≤ longestLine) (w : Scanned) where
   abbrev after-input : Scanned

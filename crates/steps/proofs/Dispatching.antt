@@ -25,8 +25,10 @@ use Rattle.statements.specs.bridge.Answers.{itemsOf}
 use Rattle.statements.proofs.Parts.{partBy, unrolled}
 use Rattle.statements.proofs.Views.{Final, plain, thens, elses, more-view, final-view}
 use Rattle.machine.specs.Machine as spec
-use Rattle.statements.specs.Parts.{Rest, nothing, part, headOf, tailOf, placeOf}
-use Rattle.machine.specs.bridge.Holding.{linesAt, positionOf, Parted, Positioned, Sound}
+use native.Mathlib.Omega.{arith}
+use Rattle.statements.specs.Parts.{Rest, nothing, part, headOf, tailOf, placeOf, deepest}
+use Rattle.statements.proofs.Depths.{head-shallow, rest-shallow, then-shallow, else-shallow}
+use Rattle.machine.specs.bridge.Holding.{linesAt, positionOf, Shallow, Parted, Positioned, Sound}
 use Rattle.machine.specs.bridge.Seeking.{soughtBy}
 use Rattle.machine.specs.declared.state.Machine.{Machine}
 use Rattle.machine.specs.declared.positions.Turned.{Turned}
@@ -52,11 +54,11 @@ pub record After (text : List ℕ) (here : Place) (u : Scanned) (rest : Rest) : 
 module _ {text line : List ℕ} {here : Place} (st : Standing text line here) (u : Scanned) where
   -- a colon: the rest reads
   pub after-colon : {rest : Part} {end : Scanned} → isSymbol Colon (u .token) ≡ true → partOf line false (u .next .0) ≡ goodPart rest end
-      → After text here u (part rest)
-  after-colon {rest} {end} c e =
+      → Shallow rest → After text here u (part rest)
+  after-colon {rest} {end} c e low =
       let e′ = rw (st .is) at (true-part line (u .next .0) e) in
       record {
-        placed = record { begins = st .begins; reads = λ _. record { of = rest; end = end; is = e′ } };
+        placed = record { begins = st .begins; reads = λ _. record { of = rest; end = end; is = e′; shallow = low } };
         is = rw (c, e′);
       }
 
@@ -85,13 +87,12 @@ colon-ends (Quoted q) e = absurd (false≢true e)
 colon-ends (Symbol s) e = e
 colon-ends Unreadable e = absurd (false≢true e)
 
-begins-by : (p : ℕ) (go : Bool → ℕ → PartReading) (b : Begun) {q : Part} {u : Scanned} → partBy p go b ≡ goodPart q u → Begins b
-begins-by p go bad e = never (cc)
-begins-by p go (done x t) e =
+ends-by : (p : ℕ) (go : Bool → ℕ → PartReading) (x : tree.Statement) (t : Scanned) {q : Part} {u : Scanned} → partBy p go (done x t) ≡ goodPart q u
+    → endsStatement (t .token) ≡ true
+ends-by p go x t e =
     by-test (isSymbol Colon (t .token)) (λ c. colon-ends (t .token) c) λ c.
     by-test (endsStatement (t .token)) (λ f. f) λ f.
     let h = rw (c, f) at e in never (cc)
-begins-by p go (choice c t) e = tt
 
 -- a token of a line, wherever it stands
 pub record From (line : List ℕ) (t : Scanned) : Type 0 where
@@ -129,9 +130,21 @@ module _ (line : List ℕ) (first : Bool) where
   from-token Unreadable q = tt
 
 -- its first statement does
+last-begins : (line : List ℕ) (at q : ℕ) (x : tree.Statement) (end : Scanned) → Final line true at q x end
+    → partBy at (partOf line) (begunAt line true at) ≡ goodPart (last q x) end → Shallow (last q x) → Begins (begunAt line true at)
+unfolding deepest
+last-begins line at q x end (plain f) e h = rw (f .begun) (ends-by at (partOf line) x end (rw (f .begun) at e), head-shallow (last q x) h)
+last-begins line at q x end (thens f) e h = rw (f .begun) (let k = head-shallow (last q x) h in omega arith)
+last-begins line at q x end (elses f) e h = rw (f .begun) (let k = head-shallow (last q x) h in omega arith)
+
+begins-of : (line : List ℕ) (at : ℕ) (p : Part) (end : Scanned) → partOf line true at ≡ goodPart p end → Shallow p → Begins (begunAt line true at)
+begins-of line at (last q x) end e h = last-begins line at q x end (final-view line true at e) (sym (unrolled line true at) ∙ e) h
+begins-of line at (more q x rest) end e h =
+    let f = more-view line true at e in
+    rw (f .begun) (colon-ends (f .end .token) (f .colon), head-shallow (more q x rest) h)
+
 part-begins : {line : List ℕ} {at : ℕ} → Parted line at → Begins (begunAt line true at)
-part-begins {line} {at} p =
-    begins-by at (partOf line) (begunAt line true at) (sym (unrolled line true at) ∙ p .is)
+part-begins {line} {at} p = begins-of line at (p .of) (p .end) (p .is) (p .shallow)
 
 -- how it is led
 module _ (line : List ℕ) (at : ℕ) {l : Lead} (is : l ≡ leadOf line true (tokenAt line (place at))) where
@@ -161,28 +174,30 @@ module _ (text line : List ℕ) (here : Place) (at : ℕ) (m : Machine) (found :
       Turns text m input space room (Told (soughtBy (headOf p)) (m .depth) found entry)
       (λ n. doStatement text (placeOf p) (headOf p) n (record { lines = linesAt text (here .0); rest = tailOf p })) r space′ room′
 
-  last-does : Standing text line here → (q : ℕ) (x : tree.Statement) (end : Scanned) → Final line true at q x end → D (begunAt line true at)
-      → TurnsAs (last q x)
-  last-does st q x end (plain f) d =
+  last-does : Standing text line here → (q : ℕ) (x : tree.Statement) (end : Scanned) → Final line true at q x end → Shallow (last q x)
+      → D (begunAt line true at) → TurnsAs (last q x)
+  last-does st q x end (plain f) low d =
       let a = after-last st end (f .no-colon) in
       rw (f .at) (rw (a .is) at ((rw (f .begun) at d) (a .placed)))
-  last-does st q x end (thens {part = p} f) d =
-      (rw (f .begun) at d) p end (record { lines = linesAt text (here .0); rest = nothing }) refl (f .goes) .0 (f .no-else)
-  last-does st q x end (elses {part = p} {other = o} f) d =
-      (rw (f .begun) at d) p (f .middle) (record { lines = linesAt text (here .0); rest = nothing }) refl (f .goes) .1 (f .is-else) o end (f .other-goes)
+  last-does st q x end (thens {c = c} {part = p} f) low d =
+      (rw (f .begun) at d) p end (record { lines = linesAt text (here .0); rest = nothing }) refl (f .goes) (then-shallow q c p low) .0 (f .no-else)
+  last-does st q x end (elses {c = c} {part = p} {other = o} f) low d =
+      let k = else-shallow q c p o low in
+      (rw (f .begun) at d) p (f .middle) (record { lines = linesAt text (here .0); rest = nothing }) refl (f .goes) (k .0) .1 (f .is-else) o end (f .other-goes) (k .1)
 
-  part-does : Standing text line here → (p : Part) (end : Scanned) → partOf line true at ≡ goodPart p end
+  part-does : Standing text line here → (p : Part) (end : Scanned) → partOf line true at ≡ goodPart p end → Shallow p
       → D (begunAt line true at) → TurnsAs p
-  part-does st (last q x) end e d = last-does st q x end (final-view line true at e) d
-  part-does st (more q x rest) end e d =
+  part-does st (last q x) end e low d = last-does st q x end (final-view line true at e) low d
+  part-does st (more q x rest) end e low d =
       let f = more-view line true at e in
-      let a = after-colon st (f .end) (f .colon) (f .goes) in
+      let a = after-colon st (f .end) (f .colon) (f .goes) (rest-shallow q x rest low) in
       rw (f .at) (rw (a .is) at ((rw (f .begun) at d) (a .placed)))
 
   -- what its first statement does is what the definition does of it
   pub lead-does : Standing text line here → {l : Lead} → l ≡ leadOf line true (tokenAt line (place at)) → {w : Word} {t : Scanned} → l ≡ By w t
-      → D (byWord line w t) → (p : Part) (end : Scanned) → partOf line true at ≡ goodPart p end → TurnsAs p
-  lead-does st is by d p end i = part-does st p end i (rw (lead-there line at is, by) d)
+      → Parted line at → D (byWord line w t) → (p : Part) (end : Scanned) → partOf line true at ≡ goodPart p end → TurnsAs p
+  lead-does st is by low d p end i =
+      let j = low .is in let k : low .of ≡ p = cc in part-does st p end i (rw (← k) (low .shallow)) (rw (lead-there line at is, by) d)
 
   pub print-does : (t : Scanned)
       → ((is : List tree.Item) (u : Scanned) → Positioned text (afterOf here u) → itemsOf line t ≡ items is u
@@ -192,15 +207,15 @@ module _ (text line : List ℕ) (here : Place) (at : ℕ) (m : Machine) (found :
 
   pub if-does : (t : Scanned)
       → ((c : tree.Formula) (way : Scanned) (p : Part) (u : Scanned) (after : spec.Position) → after .lines ≡ linesAt text (here .0)
-      → formulaOf line t ≡ good c way → partOf line true (way .next .0) ≡ goodPart p u
+      → formulaOf line t ≡ good c way → partOf line true (way .next .0) ≡ goodPart p u → Shallow p
       → (isKeyword Else (u .token) ≡ false → Turns text m input space room anyRecords (λ n. doStatement text at (tree.ifThen c p) n after) r space′ room′)
-      × (isKeyword Else (u .token) ≡ true → (q : Part) (v : Scanned) → partOf line true (u .next .0) ≡ goodPart q v
+      × (isKeyword Else (u .token) ≡ true → (q : Part) (v : Scanned) → partOf line true (u .next .0) ≡ goodPart q v → Shallow q
       → Turns text m input space room anyRecords (λ n. doStatement text at (tree.ifElse c p q) n after) r space′ room′))
       → D (ifAt line (formulaOf line t))
   if-does t h =
-      by-condition D tt line t (λ c way e p u after l g.
-      let both = h c way p u after l e g in
-      (λ i. any-told (both .0 i), λ i q v j. any-told (both .1 i q v j)))
+      by-condition D tt line t (λ c way e p u after l g low.
+      let both = h c way p u after l e g low in
+      (λ i. any-told (both .0 i), λ i q v j lower. any-told (both .1 i q v j lower)))
 
   pub input-does : (t : Scanned)
       → ((prompt : List ℕ) (v : tree.Variable) (u : Scanned) → Positioned text (afterOf here u) → inputAt line (after line t) ≡ done (tree.lineInput prompt v) u

@@ -7,6 +7,7 @@ ghost use Rattle.statements.specs.Statements.{leadOf, goodPart, partOf};
 ghost use Rattle.statements.specs.Parts.{headOf, tailOf, placeOf};
 ghost use Rattle.machine.specs.bridge.Holding.{linesAt, Parted, Sound};
 ghost use Rattle.machine.specs.bridge.Seeking.{soughtBy};
+ghost use Rattle.rows.specs.bridge.Rows.{Tabled};
 ghost use Rattle.turns.specs.Steps.{doStatement};
 ghost use Rattle.turns.specs.bridge.Turns.{Turns, Told, Standing, FoundBelow};
 use control::call;
@@ -22,6 +23,7 @@ use machine::Machine;
 use machine::Next;
 use machine::Record;
 use machine::Turned;
+use rows::Rows;
 use scanner::token_at;
 use statements::Lead;
 use turns::fails;
@@ -37,6 +39,7 @@ use words::Word;
 // by nothing.
 pub fn do_statement(
     text: &[u8],
+    rows: &Rows,
     line: &[u8],
     here: Place,
     at: Place,
@@ -48,7 +51,7 @@ pub fn do_statement(
     space: &mut [u8],
     room: &mut [u8],
 ) -> Turned
-    requires { ⌜ Standing (now text) (now line) here × (Parted (now line) (at .0) × (Sound machine (now input) (now space) (now room) × (FoundBelow (machine .depth) found × (lead ≡ leadOf (now line) true (tokenAt (now line) at))))) ⌝ }
+    requires { ⌜ Standing (now text) (now line) here × (Parted (now line) (at .0) × (Sound machine (now input) (now space) (now room) × (FoundBelow (machine .depth) found × ((lead ≡ leadOf (now line) true (tokenAt (now line) at)) × Tabled (now text) (now rows))))) ⌝ }
     ensures { λ r. ⌜
         ((p : Part) (end : Scanned) → partOf (now (line .entry)) true (at .0) ≡ goodPart p end
         → Turns (now (text .entry)) machine (now (input .entry)) (now (space .entry)) (now (room .entry))
@@ -62,8 +65,8 @@ pub fn do_statement(
             Word::Let => set(line, here, from, machine, space),
             Word::Print => print(line, here, from, machine, space, room),
             Word::If => choose(line, here, from, machine, space),
-            Word::Goto => jump(text, from, machine),
-            Word::Gosub => call(text, line, here, from, machine),
+            Word::Goto => jump(rows, from, machine),
+            Word::Gosub => call(rows, line, here, from, machine),
             Word::Return => come_back(machine, found, entry),
             Word::For => count(line, here, from, machine, found, space),
             Word::Next => next_loop(line, here, from, machine, found, entry),

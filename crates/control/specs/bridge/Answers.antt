@@ -16,6 +16,8 @@ use Rattle.words.specs.declared.symbols.Word.the-variants.{Step}
 use Rattle.grammar.specs.Tests.{choose, isKeyword}
 use Rattle.grammar.specs.Trees as tree
 use Rattle.grammar.specs.Trees.{Formula, number}
+use Rattle.expressions.specs.Types.{deepestNesting, depthOf}
+use Rattle.statements.specs.Parts.{formulasOf, deepest}
 use Rattle.grammar.specs.Formulas.{Reading, good, after, formulaOf}
 use Rattle.statements.specs.Statements.{done, variableOf, forAt}
 use Rattle.reader.specs.declared.branches.Start.{Start}
@@ -68,6 +70,7 @@ pub record Stepped (line : List ℕ) (t : Scanned) : Type 0 where
   pub step : Formula
   pub end : Scanned
   pub reads : stepOf line t ≡ good step end
+  pub shallow : depthOf step ≤ deepestNesting
 
 -- and from its limit on
 pub record Limited (line : List ℕ) (first : Scanned) : Type 0 where
@@ -75,6 +78,7 @@ pub record Limited (line : List ℕ) (first : Scanned) : Type 0 where
   pub limit : Formula
   pub at : Scanned
   pub reads : formulaOf line first ≡ good limit at
+  pub shallow : depthOf limit ≤ deepestNesting
   pub steps : Stepped line at
 
 -- a FOR that reads from its equals sign on
@@ -86,3 +90,4 @@ pub record Counts (line : List ℕ) (name : Name) (equals : Scanned) : Type 0 wh
   pub step : Formula
   pub end : Scanned
   pub is : forAt line (variableOf line name) equals ≡ done (tree.for (variableOf line name) start limit step) end
+  pub shallow : deepest (formulasOf (tree.for (variableOf line name) start limit step)) ≤ deepestNesting

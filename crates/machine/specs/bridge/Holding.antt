@@ -18,7 +18,8 @@ use Rattle.variables.specs.Tables.{sumOf, emptyTables}
 use Rattle.variables.specs.Strings.{longestSpace}
 use Rattle.machine.specs.Machine as spec
 use Rattle.machine.specs.Machine.{loop, call, mostRecords, columnAfter}
-use Rattle.statements.specs.Parts.{Rest, nothing, part}
+use Rattle.statements.specs.Parts.{Rest, nothing, part, statementsOf, deepestIn}
+use Rattle.expressions.specs.Types.{deepestNesting}
 use Rattle.machine.specs.declared.state.Machine.{Machine}
 use Rattle.machine.specs.declared.state.Printer.{Printer}
 use Rattle.machine.specs.declared.positions.Position.{Position}
@@ -58,11 +59,16 @@ pub record Begins (text : List ℕ) (p : ℕ) : Type 0 where
   pub here : linesAt text p ≡ first ∷ others
   pub all : linesOf text ≡ before ++ linesAt text p
 
+-- no formula of a part nests deeper than 8
+abbrev pub Shallow : Part → Type 0
+Shallow p = deepestIn (statementsOf p) ≤ deepestNesting
+
 -- a part that reads from a place of a line on
 pub record Parted (line : List ℕ) (at : ℕ) : Type 0 where
   pub of : Part
   pub end : Scanned
   pub is : partOf line true at ≡ goodPart of end
+  pub shallow : Shallow of
 
 -- a position of a line of the text, where a statement stands unless the line is over
 pub record Positioned (text : List ℕ) (q : Position) : Type 0 where

@@ -6,6 +6,7 @@ use Prim.Native.Nat.{ℕ, _+_}
 use lib.Dec.{ltb}
 use lib.ListN.{length, drop}
 use Rattle.whole.specs.declared.errors.Error.the-variants.{LineBufferOverflow, InputPastEnd}
+use Rattle.words.specs.Places.{place}
 use Rattle.loader.specs.Lines.{Line, linesFrom}
 use Rattle.machine.specs.declared.taking.InputLine.{InputLine}
 use Rattle.machine.specs.declared.taking.InputLine.the-variants.{Is, Fault}
@@ -15,7 +16,7 @@ use Rattle.machine.specs.Machine.{longestInputLine}
 abbrev pub firstTaken : List Line → InputLine
 firstTaken [] = Fault InputPastEnd
 firstTaken (l ∷ ls) =
-    cond (ltb longestInputLine (length (l .bytes))) (Fault LineBufferOverflow) (Is (record { end = l .start + length (l .bytes); next = l .next }))
+    cond (ltb longestInputLine (length (l .bytes))) (Fault LineBufferOverflow) (Is (record { end = place (l .start + length (l .bytes)); next = place (l .next) }))
 
 abbrev pub takenAt : List ℕ → ℕ → InputLine
 takenAt input p = firstTaken (linesFrom p (drop p input))

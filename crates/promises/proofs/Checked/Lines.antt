@@ -8,7 +8,7 @@ use Rattle.loader.specs.Lines.{Line, afterNumber}
 use Rattle.grammar.specs.Trees.{Statement, Part, last, more}
 use Rattle.statements.specs.Parts.{rightlyTyped, namedLine, headOf, tailOf, Rest, nothing, part, partsOf, partsWithin, heads, statementsOf, allTyped}
 use Rattle.reader.specs.Lines.{Judgement, unreadable, tooDeep, holds, judgement}
-use Rattle.reader.proofs.Heads.{heads-append}
+use Rattle.statements.proofs.Depths.{heads-append}
 use Rattle.checker.specs.Check.{missing, anyMissing, faultIn, orElse, firstFault}
 use Rattle.checker.specs.declared.checking.Soundness.{Soundness}
 use Rattle.checker.specs.declared.checking.Soundness.the-variants.{Sound, Fault}

@@ -21,3 +21,6 @@ is-some κs a p z z′ ws ws′ e e′ = (same e e′, refl)
 
 pub is-of : Unique expressions.is_of.Kinds.ps expressions.is_of.Kinds.r expressions.is_of.Reads.Pre expressions.is_of.Reads.Post
 is-of κs a p z z′ ws ws′ e e′ = (same e e′, refl)
+
+pub past-nots : Unique expressions.past_nots.Kinds.ps expressions.past_nots.Kinds.r expressions.past_nots.Reads.Pre expressions.past_nots.Reads.Post
+past-nots κs a p z z′ ws ws′ e e′ = (same e e′, refl)

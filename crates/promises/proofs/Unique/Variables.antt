@@ -13,6 +13,9 @@ offset-of κs a p z z′ ws ws′ e e′ = (same e e′, refl)
 pub answered : Unique variables.answered.Kinds.ps variables.answered.Kinds.r variables.answered.Reads.Pre variables.answered.Reads.Post
 answered κs a p z z′ ws ws′ e e′ = (same e e′, refl)
 
+pub mismatch : Unique variables.mismatch.Kinds.ps variables.mismatch.Kinds.r variables.mismatch.Reads.Pre variables.mismatch.Reads.Post
+mismatch κs a p z z′ ws ws′ e e′ = (same e e′, refl)
+
 pub text-length : Unique variables.text_length.Kinds.ps variables.text_length.Kinds.r variables.text_length.Reads.Pre variables.text_length.Reads.Post
 text-length κs a p z z′ ws ws′ e e′ = (same e e′, refl)
 

@@ -1,47 +1,36 @@
--- Bridge: where the code stands in a run, beside where the definition does.
+-- Bridge: where the code stands in a run, by a row of the table of lines, beside where the definition does.
 -- The contracts of functions inside this crate cite it; no demand and no promise of run, check_recipe or ask rests on it.
 use mathlib.Core.Path.{_≡_}
 use mathlib.Core.Bool.{false}
-use mathlib.Core.List.{List, _++_}
-use Prim.Native.Nat.{ℕ, _+_, _<_}
-use lib.ListN.{length, set}
+use mathlib.Core.List.{List}
+use Prim.Native.Nat.{ℕ, _<_, _-_}
+use lib.ListN.{take, drop}
 use Rattle.words.specs.declared.places.Place.{Place}
-use Rattle.loader.specs.Lines.{Line, linesOf, lineAt}
+use Rattle.loader.specs.Lines.{lineAt}
 use Rattle.loader.specs.Loading.{loadOf}
 use Rattle.loader.specs.declared.lines.LineSpan.{LineSpan}
 use Rattle.loader.specs.declared.lines.LineFound.the-variants.{Is}
 use Rattle.loader.specs.declared.loading.Loaded.the-variants.{Fine}
-use Rattle.loader.specs.declared.refusals.Refusal.{Refusal}
-use Rattle.variables.specs.declared.tables.Tables.{Tables}
-use Rattle.statements.specs.Parts.{headOf, tailOf, placeOf}
-use Rattle.machine.specs.Machine.{mostRecords}
+use Rattle.rows.specs.bridge.Rows.{countOf, spanIn, Tabled}
+use Rattle.rows.specs.declared.cells.Row.{Row}
 use Rattle.machine.specs.Machine as spec
-use Rattle.machine.specs.bridge.Holding.{linesAt, bodyOf, positionOf, Begins, Parted, Positioned, Sound, Same}
-use Rattle.machine.specs.declared.state.Machine.{Machine}
+use Rattle.machine.specs.bridge.Holding.{linesAt, bodyOf, positionOf, Begins, Parted, Positioned}
 use Rattle.machine.specs.declared.positions.Next.{Next}
 use Rattle.machine.specs.declared.positions.Next.the-variants as next
-use Rattle.machine.specs.declared.positions.Turned.{Turned}
-use Rattle.machine.specs.declared.records.Record.{Record}
 use Rattle.turns.specs.Steps as step
-use Rattle.turns.specs.Steps.{doStatement}
-use Rattle.turns.specs.bridge.Turns.{Comes, Leaves}
 use Rattle.runner.specs.Run as run
-use Rattle.runner.specs.Run.{finished, endsWith, entering, running, isRefused, answerOf, spaceAfter, roomAfter}
+use Rattle.runner.specs.Run.{finished, endsWith, isRefused}
 use Rattle.runner.specs.declared.running.Outcome.{Outcome}
-use Rattle.runner.specs.declared.running.Outcome.the-variants.{Refused}
-use Rattle.runner.specs.declared.running.Ran.{Ran}
-use Rattle.runner.specs.declared.running.Standing.{Standing}
-use Rattle.runner.specs.declared.running.Standing.the-variants as standing
+use Rattle.runner.specs.declared.standing.Standing.{Standing}
+use Rattle.runner.specs.declared.standing.Standing.the-variants as standing
 
--- ---- places of a text that loads
+-- ---- a statement of a text that loads
 
--- the lines from a place on are the last of its lines
-pub record Reached (text : List ℕ) (p : ℕ) : Type 0 where
-  pub loads : loadOf text ≡ Fine
-  pub before : List Line
-  pub all : linesOf text ≡ before ++ linesAt text p
+-- the bytes after the number of a line
+abbrev pub lineIn : List ℕ → LineSpan → List ℕ
+lineIn text span = take (span .end .0 - span .body .0) (drop (span .body .0) text)
 
--- a statement stands at a place of one of its lines
+-- one stands at a place of one of its lines
 pub record Stood (text : List ℕ) (span : LineSpan) (at : Place) : Type 0 where
   pub loads : loadOf text ≡ Fine
   pub begins : Begins text (span .place .0)
@@ -60,9 +49,24 @@ pub record OverAs (o : Outcome) (m : spec.Machine) (s : run.Standing) : Type 0 w
   pub begun : isRefused o ≡ false
   pub is : s ≡ finished (endsWith o m)
 
-abbrev pub StandsAs : List ℕ → Standing → spec.Machine → run.Standing → Type 0
-StandsAs text (standing.Over o) m s = OverAs o m s
-StandsAs text (standing.At span at) m s = AtAs text span at m s
+abbrev pub StandsAs : List ℕ → List ℕ → Standing → spec.Machine → run.Standing → Type 0
+StandsAs text rows (standing.Over o) m s = OverAs o m s
+StandsAs text rows (standing.At row at) m s = AtAs text (spanIn rows (row .0)) at m s
+
+-- the row is one of the table's
+abbrev pub Rowed : List ℕ → Standing → Type 0
+Rowed rows (standing.Over o) = Unit {0}
+Rowed rows (standing.At row at) = row .0 < countOf rows
+
+-- and whatever text it is the table of, where something is given of it, the code stands where the definition does
+pub record StandsIn (rows : List ℕ) (r : Standing) (given : List ℕ → Type 0) (there : List ℕ → spec.Machine → run.Standing) : Type 0 where
+  pub rowed : Rowed rows r
+  pub stands : (text : List ℕ) → Tabled text rows → given text → (m : spec.Machine) → StandsAs text rows r m (there text m)
+
+-- the row of the line at a place
+pub record RowOf (rows : List ℕ) (line : Place) (row : Row) : Type 0 where
+  pub inside : row .0 < countOf rows
+  pub is : (text : List ℕ) → Tabled text rows → Begins text (line .0) → spanIn rows (row .0) .place ≡ line
 
 -- ---- where it goes on
 
@@ -81,44 +85,3 @@ nextOf text (next.Enter l) m = step.enters m (linesAt text (l .0))
 nextOf text next.Ends m = step.ends m
 nextOf text next.Stops m = step.stops m
 nextOf text (next.Fails e) m = step.fails e m
-
--- ---- one turn
-
--- the machine that a statement begins with
-abbrev pub stepped : Machine → Machine
-stepped m =
-    record { tables = m .tables; used = m .used; printer = m .printer; taken = m .taken; steps = m .steps + 1; depth = m .depth }
-
--- what a turn begins with
-pub record Turnable (text : List ℕ) (span : LineSpan) (at : Place) (m : Machine) (rs : List Record) (input space room : List ℕ) : Type 0 where
-  pub stood : Stood text span at
-  pub slots : length rs ≡ mostRecords
-  pub sound : Sound m input space room
-  pub few : m .steps < 4294967295
-
--- and what it leaves: the definition's statement was done
-pub record TurnAs (text : List ℕ) (span : LineSpan) (at : Place) (m : Machine) (rs : List Record) (input space room : List ℕ) (r : Turned) (space′ room′ : List ℕ) : Type 0 where
-  pub leaves : Leaves (stepped m) input space room r space′ room′
-  pub comes : (w : Stood text span at) (n : spec.Machine) → Same text rs m input space room n
-      → Comes text (r .next)
-      (doStatement text (placeOf (w .reads .of)) (headOf (w .reads .of)) (spec.withStep n) (record { lines = linesAt text (span .place .0); rest = tailOf (w .reads .of) }))
-      (Same text (set rs (r .slot) (r .held)) (r .machine) input space′ room′)
-
--- ---- the end
-
--- the run of a text that loads
-abbrev pub runIn : List ℕ → List ℕ → spec.Lent → ℕ → run.Ran
-runIn text input lent budget = running budget text (entering (spec.fresh input lent) (linesOf text))
-
-abbrev pub endedAs : Outcome → Machine → Ran
-endedAs o m =
-    record { outcome = o; steps = m .steps; written = m .printer .written; taken = m .taken; tables = m .tables }
-
-abbrev pub refusedAs : Refusal → Place → Tables → Ran
-refusedAs refusal place tables = record { outcome = Refused refusal place; steps = 0; written = 0; taken = 0; tables = tables }
-
--- the memory and the answer are those of a run that was not refused
-pub record RanAs (ran : run.Ran) (space room : List ℕ) (r : Ran) (space′ room′ : List ℕ) : Type 0 where
-  pub answers : (tables : Tables) → r ≡ answerOf ran tables
-  pub spaced : space′ ≡ spaceAfter ran space
-  pub roomy : room′ ≡ roomAfter ran room

@@ -10,17 +10,17 @@ use Rattle.control.proofs.jumping.gosub.Statement.{statement}
 use Rattle.control.proofs.jumping.gosub.Tie as tie
 
 returns : tie.Need-returns
-returns c input space room at s p =
-    let f = c .before .before .before .find-line in
-    let a = c .before .before .before .before .before .args in
+returns c text input space room at t s p =
+    let f = c .before .before .before .line-numbered in
+    let a = c .before .before .before .before .args in
     rw (c .fails .ensures)
-    (line-missing _ s (λ n ls. pushed n (call (positionOf (a .text .now) (afterOf (a .here) (a .ahead)))) (λ o. enters o ls)) (sym (f .ensures) ∙ c .before .enum-told .given .1))
+    (line-missing _ s (λ n ls. pushed n (call (positionOf text (afterOf (a .here) (a .ahead)))) (λ o. enters o ls)) (sym (f .ensures text t) ∙ c .before .enum-told .given .1))
 
 returns-2 : tie.Need-returns-2
-returns-2 c input space room at s p =
+returns-2 c text input space room at t s p =
     let k = c .before .before .before .before .before in
     rw (c .push .ensures, c .before .before .calls .ensures, c .before .before .before .after .ensures)
-    (gosub-found _ s at _ p (sym (k .before .before .find-line .ensures) ∙ k .span .given .1))
+    (gosub-found _ s at _ p (sym (k .before .before .line-numbered .ensures text t) ∙ k .span .given .1))
 
 pub gosub-spec : {M : Type 1} → statement M
 gosub-spec =

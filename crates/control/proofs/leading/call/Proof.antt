@@ -9,13 +9,13 @@ enum-told : tie.Need-enum-told
 enum-told c = search needs
 
 returns : tie.Need-returns
-returns c = λ input space room at found entry sound. rw (no-line (c .before .before .before .before .before .before .args .target .token) _ _ (sym (c .before .before .before .line-of .ensures) ∙ c .before .enum-told .given .1)) tt
+returns c = λ text input space room at found entry t sound. rw (no-line (c .before .before .before .before .before .args .target .token) _ _ (sym (c .before .before .before .line-of .ensures) ∙ c .before .enum-told .given .1)) tt
 
 returns-2 : tie.Need-returns-2
 returns-2 c =
-    λ input space room at found entry sound.
-    call-does _ _ _ at _ _ _ _ _ _ _ _ _ (c .before .before .before .before .before .before .before .before .args .target) (c .before .before .before .number .given .0 .0) (sym (c .before .before .before .before .before .line-of .ensures) ∙ c .before .before .before .number .given .1)
-    (rw (← (c .before .token-at .ensures)) (c .gosub .ensures input space room at sound))
+    λ text input space room at found entry t sound.
+    call-does _ _ _ at _ _ _ _ _ _ _ _ _ (c .before .before .before .before .before .before .before .args .target) (c .before .before .before .number .given .0 .0) (sym (c .before .before .before .before .before .line-of .ensures) ∙ c .before .before .before .number .given .1)
+    (rw (← (c .before .token-at .ensures)) (c .gosub .ensures text input space room at t sound))
 
 pub call-spec : {M : Type 1} → statement M
 call-spec =

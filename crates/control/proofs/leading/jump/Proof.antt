@@ -9,13 +9,13 @@ enum-told : tie.Need-enum-told
 enum-told c = search needs
 
 returns : tie.Need-returns
-returns c = λ line input space room here at found entry sound. rw (no-line (c .before .before .before .before .before .args .target .token) _ _ (sym (c .before .before .before .line-of .ensures) ∙ c .before .enum-told .given .1)) tt
+returns c = λ text line input space room here at found entry t sound. rw (no-line (c .before .before .before .before .args .target .token) _ _ (sym (c .before .before .before .line-of .ensures) ∙ c .before .enum-told .given .1)) tt
 
 returns-2 : tie.Need-returns-2
 returns-2 c =
-    λ line input space room here at found entry sound.
-    jump-does _ _ _ at _ _ _ _ _ _ _ _ _ (c .before .before .before .before .before .before .args .target) (c .before .before .number .given .0 .0) (sym (c .before .before .before .before .line-of .ensures) ∙ c .before .before .number .given .1)
-    (λ after. c .goto .ensures input space room at after sound)
+    λ text line input space room here at found entry t sound.
+    jump-does _ _ _ at _ _ _ _ _ _ _ _ _ (c .before .before .before .before .before .args .target) (c .before .before .number .given .0 .0) (sym (c .before .before .before .before .line-of .ensures) ∙ c .before .before .number .given .1)
+    (λ after. c .goto .ensures text input space room at after t sound)
 
 pub jump-spec : {M : Type 1} → statement M
 jump-spec =

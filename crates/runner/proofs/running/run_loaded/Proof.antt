@@ -1,55 +1,75 @@
 -- The loop keeps that the machine is a definition's whose run, with the steps that are left, comes to the whole run.
+use mathlib.Core.Path.{_≡_, sym, ap, _∙_}
+use mathlib.Core.Logic.{⊎-elim}
+use mathlib.Core.Bool.{true}
 use Prim.Native.Nat.{_-_}
 use native.Mathlib.Omega.{arith}
+use lib.ListN.{set}
+use Rattle.rows.proofs.Ordering.{ordered}
+use Rattle.runner.specs.bridge.Acting.{goesOf, LooksUp}
+use Rattle.runner.specs.declared.going.Acted.{Acted}
+use Rattle.runner.proofs.Turning.{looked-none, left-none}
+use Rattle.runner.proofs.Looping.{Kept, kept-fresh, kept-out, kept-at, kept-ready, kept-less, kept-again}
 use borrow.Author.Needs.{needs}
-use Rattle.machine.proofs.Standing.{reaches-first}
-use Rattle.runner.proofs.Entering.{reached}
-use Rattle.runner.proofs.Looping.{Kept, kept-fresh, kept-over, kept-out, kept-turnable, kept-goes, kept-less, kept-again}
 use Rattle.runner.proofs.running.run_loaded.Statement.{statement}
 use Rattle.runner.proofs.running.run_loaded.Tie as tie
 
 abbrev Inv-loop : tie.InvT-loop
-Inv-loop text input space₀ room₀ budget machine₀ stack₀ standing₀ space room machine stack standing =
-    Kept text input space₀ room₀ budget space room machine (stack .records) standing
+Inv-loop text rows input space₀ room₀ budget stack₀ going₀ space room stack going =
+    Kept text rows input space₀ room₀ budget space room going (stack .records)
 
 abbrev μ-loop : tie.MeasureT-loop
-μ-loop text input space₀ room₀ budget machine₀ stack₀ standing₀ space room machine stack standing = budget - machine .steps
+μ-loop text rows input space₀ room₀ budget stack₀ going₀ space room stack going = budget - going .machine .steps
 
-loop-holds : tie.Need-loop-holds Inv-loop μ-loop
-loop-holds c =
-    kept-fresh _ _ _ _ (c .before .before .before .before .before .before .before .pre .1) _ _ (c .before .before .fresh .ensures) (c .before .empty .ensures) (c .entered .ensures)
+-- in a turn, from where the run goes on
+module _ (t : tie.Then1 Inv-loop μ-loop) where
+  abbrev start : tie.Start Inv-loop μ-loop
+  start = t .before .before .before .before .before .before .before .before .before
 
--- in each, l is the loop's beginning, s where the standing is known, i after the test of the budget, and t after the turn
-returns : tie.Need-returns Inv-loop μ-loop
-returns c =
-    let e = c .before .before in let s = e .before .before .before in let l = s .before .before in
-    kept-over (l .loop .inv) (s .standing .given .1) (e .ended .ensures .0) (e .ended .ensures .1)
+  goes-on : goesOf (t .before .before .loop .going .standing) (t .before .before .loop .going .machine .steps) (start .args .budget) ≡ true
+  goes-on = sym (t .before .goes .ensures) ∙ t .if1 .taken
 
-returns-2 : tie.Need-returns-2 Inv-loop μ-loop
-returns-2 c =
-    let e = c .before .before in let i = e .before .before in let s = i .before .before .before .before in let l = s .before .before in
-    kept-out (l .loop .inv) (s .standing2 .given .1) (i .if1 .taken) (e .ended2 .ensures .0) (e .ended2 .ensures .1)
+-- the record that was asked for was looked up, or none was asked for
+looked : (c : tie.Joined2 Inv-loop μ-loop)
+    → let a = c .before .before .before in let l = a .before .before .before .loop in
+    LooksUp (a .asks .result .sought) (l .going .machine .depth) (l .stack .records) (c .if2 .lookup)
+looked c =
+    let n = c .before .before in
+    ⊎-elim (λ w. rw (w .4) (w .3 .ensures))
+    (λ w. looked-none (n .before .asks .result) _ _ (sym (c .before .seeks .ensures) ∙ w .0 .left) (w .1 ∙ n .no-lookup .ensures))
+    (c .if2 .came)
 
-turn-requires : tie.Need-turn-requires Inv-loop μ-loop
-turn-requires c κs =
-    let i = c .before .before in let s = i .before .before .before .before in let l = s .before .before in
-    kept-turnable (l .loop .inv) (s .standing2 .given .1) (i .if1 .left) (omega (arith, l .before .before .before .before .before .before .before .before .fits))
+-- the one that was left was written, or none was left
+module _ (c : tie.Joined3 Inv-loop μ-loop) where
+  abbrev acted : Acted
+  acted = c .before .before .before .before .before .before .act .result
 
-following-requires : tie.Need-following-requires Inv-loop μ-loop
-following-requires c κs =
-    let t = c .before .before .before .before .before .before .before in let i = t .before .before .before in let s = i .before .before .before .before in let l = s .before .before in
-    (l .before .before .before .before .before .before .before .before .pre .0, kept-goes (l .loop .inv) (s .standing2 .given .1) (i .if1 .left) (t .turn .ensures))
+  abbrev loop : tie.At-loop Inv-loop μ-loop
+  loop = c .before .before .before .before .before .before .before .before .before .before .before .before .before .before .before
+
+  stored : c .if3 .stack .records ≡ set (loop .loop .stack .records) (acted .slot) (acted .held)
+  stored =
+      ⊎-elim {C = c .if3 .stack .records ≡ set (loop .loop .stack .records) (acted .slot) (acted .held)}
+      (λ w. ap (λ x. x .records) (w .3) ∙ w .2 .ensures)
+      (λ w. ap (λ x. x .records) (w .1) ∙ left-none acted _ (loop .loop .inv .slots) (sym (c .before .leaves .ensures) ∙ w .0 .left))
+      (c .if3 .came)
+
+act-requires : tie.Need-act-requires Inv-loop μ-loop
+act-requires c κs =
+    let j = c .before .before in let a = j .before .before .before in let t = a .before in (
+      kept-at (start t .pre .0) (t .before .before .loop .inv) (goes-on t),
+      (a .asks .ensures, kept-ready (start t .pre .0) (t .before .before .loop .inv) (goes-on t) (omega (arith, start t .fits)) (looked j)),
+    )
 
 loop-less : tie.Need-loop-less Inv-loop μ-loop
 loop-less c =
-    let t = c .before .before .before .before .before .before .before .before in let i = t .before .before .before in let s = i .before .before .before .before in let l = s .before .before in
-    kept-less (l .loop .inv) (s .standing2 .given .1) (i .if1 .left) (t .turn .ensures)
+    let a = c .before .before .before .before .before .before .before in let t = a .before .before .before .before .before .before .before in
+    kept-less (start t .pre .0) (t .before .before .loop .inv) (goes-on t) (a .act .ensures)
 
 loop-again : tie.Need-loop-again Inv-loop μ-loop
 loop-again c =
-    let t = c .before .before .before .before .before .before .before .before in let i = t .before .before .before in let s = i .before .before .before .before in let l = s .before .before in
-    kept-again (l .loop .inv) (s .standing2 .given .1) (i .if1 .left) (t .turn .ensures)
-    (c .following .result) (c .before .with-record .ensures) (c .following .ensures)
+    let a = c .before .before .before .before .before .before .before in let j = a .before .before .before in let t = j .before .before .before .before in
+    kept-again (start t .pre .0) (t .before .before .loop .inv) (goes-on t) (a .act .ensures) (looked j) (stored (c .before))
 
 pub run-loaded-spec : {M : Type 1} → statement M
 run-loaded-spec =
@@ -58,21 +78,19 @@ run-loaded-spec =
     Inv-loop
     μ-loop
     (λ c κs. search needs)
+    (λ c κs. ordered (c .before .before .before .before .before .pre .0))
+    (λ c. kept-fresh _ _ _ _ (c .before .before .before .before .before .before .pre .1) _ (c .before .before .before .before .before .before .pre .0) (c .before .empty .ensures) (c .begins .ensures))
     (λ c κs. search needs)
-    (λ c κs. reached (c .before .before .before .before .before .before .pre .0) (reaches-first (c .before .before .before .before .before .before .args .text .now)))
-    loop-holds
-    (λ c. search needs)
+    (λ c κs. kept-at (c .before .before .before .before .before .before .before .before .before .pre .0) (c .before .before .loop .inv) (sym (c .before .goes .ensures) ∙ c .if1 .taken))
     (λ c κs. search needs)
-    (λ c. search needs)
-    (λ c. search needs)
-    returns
-    (λ c. search needs)
     (λ c κs. search needs)
-    (λ c. search needs)
-    (λ c. search needs)
-    returns-2
-    turn-requires
+    (λ c κs. c .before .before .before .before .before .before .before .before .loop .inv .sound .deep)
+    act-requires
     (λ c κs. search needs)
-    following-requires
+    (λ c κs. search needs)
     loop-less
-    loop-again)
+    loop-again
+    (λ c κs. (ordered (c .before .before .before .before .before .before .before .before .before .before .pre .0), c .before .before .before .loop .inv .rowed))
+    (λ c. search needs)
+    (λ c. search needs)
+    (λ c. kept-out (c .before .before .before .before .before .before .before .before .before .before .before .before .before .pre .0) (c .before .before .before .before .before .before .loop .inv) (sym (c .before .before .before .before .before .goes .ensures) ∙ c .before .before .before .before .if1 .left) (c .before .before .told .ensures .0) (c .before .before .told .ensures .1)))

@@ -1,0 +1,4 @@
+pub mod Storing
+pub mod Filling
+pub mod Ordering
+pub mod Searching
