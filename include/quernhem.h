@@ -7,7 +7,7 @@
  * - No pointer is null, also where its length is 0. What is lent for writing overlaps nothing else that is lent in the call.
  * - Any bytes and any lengths will do. Every call returns, within its budget of steps, and reads and writes only what is lent to it.
  * - Numbers in an answer are unsigned 64-bit words; what does not apply is 0.
- * - A call uses less than QUERNHEM_STACK bytes of stack, also for a line of 253 opening parentheses (measured, not proved).
+ * - A call uses less than QUERNHEM_STACK bytes of stack, whatever the line (measured, not proved).
  * - Threads may call at the same time, as long as what one lends for writing is lent to no other.
  *
  * docs/HOST.md tells more, and hosts/c/worked.c is a host to begin with.
@@ -23,7 +23,7 @@ extern "C" {
 #endif
 
 /* How many bytes of stack to keep for a call. */
-#define QUERNHEM_STACK 327680
+#define QUERNHEM_STACK 81920
 
 /* The largest string space and text: a larger one is refused. */
 #define QUERNHEM_SPACE 16384

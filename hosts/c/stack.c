@@ -1,4 +1,5 @@
-/* Measures how much stack a call uses, over lines that nest as deep as a line can and over stored cases.
+/* Measures how much stack a call uses, over lines that nest as deep as a line can, some that read and some that do not, and over stored
+ * cases.
  *
  * usage: stack <CASES
  *
@@ -10,7 +11,7 @@
 #include <string.h>
 #include <ucontext.h>
 
-enum { STACK_WORDS = 2 * QUERNHEM_STACK / 8, LONGEST_LINE = 255, SHOWN = 20, BUDGET = 1000 };
+enum { STACK_WORDS = 2 * QUERNHEM_STACK / 8, LONGEST_LINE = 255, DEEPEST = 8, SHOWN = 20, BUDGET = 1000 };
 
 static const uint64_t paint = 0xA5A5A5A5A5A5A5A5;
 
@@ -54,17 +55,50 @@ static void measure(void) {
     }
 }
 
-/* A line of one thing over and over, as often as it fits; with as many parentheses that close it, or with none. */
-static void measure_line(const char *begin, const char *opening, int closed) {
-    static char line[LONGEST_LINE + 1];
-    size_t count = (LONGEST_LINE - strlen(begin) - (size_t)closed) / (strlen(opening) + (size_t)closed);
-    strcpy(line, begin);
-    for (size_t i = 0; i < count; i++) strcat(line, opening);
-    if (closed) strcat(line, "1");
-    for (size_t i = 0; closed && i < count; i++) strcat(line, ")");
+static char line[LONGEST_LINE + 1];
+
+static void append(const char *part, size_t count) {
+    while (count--) strcat(line, part);
+}
+
+static void measure_made(void) {
     text = (const uint8_t *)line;
     text_len = strlen(line);
     measure();
+}
+
+/* A line of one thing over and over, as often as it fits; with as many parentheses that close it, or with none. */
+static void measure_line(const char *begin, const char *opening, int closed) {
+    size_t count = (LONGEST_LINE - strlen(begin) - (size_t)closed) / (strlen(opening) + (size_t)closed);
+    strcpy(line, begin);
+    append(opening, count);
+    append("1", (size_t)closed);
+    append(")", closed ? count : 0);
+    measure_made();
+}
+
+/* A line that reads: NOT as often as it fits before an operand, where a formula stands. */
+static void measure_chain(const char *begin, const char *end) {
+    strcpy(line, begin);
+    append("NOT ", (LONGEST_LINE - strlen(begin) - 1 - strlen(end)) / 4);
+    append("1", 1);
+    append(end, 1);
+    measure_made();
+}
+
+/* A line that reads: the operators from the loosest to the tightest in each of the deepest parentheses, or the tighter ones alone where all
+ * do not fit. */
+static void measure_ladder(const char *begin, const char *end) {
+    static const char all[] = "1IMP 1EQV 1XOR 1OR 1AND NOT 1=1+1MOD 1\\1*-(", tight[] = "1=1+1MOD 1\\1*-(";
+    size_t spare = LONGEST_LINE - strlen(begin) - DEEPEST * strlen(tight) - 1 - DEEPEST - strlen(end);
+    size_t whole = spare / (strlen(all) - strlen(tight));
+    strcpy(line, begin);
+    append(all, whole);
+    append(tight, DEEPEST - whole);
+    append("1", 1);
+    append(")", DEEPEST);
+    append(end, 1);
+    measure_made();
 }
 
 static void measure_lines(void) {
@@ -77,6 +111,15 @@ static void measure_lines(void) {
             measure_line(begins[j], openings[i], 0);
             measure_line(begins[j], openings[i], 1);
         }
+}
+
+static void measure_formulas(void) {
+    static const char *const places[][2] = {{"0?", ""},         {"0A=", ""},        {"0IF ", "THEN 1"},
+                                            {"0FORI=", "TO 1"}, {"0FORI=1TO ", ""}, {"0FORI=1TO 2STEP ", ""}};
+    for (size_t i = 0; i < sizeof places / sizeof *places; i++) {
+        measure_chain(places[i][0], places[i][1]);
+        measure_ladder(places[i][0], places[i][1]);
+    }
 }
 
 static void measure_cases(void) {
@@ -96,6 +139,7 @@ int main(void) {
     input = (const uint8_t *)"LOT 41\n";
     input_len = 7;
     measure_lines();
+    measure_formulas();
     measure_cases();
     for (size_t i = 0; i < sizeof calls / sizeof *calls; i++) {
         printf("%s: at most %zu bytes of stack, on %s..\n", calls[i].name, calls[i].most, calls[i].line);
