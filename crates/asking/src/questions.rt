@@ -48,14 +48,15 @@ fn string_asked(strings: Strings, space: &[u8], name: Telling) -> Asked
         Slot::None => Asked::Text(Offset(0), 0),
         Slot::At(slot) => {
             let from = offset_of(&lengths, slot);
+            let start = from.0;
             let len = wide(lengths[slot]);
             if space.len() < len {
                 return Asked::Refused;
             }
-            if space.len() - len < from {
+            if space.len() - len < start {
                 return Asked::Refused;
             }
-            Asked::Text(Offset(from), len)
+            Asked::Text(from, len)
         }
     }
 }

@@ -1,12 +1,11 @@
 -- IF: a part of the line is entered, or the line is over.
 use mathlib.Core.Path.{_≡_, refl, sym, ap, _∙_}
+use mathlib.Core.Logic.{_⊎_}
 use mathlib.Core.Bool.{true, false, cond, false≢true}
 use mathlib.Core.List.{List}
 use Prim.Native.Nat.{ℕ}
 use borrow.Author.Tests.{eq-eqb, ne-eqb}
 use lib.Dec.{eqb}
-use Rattle.whole.specs.declared.errors.Error.{Error}
-use Rattle.whole.specs.declared.errors.Error.the-variants.{TypeMismatch}
 use Rattle.words.specs.declared.places.Place.{Place}
 use Rattle.words.specs.declared.symbols.Scanned.{Scanned}
 use Rattle.words.specs.declared.symbols.Word.the-variants.{Else}
@@ -16,22 +15,23 @@ use Rattle.grammar.specs.Trees.{Formula, Part, ifThen, ifElse}
 use Rattle.statements.specs.Statements.{goodPart, partOf}
 use Rattle.reader.specs.Lines.{elseAt}
 use Rattle.reader.specs.declared.branches.Start.the-variants as way
-use Rattle.variables.specs.declared.values.Worked.the-variants.{Whole, Text, Fault}
+use Rattle.variables.specs.declared.values.Worked.{Worked}
+use Rattle.variables.specs.declared.values.Worked.the-variants.{Whole}
+use Rattle.variables.specs.bridge.Memory.{mismatchOf}
 use Rattle.machine.specs.Machine as spec
 use Rattle.statements.specs.Parts.{part}
-use Rattle.machine.specs.bridge.Holding.{linesAt, bodyOf, Shallow, positionOf, Positioned, Sound}
-use Rattle.machine.specs.declared.state.Machine.{Machine}
+use Rattle.machine.specs.bridge.Holding.{linesAt, bodyOf, Shallow, positionOf, Positioned, Sound, State}
 use Rattle.machine.specs.declared.positions.Position.{Position}
-use Rattle.machine.specs.declared.positions.Turned.{Turned}
+use Rattle.turns.specs.bridge.Turns.{Turn, turnedTo, Turns, anyRecords, Valued, Standing}
 use Rattle.machine.specs.declared.positions.Next.the-variants as next
 use Rattle.machine.specs.declared.records.Record.{Record}
 use Rattle.turns.specs.Steps as step
 use Rattle.turns.specs.Steps.{goesOn, branch, lineOver, doStatement}
-use Rattle.turns.specs.bridge.Turns.{turnedTo, Turns, anyRecords, Valued, Standing}
 use Rattle.control.specs.bridge.Answers.{takenTurn}
+use Rattle.variables.proofs.Agreements.{workedTag}
 use Rattle.turns.proofs.Keeping.{sound-kept, leaves-unprinted}
 use Rattle.turns.proofs.Leading.{turns-on}
-use Rattle.turns.proofs.Wholes.{turns-fault, turns-text, turns-whole}
+use Rattle.turns.proofs.Wholes.{turns-none, turns-whole}
 
 -- ---- where the run goes on
 
@@ -49,7 +49,7 @@ module _ {text line : List ℕ} {here : Place} (st : Standing text line here) wh
     inside-is : positionOf text (inside at) ≡ record { lines = linesAt text (here .0); rest = part p }
     inside-is = rw here-reads
 
-  module _ {m : Machine} {input space room : List ℕ} {told : List Record → Type 0} {does : spec.Machine → step.Next}
+  module _ {m : State} {input space room : List ℕ} {told : List Record → Type 0} {does : spec.Machine → step.Next}
       (sound : Sound m input space room) (lines : List Line) (all : lines ≡ linesAt text (here .0)) where
     -- a part that reads is entered
     turns-part : (at : Place) {p : Part} {u : Scanned} → partOf line true (at .0) ≡ goodPart p u → Shallow p
@@ -80,24 +80,21 @@ abbrev elses : spec.Position → Part → Part → ℕ → spec.Machine → step
 elses after p q w n = branch n (after .lines) (cond (eqb w 0) q p)
 
 -- what is to be shown of it without ELSE, and with it
-abbrev IfTurns : (text line : List ℕ) (at : ℕ) (m : Machine) (input space room : List ℕ) (c : Formula) (p : Part) (u : Scanned) (after : spec.Position)
-    (r : Turned) (space′ : List ℕ) → Type 0
+abbrev IfTurns : (text line : List ℕ) (at : ℕ) (m : State) (input space room : List ℕ) (c : Formula) (p : Part) (u : Scanned) (after : spec.Position)
+    (r : Turn) (space′ : List ℕ) → Type 0
 IfTurns text line at m input space room c p u after r space′ =
     (isKeyword Else (u .token) ≡ false
     → Turns text m input space room anyRecords (λ n. doStatement text at (ifThen c p) n after) r space′ room)
     × (isKeyword Else (u .token) ≡ true → (q : Part) (v : Scanned) → partOf line true (u .next .0) ≡ goodPart q v → Shallow q
     → Turns text m input space room anyRecords (λ n. doStatement text at (ifElse c p q) n after) r space′ room)
 
-module _ {text line input space room space′ : List ℕ} {here : Place} {m : Machine} {c : Formula} {t : Scanned} {p : Part} {u : Scanned}
+module _ {text line input space room space′ : List ℕ} {here : Place} {m : State} {c : Formula} {t : Scanned} {p : Part} {u : Scanned}
     (at : ℕ) (after : spec.Position) (st : Standing text line here) (sound : Sound m input space room) (lines : after .lines ≡ linesAt text (here .0))
     (reads : partOf line true (t .next .0) ≡ goodPart p u) (low : Shallow p) where
-  pub if-fault : {e : Error} → Valued m c t space (Fault e) space′
-      → IfTurns text line at m input space room c p u after (turnedTo m (next.Fails e)) space′
-  if-fault v = (λ _. turns-fault (thens after p) sound v, λ _ q w _ _. turns-fault (elses after p q) sound v)
-
-  pub if-text : {len : ℕ} {x : Scanned} → Valued m c t space (Text len x) space′
-      → IfTurns text line at m input space room c p u after (turnedTo m (next.Fails TypeMismatch)) space′
-  if-text v = (λ _. turns-text (thens after p) sound v, λ _ q w _ _. turns-text (elses after p q) sound v)
+  -- an error, or a text
+  pub if-none : (r : Worked) → (workedTag r ≡ 1) ⊎ (workedTag r ≡ 2) → Valued m c t space r space′
+      → IfTurns text line at m input space room c p u after (turnedTo m (next.Fails (mismatchOf r))) space′
+  if-none r h v = (λ _. turns-none (thens after p) sound r h v, λ _ q w _ _. turns-none (elses after p q) sound r h v)
 
   module _ {w : ℕ} {x : Scanned} (v : Valued m c t space (Whole w x) space′) where
     -- not 0: the first part

@@ -2,12 +2,13 @@
 use mathlib.Core.Path.{_≡_, refl, sym, ap, _∙_}
 use mathlib.Core.Bool.{Bool, true, false}
 use mathlib.Core.List.{List}
-use Prim.Native.Nat.{ℕ, _≤_}
+use Prim.Native.Nat.{ℕ, _≤_, _<_}
 use native.Mathlib.Omega.{arith}
 use Rattle.whole.proofs.Never.{never}
 use Rattle.whole.specs.declared.errors.Error.the-variants.{OutOfMemory, TypeMismatch}
 use Rattle.words.specs.declared.names.Kind.the-variants as kind
 use Rattle.words.specs.declared.names.Name.{Name}
+use Rattle.words.specs.Names.{alike}
 use Rattle.words.specs.declared.names.Telling.{Telling}
 use Rattle.words.specs.declared.places.Place.{Place}
 use Rattle.words.specs.declared.symbols.Scanned.{Scanned}
@@ -22,25 +23,25 @@ use Rattle.statements.specs.Parts.{deepest}
 use Rattle.grammar.specs.Formulas as formulas
 use Rattle.grammar.specs.Formulas.{Reading, good, after, formulaOf}
 use Rattle.statements.specs.Statements.{Begun, bad, done, onFormula, variableOf, limitAt, stepAt, forAt}
+use Rattle.variables.specs.bridge.Memory.{nameAt}
+use Rattle.variables.proofs.Names.{alike-is}
+use Rattle.variables.proofs.StoredNumbers.{number-stored}
 use Rattle.variables.specs.declared.values.Worked.the-variants.{Whole}
 use Rattle.machine.specs.Machine as spec
 use Rattle.machine.specs.Machine.{isLoopOf, noting, roomOf}
-use Rattle.machine.specs.bridge.Holding.{positionOf, Positioned, loopRecord, Sound, Same}
-use Rattle.machine.specs.bridge.Wanted.{LoopOf, foundIn}
-use Rattle.machine.specs.declared.state.Machine.{Machine}
+use Rattle.machine.specs.bridge.Holding.{positionOf, Positioned, loopRecord, recordOf, Placed, Settled, Sound, Same, State}
+use Rattle.machine.specs.bridge.Wanted.{Told}
 use Rattle.machine.specs.declared.positions.Position.{Position}
-use Rattle.machine.specs.declared.positions.Turned.{Turned}
+use Rattle.turns.specs.bridge.Turns.{Turn, turnedTo, afterOf, Turns, Formed, Valued, FoundBelow, numberSet, Storage}
 use Rattle.machine.specs.declared.positions.Next.the-variants as next
 use Rattle.machine.specs.declared.records.Record.{Record}
 use Rattle.machine.specs.declared.records.Found.{Found}
 use Rattle.machine.specs.declared.records.Found.the-variants as found
 use Rattle.machine.proofs.Stacking.{loop-back, loop-held}
-use Rattle.machine.proofs.Searching.{record-found, record-missing}
+use Rattle.machine.proofs.Searching.{told-kept}
 use Rattle.turns.specs.Steps as step
 use Rattle.turns.specs.Steps.{goesOn, pushed, cleared, begun, fromStep, fromStart, doStatement}
-use Rattle.turns.specs.bridge.Turns.{turnedTo, afterOf, Turns, Formed, Valued, Told, FoundBelow, numberSet}
 use Rattle.control.specs.bridge.Answers.{Counts, pushedTurn, droppedTo, loopTurn, stepOf, Stepped, Limited}
-use Rattle.turns.specs.declared.setting.Stored.{Stored}
 use Rattle.turns.proofs.Keeping.{sound-kept, same-noting, leaves-unprinted}
 use Rattle.turns.proofs.Leading.{turns-fails, turns-then}
 use Rattle.turns.proofs.Storing.{number-settled, leads-number, sound-tables}
@@ -151,54 +152,79 @@ module _ {line : List ℕ} {name : Name} {equals : Scanned} (k : Counts line nam
 -- ---- the record of a FOR
 
 -- an older loop of the variable is dropped
-module _ {text : List ℕ} {rs : List Record} {m : Machine} {input space room : List ℕ} (name : Telling) {q : spec.Machine}
+module _ {text : List ℕ} {rs : List Record} {m : State} {input space room : List ℕ} (entry : Record) (name : Telling) {q : spec.Machine}
     (same : Same text rs m input space room q) where
-  same-dropped : (f : Found) → f ≡ foundIn (LoopOf name) rs (m .depth)
+  same-dropped : (f : Found) → Told text (m .tables .numbers .names) (isLoopOf name) (m .depth) f entry rs
       → Same text rs (droppedTo m f) input space room (cleared name q)
-  same-dropped found.None e =
-      rw (ap (spec.sought (isLoopOf name)) (same .records) ∙ record-missing text rs (LoopOf name) (m .depth) (sym e)) same
-  same-dropped (found.At i) e =
-      let k = record-found text rs (LoopOf name) (m .depth) i (sym e) in
-      let h : i ≤ m .depth = omega (arith, k .below) in
-      rw (ap (spec.sought (isLoopOf name)) (same .records) ∙ k .is) (same-fewer i h same)
+  same-dropped found.None t = rw (ap (spec.sought (isLoopOf name)) (same .records) ∙ t) same
+  same-dropped (found.At i) t =
+      let h : i ≤ m .depth = omega (arith, t .below) in
+      rw (ap (spec.sought (isLoopOf name)) (same .records) ∙ t .is) (same-fewer i h same)
 
-module _ {m : Machine} {input space room : List ℕ} where
+module _ {m : State} {input space room : List ℕ} where
   sound-dropped : (f : Found) → FoundBelow (m .depth) f → Sound m input space room → Sound (droppedTo m f) input space room
   sound-dropped found.None b h = h
   sound-dropped (found.At i) b h = sound-depth i (omega (arith, h .deep)) h
 
-dropped-steps : (m : Machine) (f : Found) → droppedTo m f .steps ≡ m .steps
+dropped-steps : (m : State) (f : Found) → droppedTo m f .steps ≡ m .steps
 dropped-steps m found.None = refl
 dropped-steps m (found.At i) = refl
 
-dropped-printer : (m : Machine) (f : Found) → droppedTo m f .printer ≡ m .printer
+dropped-tables : (m : State) (f : Found) → droppedTo m f .tables ≡ m .tables
+dropped-tables m found.None = refl
+dropped-tables m (found.At i) = refl
+
+dropped-printer : (m : State) (f : Found) → droppedTo m f .printer ≡ m .printer
 dropped-printer m found.None = refl
 dropped-printer m (found.At i) = refl
 
 -- a variable is set
-pub sound-set : {m : Machine} {input space room : List ℕ} (name : Telling) (w : ℕ) → Sound m input space room
-    → Sound (numberSet m name w .machine) input space room
+pub sound-set : {m : State} {input space room : List ℕ} (name : Telling) (w : ℕ) → Sound m input space room
+    → Sound (numberSet m name w .state) input space room
 sound-set name w s = sound-tables s (number-settled name w (s .settled))
 
-module _ {text : List ℕ} {m : Machine} {input space room : List ℕ} {entry : Record} (name : Telling) (from limit by : ℕ) (back : Position) (f : Found)
+-- the record made is that of the variable's loop
+module _ (text : List ℕ) {m : State} {space : List ℕ} (name : Telling) (from limit by : ℕ) (back : Position) (f : Found) (settled : Settled m space)
+    (yes : numberSet m name from .ok ≡ true) where
+  abbrev made : Storage
+  made = numberSet m name from
+
+  made-slot : (made .slot < made .state .tables .numbers .count) × (alike (nameAt (made .state .tables .numbers .names) (made .slot)) name ≡ true)
+  made-slot = number-stored (m .tables .numbers) name from (settled .numbers) .slot yes
+
+  loop-is : recordOf text (droppedTo (made .state) f .tables .numbers .names) (loopRecord (made .slot) limit by back)
+      ≡ spec.loop name limit by (positionOf text back)
+  loop-is =
+      rw (dropped-tables (made .state) f)
+      (loop-held text (made .state .tables .numbers .names) (made .slot) limit by back
+      ∙ ap (λ v. spec.loop v limit by (positionOf text back)) (alike-is (nameAt (made .state .tables .numbers .names) (made .slot)) name (made-slot .1)))
+
+  loop-placed : Positioned text back → Placed text (droppedTo (made .state) f .tables .numbers .count) (loopRecord (made .slot) limit by back)
+  loop-placed p =
+      rw (dropped-tables (made .state) f) (record { back = rw (loop-back (made .slot) limit by back) p; known = λ _. made-slot .0 })
+
+module _ {text : List ℕ} {m : State} {input space room : List ℕ} (entry : Record) (name : Telling) (from limit by : ℕ) (back : Position) (f : Found)
     (sound : Sound m input space room) (low : FoundBelow (m .depth) f) (p : Positioned text back) where
-  pub turns-loop : Turns text m input space room (Told (LoopOf name) (m .depth) f entry) (begun name (positionOf text back) from limit by)
-      (loopTurn m name from limit by back f) space room
+  pub turns-loop : Turns text m input space room (Told text (m .tables .numbers .names) (isLoopOf name) (m .depth) f entry) (begun name (positionOf text back) from limit by) (loopTurn m name from limit by back f) space room
   turns-loop =
       let set = numberSet m name from in
-      let h : Sound (set .machine) input space room = sound-set name from sound in
+      let h : Sound (set .state) input space room = sound-set name from sound in
+      let kept = number-stored (m .tables .numbers) name from (sound .settled .numbers) in
       let go : spec.Machine → step.Next =
       (λ q. pushed (cleared name q) (spec.loop name limit by (positionOf text back)) (λ r. goesOn r (positionOf text back))) in
       by-test (set .ok)
       (λ e. rw e
-      (turns-pushed (loopRecord name limit by back) (next.On back) (spec.loop name limit by (positionOf text back)) (loop-held text name limit by back) (λ r. goesOn r (positionOf text back)) (sound-dropped f low h) refl
-      (dropped-steps (set .machine) f) (dropped-printer (set .machine) f) (rw (loop-back name limit by back) p) (λ o S s. (p, (refl, s)))
+      (turns-pushed (loopRecord (set .slot) limit by back) (next.On back) (spec.loop name limit by (positionOf text back)) (loop-is text name from limit by back f (sound .settled) e)
+      (λ r. goesOn r (positionOf text back)) (sound-dropped f low h) refl
+      (dropped-steps (set .state) f) (dropped-printer (set .state) f) (loop-placed text name from limit by back f (sound .settled) e p) (λ o S s. (p, (refl, s)))
       (λ rs l t n s. let k = rw e at (leads-number name from (sound .settled) s go) in
-      record { machine = _; is = k .is; same = same-dropped name (k .same) f (t .at) })))
+      let u = told-kept text (m .tables .numbers .names) (set .state .tables .numbers .names) (m .tables .numbers .count) (kept .names) rs (isLoopOf name) (m .depth)
+      (λ i b. s .placed i b .known) f entry t in
+      record { machine = _; is = k .is; same = same-dropped entry name (k .same) f u })))
       (λ e. rw e (turns-fails (leaves-unprinted h refl refl refl) (λ rs l t n s. rw e at (leads-number name from (sound .settled) s go))))
 
   -- the step that is left out is 1
-  pub turns-by-one : by ≡ 1 → Turns text m input space room (Told (LoopOf name) (m .depth) f entry)
+  pub turns-by-one : by ≡ 1 → Turns text m input space room (Told text (m .tables .numbers .names) (isLoopOf name) (m .depth) f entry)
       (fromStep name (positionOf text back) (number 1) from limit) (loopTurn m name from limit by back f) space room
   turns-by-one e =
       turns-then (leaves-unprinted {r = turnedTo m next.Ends} sound refl refl refl)
@@ -207,29 +233,29 @@ module _ {text : List ℕ} {m : Machine} {input space room : List ℕ} {entry : 
       turns-loop
 
 -- what the code makes, by whether there was room for the variable
-module _ (m : Machine) (name : Telling) (from limit by : ℕ) (back : Position) (f : Found) {s : Stored} (e : s ≡ numberSet m name from) where
-  pub loop-full : s .ok ≡ false → turnedTo (s .machine) (next.Fails OutOfMemory) ≡ loopTurn m name from limit by back f
+module _ (m : State) (name : Telling) (from limit by : ℕ) (back : Position) (f : Found) {s : Storage} (e : s ≡ numberSet m name from) where
+  pub loop-full : s .ok ≡ false → turnedTo (s .state) (next.Fails OutOfMemory) ≡ loopTurn m name from limit by back f
   loop-full h = let k : numberSet m name from .ok ≡ false = rw e at h in rw (k, e)
 
-  pub loop-made : s .ok ≡ true
-      → pushedTurn (droppedTo (s .machine) f) (loopRecord name limit by back) (next.On back) ≡ loopTurn m name from limit by back f
-  loop-made h = let k : numberSet m name from .ok ≡ true = rw e at h in rw (k, e)
+  pub loop-made : s .ok ≡ true → {b : Position} → b ≡ back → {d : State} → d ≡ droppedTo (s .state) f → {held : Record} → held ≡ loopRecord (s .slot) limit by b
+      → {r : Turn} → r ≡ pushedTurn d held (next.On b) → r ≡ loopTurn m name from limit by back f
+  loop-made h same low made is = let k : numberSet m name from .ok ≡ true = rw e at h in is ∙ rw (made, low, same, k, e)
 
 -- with the step that was worked out
-module _ {text : List ℕ} {m : Machine} {input space room : List ℕ} {entry : Record} (name : Telling) (from limit : ℕ) (here : Place) (f : Found)
+module _ {text : List ℕ} {m : State} {input space room : List ℕ} (entry : Record) (name : Telling) (from limit : ℕ) (here : Place) (f : Found)
     (sound : Sound m input space room) (low : FoundBelow (m .depth) f) where
   pub turns-stepped : {by : Formula} {w : ℕ} {u x : Scanned} {space′ : List ℕ} → Positioned text (afterOf here u)
       → Valued m by u space (Whole w x) space′
-      → Turns text m input space room (Told (LoopOf name) (m .depth) f entry) (fromStep name (positionOf text (afterOf here u)) by from limit)
+      → Turns text m input space room (Told text (m .tables .numbers .names) (isLoopOf name) (m .depth) f entry) (fromStep name (positionOf text (afterOf here u)) by from limit)
       (loopTurn m name from limit w (afterOf here x) f) space′ room
   turns-stepped {w = w} {u = u} p v =
       rw (v .goes)
       (turns-whole (begun name (positionOf text (afterOf here u)) from limit) sound v
-      (turns-loop name from limit w (afterOf here u) f (sound-kept (v .framed .long) sound) low p))
+      (turns-loop entry name from limit w (afterOf here u) f (sound-kept (v .framed .long) sound) low p))
 
 -- ---- the whole statement
 
-module _ {text : List ℕ} {m : Machine} {input space room : List ℕ} {told : List Record → Type 0} (at : ℕ) (v : Variable) (a b c : Formula)
+module _ {text : List ℕ} {m : State} {input space room : List ℕ} {told : List Record → Type 0} (at : ℕ) (v : Variable) (a b c : Formula)
     (after : spec.Position) where
   -- the name's type is tested first
   pub for-text : v .kind ≡ kind.Text → Sound m input space room
@@ -237,7 +263,7 @@ module _ {text : List ℕ} {m : Machine} {input space room : List ℕ} {told : L
   for-text e h =
       turns-fails (leaves-unprinted h refl refl refl) (λ rs l t n s. record { machine = n; is = rw e; same = s })
 
-  pub for-whole : {space′ : List ℕ} {r : Turned} → v .kind ≡ kind.Whole
+  pub for-whole : {space′ : List ℕ} {r : Turn} → v .kind ≡ kind.Whole
       → Turns text m input space room told (λ n. fromStart (v .telling) after a b c n) r space′ room
       → Turns text m input space room told (λ n. doStatement text at (tree.for v a b c) n after) r space′ room
   for-whole e t = turns-as (λ n. rw e) t

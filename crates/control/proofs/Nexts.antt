@@ -1,38 +1,40 @@
 -- NEXT: the loop that is found turns once more, or is dropped.
-use mathlib.Core.Path.{_≡_, refl, sym, ap, _∙_}
-use mathlib.Core.Bool.{true, false, cond}
+use mathlib.Core.Path.{_≡_, refl, sym, ap, subst, _∙_}
+use mathlib.Core.Bool.{Bool, true, false, cond, false≢true}
 use mathlib.Core.List.{List, _∷_}
 use Prim.Native.Nat.{ℕ, _+_, _≤_, _<_}
 use native.Mathlib.Omega.{arith}
 use native.Mathlib.Numerals.{add-one}
-use lib.ListN.{getD}
+use borrow.Author.Tests.{lt-ltb, ltb-true}
+use lib.Dec.{ltb}
 use Rattle.whole.specs.Whole.{applied}
 use Rattle.whole.specs.declared.arithmetic.Answer.{Answer}
 use Rattle.whole.specs.declared.arithmetic.Answer.the-variants as answer
 use Rattle.whole.specs.declared.arithmetic.Operator.the-variants.{Add}
 use Rattle.whole.specs.declared.errors.Error.{Error}
-use Rattle.whole.specs.declared.errors.Error.the-variants.{NextWithoutFor, OutOfMemory}
+use Rattle.whole.specs.declared.errors.Error.the-variants.{NextWithoutFor}
 use Rattle.words.specs.declared.names.Telling.{Telling}
-use Rattle.variables.specs.Variables.{wordOf}
-use Rattle.variables.specs.bridge.Memory.{wordAt}
-use Rattle.variables.specs.Tables.{slotIn}
+use Rattle.variables.specs.Variables.{wordOf, mostVariables}
+use Rattle.words.proofs.Choices.{by-test}
+use Rattle.variables.specs.bridge.Memory.{nameAt, wordAt, numbersHeld}
+use Rattle.variables.proofs.Names.{alike-self, name-slot}
+use Rattle.variables.proofs.StoredNumbers.{number-at}
 use Rattle.variables.proofs.Holding.{held-looked}
 use Rattle.variables.proofs.Looking.{looked-word}
 use Rattle.machine.specs.Machine as spec
 use Rattle.machine.specs.Machine.{mostRecords, passed}
-use Rattle.machine.specs.bridge.Holding.{positionOf, Positioned, blankRecord, backOf, recordOf, recordsIn, Sound, Same}
-use Rattle.machine.specs.bridge.Wanted.{seeksCall, wanted}
-use Rattle.machine.specs.declared.state.Machine.{Machine}
+use Rattle.machine.specs.bridge.Holding.{positionOf, Positioned, counts, backOf, recordOf, recordsIn, Settled, Sound, Same, State}
+use Rattle.machine.specs.bridge.Wanted.{Told}
 use Rattle.machine.specs.declared.positions.Position.{Position}
 use Rattle.machine.specs.declared.positions.Next.the-variants as next
 use Rattle.machine.specs.declared.records.Record.{Record}
+use Rattle.machine.specs.declared.records.Found.{Found}
 use Rattle.machine.specs.declared.records.Found.the-variants as found
-use Rattle.machine.specs.declared.records.Sought.{Sought}
 use Rattle.machine.proofs.Stacking.{is-loop, records-top}
-use Rattle.machine.proofs.Searching.{found-loop, record-found, record-missing}
 use Rattle.turns.specs.Steps as step
-use Rattle.turns.specs.Steps.{goesOn, turned, nextOn}
-use Rattle.turns.specs.bridge.Turns.{turnedTo, Turns, Told, withDepth, numberSet}
+use Rattle.turns.specs.Steps.{goesOn, storeNumber, turned, nextOn}
+use Rattle.turns.specs.bridge.Turns.{turnedTo, Turns, withDepth, numberKept, numberSet}
+use Rattle.control.specs.bridge.Answers.{wordIn, wordSet, LoopsOnly}
 use Rattle.turns.proofs.Keeping.{leaves-unprinted}
 use Rattle.turns.proofs.Leading.{Leads, turns-fails, turns-on, turns-unwritten}
 use Rattle.turns.proofs.Storing.{storedMet, leads-number}
@@ -40,117 +42,131 @@ use Rattle.control.proofs.Jumps.{sound-depth, same-depth, same-fewer}
 use Rattle.control.proofs.Fors.{sound-set}
 
 -- what the definition does
-abbrev nexts : Sought → spec.Position → spec.Machine → step.Next
-nexts k after n = nextOn n (spec.sought (wanted k) (n .records)) after
+abbrev nexts : (spec.Record → Bool) → spec.Position → spec.Machine → step.Next
+nexts test after n = nextOn n (spec.sought test (n .records)) after
 
--- the number that a variable has
-abbrev pub held : Machine → Telling → ℕ
-held m name = wordAt (slotIn (m .tables .numbers .names) name) (m .tables .numbers .words)
+-- the variable of a loop's record
+abbrev variable : State → Record → Telling
+variable m entry = nameAt (m .tables .numbers .names) (entry .slot)
 
 -- what the definition does with the loop that was found, and then with its variable set
-abbrev turning : List ℕ → Record → List spec.Record → spec.Position → Answer → spec.Machine → step.Next
-turning text entry under after x n =
-    turned n (entry .name) (entry .limit) (entry .step) (positionOf text (backOf entry)) under after x
+abbrev turning : List ℕ → Telling → Record → List spec.Record → spec.Position → Answer → spec.Machine → step.Next
+turning text v entry under after x n = turned n v (entry .limit) (entry .step) (positionOf text (backOf entry)) under after x
 
-abbrev going : List ℕ → Record → List spec.Record → spec.Position → ℕ → spec.Machine → step.Next
-going text entry under after w n =
+abbrev going : List ℕ → Telling → Record → List spec.Record → spec.Position → ℕ → spec.Machine → step.Next
+going text v entry under after w n =
     cond (passed w (entry .limit) (entry .step))
     (goesOn (spec.withRecords n under) after)
-    (goesOn (spec.withRecords n (spec.loop (entry .name) (entry .limit) (entry .step) (positionOf text (backOf entry)) ∷ under))
+    (goesOn (spec.withRecords n (spec.loop v (entry .limit) (entry .step) (positionOf text (backOf entry)) ∷ under))
     (positionOf text (backOf entry)))
 
--- the record that was found is a loop's
-entry-loop : (text : List ℕ) (k : Sought) (d slot : ℕ) (entry : Record) → seeksCall k ≡ false → (rs : List Record)
-    → Told k d (found.At slot) entry rs
-    → recordOf text entry ≡ spec.loop (entry .name) (entry .limit) (entry .step) (positionOf text (backOf entry))
-entry-loop text k d slot entry calls rs t =
-    let f = record-found text rs k d slot (sym (t .at)) in
-    rw (t .is) (is-loop text (getD rs slot blankRecord) (found-loop k (getD rs slot blankRecord) calls (f .asked)))
+-- what a test of loops alone passes is a loop's
+loop-found : (text names : List ℕ) (test : spec.Record → Bool) → LoopsOnly test → (e : Record) → test (recordOf text names e) ≡ true → counts e ≡ true
+loop-found text names test only e t =
+    by-test (counts e) (λ f. f) (λ f. absurd (false≢true (sym (only (positionOf text (backOf e))) ∙ rw f at t)))
 
-module _ {text : List ℕ} {m : Machine} {input space room : List ℕ} {entry : Record} {k : Sought} (after : spec.Position)
-    (calls : seeksCall k ≡ false) (sound : Sound m input space room) where
-  pub next-missing : Turns text m input space room (Told k (m .depth) found.None entry) (nexts k after) (turnedTo m (next.Fails NextWithoutFor)) space room
+-- the number at an entry is that of the variable whose name stands there, and setting it is assigning to that
+module _ {m : State} {space : List ℕ} (settled : Settled m space) (slot : ℕ) (known : slot < m .tables .numbers .count) where
+  word-is : wordOf (numbersHeld (m .tables .numbers)) (nameAt (m .tables .numbers .names) slot) ≡ wordIn (m .tables .numbers .words) slot
+  word-is =
+      let name = nameAt (m .tables .numbers .names) slot in
+      sym (looked-word (held-looked (m .tables .numbers) (m .tables .strings) space (settled .numbers) (settled .strings)) name)
+      ∙ ap (λ x. wordAt x (m .tables .numbers .words))
+      (name-slot (m .tables .numbers .names) (m .tables .numbers .count) (settled .numbers .few) (settled .numbers .apart) slot name known (alike-self name))
+      ∙ rw (lt-ltb slot mostVariables (omega (arith, settled .numbers .few)))
+
+  set-is : (w : ℕ) → numberSet m (nameAt (m .tables .numbers .names) slot) w ≡ record { ok = true; slot = slot; state = wordSet m slot w }
+  set-is w =
+      ap (numberKept m) (number-at (m .tables .numbers) (nameAt (m .tables .numbers .names) slot) w (settled .numbers) slot known)
+      ∙ rw (lt-ltb slot (m .tables .numbers .count) known, lt-ltb slot mostVariables (omega (arith, settled .numbers .few)))
+
+-- a number at any entry in use leaves the machine sound
+sound-word : {m : State} {input space room : List ℕ} (slot w : ℕ) → Sound m input space room → Sound (wordSet m slot w) input space room
+sound-word {m} {input} {space} {room} slot w s =
+    by-test (ltb slot (m .tables .numbers .count))
+    (λ t. let k = ltb-true slot (m .tables .numbers .count) t in
+    subst (λ x. Sound x input space room) (ap (λ x. x .state) (set-is (s .settled) slot k w)) (sound-set (nameAt (m .tables .numbers .names) slot) w s))
+    (λ t. rw t s)
+
+module _ (text : List ℕ) {m : State} {input space room : List ℕ} (entry : Record) (test : spec.Record → Bool) (after : spec.Position)
+    (only : LoopsOnly test) (sound : Sound m input space room) where
+  abbrev Asked : Found → List Record → Type 0
+  Asked f = Told text (m .tables .numbers .names) test (m .depth) f entry
+
+  pub next-missing : Turns text m input space room (Asked found.None) (nexts test after) (turnedTo m (next.Fails NextWithoutFor)) space room
   next-missing =
       turns-fails (leaves-unprinted sound refl refl refl)
-      (λ rs l t n s.
-      record {
-        machine = n;
-        is = ap (λ x. nextOn n x after)
-            (ap (spec.sought (wanted k)) (s .records) ∙ record-missing text rs k (m .depth) (sym (t .at)));
-        same = s;
-      })
+      (λ rs l t n s. record { machine = n; is = ap (λ x. nextOn n x after) (ap (spec.sought test) (s .records) ∙ t); same = s })
 
   -- a loop was found
   module _ (slot : ℕ) (low : slot < m .depth) where
-    nexts-turned : {x : Answer} → applied Add (held m (entry .name)) (entry .step) ≡ x
-        → (rs : List Record) → Told k (m .depth) (found.At slot) entry rs → (n : spec.Machine) → Same text rs m input space room n
-        → nexts k after n ≡ turning text entry (recordsIn text rs slot) after x n
-    nexts-turned {x} e rs t n s =
-        let y = sound .settled in
-        let f = record-found text rs k (m .depth) slot (sym (t .at)) in
-        let g = ap (spec.sought (wanted k)) (s .records) ∙ f .is ∙ ap (λ e. spec.found (recordOf text e) (recordsIn text rs slot)) (sym (t .is))
-        ∙ ap (λ r. spec.found r (recordsIn text rs slot)) (entry-loop text k (m .depth) slot entry calls rs t) in
-        let w : wordOf (n .variables .numbers) (entry .name) ≡ held m (entry .name) =
-        ap (λ v. wordOf (v .numbers) (entry .name)) (s .variables)
-        ∙ sym (looked-word (held-looked (m .tables .numbers) (m .tables .strings) space (y .numbers) (y .strings)) (entry .name)) in
-        ap (λ z. nextOn n z after) g
-        ∙ ap (λ z. turning text entry (recordsIn text rs slot) after z n) (ap (λ z. applied Add z (entry .step)) w ∙ e)
+    abbrev under : List Record → List spec.Record
+    under rs = recordsIn text (m .tables .numbers .names) rs slot
 
-    pub next-fault : {e : Error} → applied Add (held m (entry .name)) (entry .step) ≡ answer.Fault e
-        → Turns text m input space room (Told k (m .depth) (found.At slot) entry) (nexts k after) (turnedTo m (next.Fails e)) space room
+    module _ (rs : List Record) (t : Asked (found.At slot) rs) where
+      entry-loop : recordOf text (m .tables .numbers .names) entry
+          ≡ spec.loop (variable m entry) (entry .limit) (entry .step) (positionOf text (backOf entry))
+      entry-loop = is-loop text (m .tables .numbers .names) entry (loop-found text (m .tables .numbers .names) test only entry (t .passes))
+
+      module _ (n : spec.Machine) (s : Same text rs m input space room n) where
+        known : entry .slot < m .tables .numbers .count
+        known = rw (t .at) (s .placed slot low .known (rw (t .at) at (loop-found text (m .tables .numbers .names) test only entry (t .passes))))
+
+        nexts-turned : {x : Answer} → applied Add (wordIn (m .tables .numbers .words) (entry .slot)) (entry .step) ≡ x
+            → nexts test after n ≡ turning text (variable m entry) entry (under rs) after x n
+        nexts-turned {x} e =
+            let g = ap (spec.sought test) (s .records) ∙ t .is ∙ ap (λ r. spec.found r (under rs)) entry-loop in
+            let w : wordOf (n .variables .numbers) (variable m entry) ≡ wordIn (m .tables .numbers .words) (entry .slot) =
+            ap (λ v. wordOf (v .numbers) (variable m entry)) (s .variables) ∙ word-is (sound .settled) (entry .slot) known in
+            ap (λ z. nextOn n z after) g
+            ∙ ap (λ z. turning text (variable m entry) entry (under rs) after z n) (ap (λ z. applied Add z (entry .step)) w ∙ e)
+
+        leads-set : (w : ℕ) → applied Add (wordIn (m .tables .numbers .words) (entry .slot)) (entry .step) ≡ answer.Whole w
+            → Leads text rs (wordSet m (entry .slot) w) input space room (nexts test after n) (going text (variable m entry) entry (under rs) after w)
+        leads-set w e =
+            let go = going text (variable m entry) entry (under rs) after w in
+            let l = subst (λ x. Leads text rs (x .state) input space room (storeNumber n (variable m entry) w go) (storedMet (x .ok) go))
+            (set-is (sound .settled) (entry .slot) known w) (leads-number (variable m entry) w (sound .settled) s go) in
+            record { machine = l .machine; is = nexts-turned e ∙ l .is; same = l .same }
+
+    pub next-fault : {e : Error} → applied Add (wordIn (m .tables .numbers .words) (entry .slot)) (entry .step) ≡ answer.Fault e
+        → Turns text m input space room (Asked (found.At slot)) (nexts test after) (turnedTo m (next.Fails e)) space room
     next-fault e =
         turns-fails (leaves-unprinted sound refl refl refl)
-        (λ rs l t n s. record { machine = n; is = nexts-turned e rs t n s; same = s })
+        (λ rs l t n s. record { machine = n; is = nexts-turned rs t n s e; same = s })
 
     -- its variable is set
-    module _ (w : ℕ) (sum : applied Add (held m (entry .name)) (entry .step) ≡ answer.Whole w) where
-      leads-set : (rs : List Record) → Told k (m .depth) (found.At slot) entry rs → (n : spec.Machine) → Same text rs m input space room n
-          → Leads text rs (numberSet m (entry .name) w .machine) input space room (nexts k after n)
-          (storedMet (numberSet m (entry .name) w .ok) (going text entry (recordsIn text rs slot) after w))
-      leads-set rs t n s =
-          let l = leads-number (entry .name) w (sound .settled) s (going text entry (recordsIn text rs slot) after w) in
-          record { machine = l .machine; is = nexts-turned sum rs t n s ∙ l .is; same = l .same }
+    module _ (w : ℕ) (sum : applied Add (wordIn (m .tables .numbers .words) (entry .slot)) (entry .step) ≡ answer.Whole w) where
+      -- the loop ends,
+      pub next-ends : (q : Position) → Positioned text q → after ≡ positionOf text q → passed w (entry .limit) (entry .step) ≡ true
+          → Turns text m input space room (Asked (found.At slot)) (nexts test after)
+          (turnedTo (withDepth (wordSet m (entry .slot) w) slot) (next.On q)) space room
+      next-ends q p a e =
+          let d : slot ≤ mostRecords = omega (arith, sound .deep) in
+          let h : slot ≤ m .depth = omega arith in
+          turns-on (leaves-unprinted (sound-depth slot d (sound-word (entry .slot) w sound)) refl refl refl) p
+          (λ rs l t n s.
+          let j = leads-set rs t n s w sum in
+          record {
+            machine = spec.withRecords (j .machine) (under rs);
+            is = j .is ∙ rw (e, a);
+            same = same-fewer slot h (j .same);
+          })
 
-      pub next-full : numberSet m (entry .name) w .ok ≡ false
-          → Turns text m input space room (Told k (m .depth) (found.At slot) entry) (nexts k after)
-          (turnedTo (numberSet m (entry .name) w .machine) (next.Fails OutOfMemory)) space room
-      next-full full =
-          turns-fails (leaves-unprinted (sound-set (entry .name) w sound) refl refl refl) (λ rs l t n s. rw full at (leads-set rs t n s))
-
-      module _ (yes : numberSet m (entry .name) w .ok ≡ true) where
-        -- the loop ends,
-        pub next-ends : (q : Position) → Positioned text q → after ≡ positionOf text q → passed w (entry .limit) (entry .step) ≡ true
-            → Turns text m input space room (Told k (m .depth) (found.At slot) entry) (nexts k after)
-            (turnedTo (withDepth (numberSet m (entry .name) w .machine) slot) (next.On q)) space room
-        next-ends q p a e =
-            let d : slot ≤ mostRecords = omega (arith, sound .deep) in
-            let h : slot ≤ m .depth = omega arith in
-            turns-on (leaves-unprinted (sound-depth slot d (sound-set (entry .name) w sound)) refl refl refl) p
-            (λ rs l t n s.
-            let j = rw yes at (leads-set rs t n s) in
-            record {
-              machine = spec.withRecords (j .machine) (recordsIn text rs slot);
-              is = j .is ∙ rw (e, a);
-              same = same-fewer slot h (j .same);
-            })
-
-        -- or turns once more
-        pub next-again : passed w (entry .limit) (entry .step) ≡ false
-            → Turns text m input space room (Told k (m .depth) (found.At slot) entry) (nexts k after)
-            (turnedTo (withDepth (numberSet m (entry .name) w .machine) (slot + 1)) (next.On (backOf entry))) space room
-        next-again e =
-            let d : slot + 1 ≤ mostRecords = omega (arith, sound .deep) in
-            turns-unwritten (leaves-unprinted (sound-depth (slot + 1) d (sound-set (entry .name) w sound)) refl refl refl)
-            (λ rs l t n s.
-            let j = rw yes at (leads-set rs t n s) in
-            let under = recordsIn text rs slot in
-            let does : nexts k after n
-            ≡ goesOn (spec.withRecords (j .machine) (spec.loop (entry .name) (entry .limit) (entry .step) (positionOf text (backOf entry)) ∷ under))
-            (positionOf text (backOf entry)) =
-            j .is ∙ rw e in
-            let top : recordsIn text rs (slot + 1)
-            ≡ spec.loop (entry .name) (entry .limit) (entry .step) (positionOf text (backOf entry)) ∷ recordsIn text rs slot =
-            rw add-one (records-top text rs slot ∙ ap (λ e. recordOf text e ∷ recordsIn text rs slot) (sym (t .is)) ∙ ap (λ r. r ∷ recordsIn text rs slot) (entry-loop text k (m .depth) slot entry calls rs t)) in
-            let here : Positioned text (backOf entry) = rw (t .is) (s .placed slot low) in
-            rw does
-            (here, (refl, same-depth (slot + 1) _ (sym top) (λ i h. let g : i < m .depth = omega arith in s .placed i g) (j .same))))
+      -- or turns once more
+      pub next-again : passed w (entry .limit) (entry .step) ≡ false
+          → Turns text m input space room (Asked (found.At slot)) (nexts test after)
+          (turnedTo (withDepth (wordSet m (entry .slot) w) (slot + 1)) (next.On (backOf entry))) space room
+      next-again e =
+          let d : slot + 1 ≤ mostRecords = omega (arith, sound .deep) in
+          turns-unwritten (leaves-unprinted (sound-depth (slot + 1) d (sound-word (entry .slot) w sound)) refl refl refl)
+          (λ rs l t n s.
+          let j = leads-set rs t n s w sum in
+          let loop = spec.loop (variable m entry) (entry .limit) (entry .step) (positionOf text (backOf entry)) in
+          let does : nexts test after n ≡ goesOn (spec.withRecords (j .machine) (loop ∷ under rs)) (positionOf text (backOf entry)) = j .is ∙ rw e in
+          let top : recordsIn text (m .tables .numbers .names) rs (slot + 1) ≡ loop ∷ under rs =
+          rw add-one (records-top text (m .tables .numbers .names) rs slot
+          ∙ ap (λ e. recordOf text (m .tables .numbers .names) e ∷ under rs) (sym (t .at)) ∙ ap (λ r. r ∷ under rs) (entry-loop rs t)) in
+          let here : Positioned text (backOf entry) = rw (t .at) (s .placed slot low .back) in
+          rw does
+          (here, (refl, same-depth (slot + 1) _ (sym top) (λ i h. let g : i < m .depth = omega arith in s .placed i g) (j .same))))

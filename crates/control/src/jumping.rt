@@ -4,11 +4,12 @@ ghost use mathlib.Core.List.{List};
 ghost use Prim.Native.Nat.{ℕ};
 ghost use Rattle.grammar.specs.Trees as tree;
 ghost use Rattle.machine.specs.Machine as spec;
-ghost use Rattle.machine.specs.bridge.Holding.{positionOf, Positioned, Sound};
-ghost use Rattle.machine.specs.bridge.Wanted as sought;
+ghost use Rattle.machine.specs.bridge.Holding.{stateOf, positionOf, Positioned, Sound};
+ghost use Rattle.machine.specs.Machine.{isCall};
+ghost use Rattle.machine.specs.bridge.Wanted.{Told};
 ghost use Rattle.rows.specs.bridge.Rows.{Tabled, Ordered};
 ghost use Rattle.turns.specs.Steps.{doStatement};
-ghost use Rattle.turns.specs.bridge.Turns.{afterOf, Turns, anyRecords, Told, FoundBelow};
+ghost use Rattle.turns.specs.bridge.Turns.{turnOf, afterOf, Turns, anyRecords, FoundBelow};
 ghost use Rattle.control.specs.bridge.Answers.{pushedTurn};
 use loader::LineFound;
 use machine::Found;
@@ -30,8 +31,10 @@ use words::Scanned;
 pub fn goto(rows: &Rows, number: LineNumber, machine: Machine) -> Turned
     requires { ⌜ Ordered (now rows) ⌝ }
     ensures { λ r. ⌜
-        ((text input space room : List ℕ) (at : ℕ) (after : spec.Position) → Tabled text (now (rows .entry)) → Sound machine input space room
-        → Turns text machine input space room anyRecords (λ n. doStatement text at (tree.goto number) n after) r space room)
+        ((text input space room names words labels lengths : List ℕ) (at : ℕ) (after : spec.Position) → Tabled text (now (rows .entry))
+        → Sound (stateOf machine names words labels lengths) input space room
+        → Turns text (stateOf machine names words labels lengths) input space room anyRecords
+        (λ n. doStatement text at (tree.goto number) n after) (turnOf r names words labels lengths) space room)
         ⌝ }
 {
     match line_numbered(rows, number) {
@@ -45,7 +48,9 @@ pub fn goto(rows: &Rows, number: LineNumber, machine: Machine) -> Turned
 
 // A record more, if there is room.
 pub(crate) fn push(machine: Machine, held: Record, next: Next) -> Turned
-    ensures { λ r. ⌜ r ≡ pushedTurn machine held next ⌝ }
+    ensures { λ r. ⌜
+        ((names words labels lengths : List ℕ) → turnOf r names words labels lengths ≡ pushedTurn (stateOf machine names words labels lengths) held next)
+        ⌝ }
 {
     let slot = machine.depth;
     if Machine::RECORDS <= slot {
@@ -71,10 +76,12 @@ pub fn gosub(
 ) -> Turned
     requires { ⌜ Ordered (now rows) ⌝ }
     ensures { λ r. ⌜
-        ((text input space room : List ℕ) (at : ℕ) → Tabled text (now (rows .entry)) → Sound machine input space room
+        ((text input space room names words labels lengths : List ℕ) (at : ℕ) → Tabled text (now (rows .entry))
+        → Sound (stateOf machine names words labels lengths) input space room
         → Positioned text (afterOf here ahead)
-        → Turns text machine input space room anyRecords
-        (λ n. doStatement text at (tree.gosub number) n (positionOf text (afterOf here ahead))) r space room)
+        → Turns text (stateOf machine names words labels lengths) input space room anyRecords
+        (λ n. doStatement text at (tree.gosub number) n (positionOf text (afterOf here ahead)))
+        (turnOf r names words labels lengths) space room)
         ⌝ }
 {
     match line_numbered(rows, number) {
@@ -91,8 +98,9 @@ pub fn gosub(
 pub fn come_back(machine: Machine, found: Found, entry: Record) -> Turned
     requires { ⌜ FoundBelow (machine .depth) found ⌝ }
     ensures { λ r. ⌜
-        ((text input space room : List ℕ) (at : ℕ) (after : spec.Position) → Sound machine input space room
-        → Turns text machine input space room (Told sought.Call (machine .depth) found entry) (λ n. doStatement text at tree.return n after) r space room)
+        ((text input space room names words labels lengths : List ℕ) (at : ℕ) (after : spec.Position) → Sound (stateOf machine names words labels lengths) input space room
+        → Turns text (stateOf machine names words labels lengths) input space room (Told text names isCall (machine .depth) found entry)
+        (λ n. doStatement text at tree.return n after) (turnOf r names words labels lengths) space room)
         ⌝ }
 {
     match found {

@@ -2,8 +2,8 @@
 ghost use mathlib.Core.List.{List};
 ghost use Prim.Native.Nat.{ℕ, _≤_};
 ghost use lib.ListN.{length};
-ghost use Rattle.machine.specs.bridge.Holding.{Settled, Sound};
-ghost use Rattle.turns.specs.bridge.Turns.{FoundBelow};
+ghost use Rattle.machine.specs.bridge.Holding.{stateOf, Settled, Sound};
+ghost use Rattle.turns.specs.bridge.Turns.{turnOf, FoundBelow};
 ghost use Rattle.rows.specs.bridge.Rows.{Tabled, Ordered};
 ghost use Rattle.words.specs.declared.symbols.Word.the-variants as led;
 ghost use Rattle.statements.specs.Statements.{byWord};
@@ -22,6 +22,7 @@ use machine::Turned;
 use rows::Rows;
 use scanner::token_at;
 use turns::fails;
+use variables::Tables;
 use whole::Error;
 use words::Kind;
 use words::Place;
@@ -34,19 +35,35 @@ pub fn count(
     here: Place,
     target: Scanned,
     machine: Machine,
+    names: &mut [u8; 128],
+    words: &mut [u16; Tables::MOST],
+    labels: &[u8; 128],
+    lengths: &[u8; Tables::MOST],
     found: Found,
     space: &mut [u8],
 ) -> Turned
-    requires { ⌜ Begins (byWord (now line) led.For target) × ((length (now line) ≤ longestLine) × (Settled machine (now space) × FoundBelow (machine .depth) found)) ⌝ }
+    requires { ⌜ Begins (byWord (now line) led.For target) × ((length (now line) ≤ longestLine) × (Settled (stateOf machine (now names) (now words) (now labels) (now lengths)) (now space) × FoundBelow (machine .depth) found)) ⌝ }
     ensures { λ r. ⌜
-        ((text input room : List ℕ) (at : ℕ) (entry : Record) → Sound machine input (now (space .entry)) room
-        → Does text (now (line .entry)) here at machine found entry input (now (space .entry)) room r (now (space .exit)) room (byWord (now (line .entry)) led.For target))
+        ((text input room : List ℕ) (at : ℕ) (entry : Record) → Sound (stateOf machine (now (names .entry)) (now (words .entry)) (now (labels .entry)) (now (lengths .entry))) input (now (space .entry)) room
+        → Does text (now (line .entry)) here at (stateOf machine (now (names .entry)) (now (words .entry)) (now (labels .entry)) (now (lengths .entry))) found entry input (now (space .entry)) room (turnOf r (now (names .exit)) (now (words .exit)) (now (labels .entry)) (now (lengths .entry))) (now (space .exit)) room (byWord (now (line .entry)) led.For target))
         ⌝ }
 {
     let token = target.token;
     let equals = token_at(line, target.next);
     match token {
-        Token::Named(name) => for_loop(line, here, name, equals, machine, found, space),
+        Token::Named(name) => for_loop(
+            line,
+            here,
+            name,
+            equals,
+            machine,
+            names,
+            words,
+            labels,
+            lengths,
+            found,
+            space,
+        ),
         _ => fails(machine, Error::Syntax),
     }
 }
@@ -57,13 +74,15 @@ pub fn next_loop(
     here: Place,
     target: Scanned,
     machine: Machine,
+    words: &mut [u16; Tables::MOST],
     found: Found,
     entry: Record,
 ) -> Turned
     requires { ⌜ FoundBelow (machine .depth) found ⌝ }
     ensures { λ r. ⌜
-        ((text input space room : List ℕ) (at : ℕ) → Sound machine input space room
-        → Does text (now (line .entry)) here at machine found entry input space room r space room (byWord (now (line .entry)) led.Next target))
+        ((text input space room names labels lengths : List ℕ) (at : ℕ) → Sound (stateOf machine names (now (words .entry)) labels lengths) input space room
+        → Does text (now (line .entry)) here at (stateOf machine names (now (words .entry)) labels lengths) found entry input space room
+        (turnOf r names (now (words .exit)) labels lengths) space room (byWord (now (line .entry)) led.Next target))
         ⌝ }
 {
     let token = target.token;
@@ -72,19 +91,27 @@ pub fn next_loop(
             let kind = name.kind;
             match kind {
                 Kind::Text => fails(machine, Error::TypeMismatch),
-                Kind::Whole => next_turn(here, token_at(line, target.next), machine, found, entry),
+                Kind::Whole => next_turn(
+                    here,
+                    token_at(line, target.next),
+                    machine,
+                    words,
+                    found,
+                    entry,
+                ),
             }
         }
-        _ => next_turn(here, target, machine, found, entry),
+        _ => next_turn(here, target, machine, words, found, entry),
     }
 }
 
 pub fn jump(rows: &Rows, target: Scanned, machine: Machine) -> Turned
     requires { ⌜ Ordered (now rows) ⌝ }
     ensures { λ r. ⌜
-        ((text line input space room : List ℕ) (here : Place) (at : ℕ) (found : Found) (entry : Record) → Tabled text (now (rows .entry))
-        → Sound machine input space room
-        → Does text line here at machine found entry input space room r space room (byWord line led.Goto target))
+        ((text line input space room names words labels lengths : List ℕ) (here : Place) (at : ℕ) (found : Found) (entry : Record) → Tabled text (now (rows .entry))
+        → Sound (stateOf machine names words labels lengths) input space room
+        → Does text line here at (stateOf machine names words labels lengths) found entry input space room
+        (turnOf r names words labels lengths) space room (byWord line led.Goto target))
         ⌝ }
 {
     let token = target.token;
@@ -97,8 +124,10 @@ pub fn jump(rows: &Rows, target: Scanned, machine: Machine) -> Turned
 pub fn call(rows: &Rows, line: &[u8], here: Place, target: Scanned, machine: Machine) -> Turned
     requires { ⌜ Ordered (now rows) ⌝ }
     ensures { λ r. ⌜
-        ((text input space room : List ℕ) (at : ℕ) (found : Found) (entry : Record) → Tabled text (now (rows .entry)) → Sound machine input space room
-        → Does text (now (line .entry)) here at machine found entry input space room r space room (byWord (now (line .entry)) led.Gosub target))
+        ((text input space room names words labels lengths : List ℕ) (at : ℕ) (found : Found) (entry : Record) → Tabled text (now (rows .entry))
+        → Sound (stateOf machine names words labels lengths) input space room
+        → Does text (now (line .entry)) here at (stateOf machine names words labels lengths) found entry input space room
+        (turnOf r names words labels lengths) space room (byWord (now (line .entry)) led.Gosub target))
         ⌝ }
 {
     let token = target.token;

@@ -1,6 +1,6 @@
 // FOR and NEXT.
 ghost use mathlib.Core.Path.{_≡_};
-ghost use mathlib.Core.Bool.{false};
+ghost use mathlib.Core.Bool.{Bool};
 ghost use mathlib.Core.List.{List};
 ghost use Prim.Native.Nat.{ℕ, _<_};
 ghost use Rattle.words.specs.Names.{nameBytes, tellingOf};
@@ -8,17 +8,15 @@ ghost use Rattle.grammar.specs.Trees as tree;
 ghost use Rattle.grammar.specs.Trees.{Formula};
 ghost use Rattle.grammar.specs.Formulas as formulas;
 ghost use Rattle.grammar.specs.Formulas.{formulaOf};
-ghost use Rattle.variables.specs.bridge.Memory.{wordAt};
-ghost use Rattle.variables.specs.Tables.{slotIn};
 ghost use Rattle.statements.specs.Statements.{done, variableOf, forAt};
-ghost use Rattle.machine.specs.Machine.{sought};
-ghost use Rattle.machine.specs.bridge.Holding.{positionOf, Positioned, Settled, Sound};
-ghost use Rattle.machine.specs.bridge.Wanted.{LoopOf, seeksCall, wanted};
+ghost use Rattle.machine.specs.Machine as spec;
+ghost use Rattle.machine.specs.Machine.{sought, isLoopOf};
+ghost use Rattle.machine.specs.bridge.Holding.{stateOf, positionOf, Positioned, Settled, Sound};
+ghost use Rattle.machine.specs.bridge.Wanted.{Told};
 ghost use Rattle.machine.specs.declared.records.Found.the-variants as found;
-ghost use Rattle.machine.specs.declared.records.Sought.{Sought};
 ghost use Rattle.turns.specs.Steps.{fromStep, fromLimit, nextOn, doStatement};
-ghost use Rattle.turns.specs.bridge.Turns.{afterOf, Turns, Told, FoundBelow};
-ghost use Rattle.control.specs.bridge.Answers.{Counts, Stepped, Limited, stepOf, droppedTo, loopTurn};
+ghost use Rattle.turns.specs.bridge.Turns.{turnOf, afterOf, Turns, FoundBelow};
+ghost use Rattle.control.specs.bridge.Answers.{Counts, Stepped, Limited, LoopsOnly, stepOf, droppedTo, loopTurn, wordIn, wordsSet};
 use crate::jumping::push;
 use grammar::is_keyword;
 use machine::Found;
@@ -34,9 +32,9 @@ use turns::goes_on;
 use turns::turned_to;
 use turns::value;
 use turns::with_number;
-use variables::Slot;
+use variables::Tables;
 use variables::Worked;
-use variables::slot_of;
+use variables::mismatch;
 use whole::Answer;
 use whole::Error;
 use whole::Operator;
@@ -51,7 +49,9 @@ use words::telling_of;
 
 // An older loop of the variable is dropped with all above it.
 fn dropped_to(machine: Machine, found: Found) -> Machine
-    ensures { λ r. ⌜ r ≡ droppedTo machine found ⌝ }
+    ensures { λ r. ⌜
+        ((names words labels lengths : List ℕ) → stateOf r names words labels lengths ≡ droppedTo (stateOf machine names words labels lengths) found)
+        ⌝ }
 {
     match found {
         Found::None => machine,
@@ -72,17 +72,22 @@ fn begin_loop(
     step: u16,
     ahead: Scanned,
     machine: Machine,
+    names: &mut [u8; 128],
+    words: &mut [u16; Tables::MOST],
     found: Found,
 ) -> Turned
-    ensures { λ r. ⌜ r ≡ loopTurn machine name from limit step (afterOf here ahead) found ⌝ }
+    ensures { λ r. ⌜
+        ((labels lengths : List ℕ) → turnOf r (now (names .exit)) (now (words .exit)) labels lengths
+        ≡ loopTurn (stateOf machine (now (names .entry)) (now (words .entry)) labels lengths) name from limit step (afterOf here ahead) found)
+        ⌝ }
 {
-    let stored = with_number(machine, name, from);
+    let stored = with_number(machine, names, words, name, from);
     let set = stored.machine;
     if !stored.ok {
         return fails(set, Error::OutOfMemory);
     }
     let back = after(here, ahead);
-    let held = Record::counts(name, limit, step, back);
+    let held = Record::counts(stored.slot, limit, step, back);
     push(dropped_to(set, found), held, Next::On(back))
 }
 
@@ -95,36 +100,53 @@ fn with_step(
     limit: u16,
     follow: Scanned,
     machine: Machine,
+    names: &mut [u8; 128],
+    words: &mut [u16; Tables::MOST],
+    labels: &[u8; 128],
+    lengths: &[u8; Tables::MOST],
     found: Found,
     space: &mut [u8],
 ) -> Turned
-    requires { ⌜ Stepped (now line) follow × (Settled machine (now space) × FoundBelow (machine .depth) found) ⌝ }
+    requires { ⌜ Stepped (now line) follow × (Settled (stateOf machine (now names) (now words) (now labels) (now lengths)) (now space) × FoundBelow (machine .depth) found) ⌝ }
     ensures { λ r. ⌜
-        ((text input room : List ℕ) (by : Formula) (u : Scanned) → Sound machine input (now (space .entry)) room → Positioned text (afterOf here u)
+        ((text input room : List ℕ) (by : Formula) (u : Scanned) → Sound (stateOf machine (now (names .entry)) (now (words .entry)) (now (labels .entry)) (now (lengths .entry))) input (now (space .entry)) room → Positioned text (afterOf here u)
         → stepOf (now (line .entry)) follow ≡ formulas.good by u → (entry : Record)
-        → Turns text machine input (now (space .entry)) room (Told (LoopOf name) (machine .depth) found entry)
-        (fromStep name (positionOf text (afterOf here u)) by from limit) r (now (space .exit)) room)
+        → Turns text (stateOf machine (now (names .entry)) (now (words .entry)) (now (labels .entry)) (now (lengths .entry))) input (now (space .entry)) room (Told text (now (names .entry)) (isLoopOf name) (machine .depth) found entry)
+        (fromStep name (positionOf text (afterOf here u)) by from limit) (turnOf r (now (names .exit)) (now (words .exit)) (now (labels .entry)) (now (lengths .entry))) (now (space .exit)) room)
         ⌝ }
 {
     let token = follow.token;
     if !is_keyword(Word::Step, token) {
-        return begin_loop(here, name, from, limit, 1, follow, machine, found);
-    }
-    let next = follow.next;
-    match value(line, token_at(line, next), machine, space) {
-        Worked::Fault(error) => fails(machine, error),
-        Worked::Text(_, _) => fails(machine, Error::TypeMismatch),
-        Worked::Whole(step, ahead) => begin_loop(
+        return begin_loop(
             here,
             name,
             from,
             limit,
-            step,
-            ahead,
+            1,
+            follow,
             machine,
+            names,
+            words,
             found,
-        ),
+        );
     }
+    let first = token_at(line, follow.next);
+    let worked = value(line, first, machine, names, words, labels, lengths, space);
+    let Worked::Whole(step, ahead) = worked else {
+        return fails(machine, mismatch(worked));
+    };
+    begin_loop(
+        here,
+        name,
+        from,
+        limit,
+        step,
+        ahead,
+        machine,
+        names,
+        words,
+        found,
+    )
 }
 
 // From the limit on.
@@ -135,33 +157,41 @@ fn with_limit(
     from: u16,
     first: Scanned,
     machine: Machine,
+    names: &mut [u8; 128],
+    words: &mut [u16; Tables::MOST],
+    labels: &[u8; 128],
+    lengths: &[u8; Tables::MOST],
     found: Found,
     space: &mut [u8],
 ) -> Turned
-    requires { ⌜ Limited (now line) first × (Settled machine (now space) × FoundBelow (machine .depth) found) ⌝ }
+    requires { ⌜ Limited (now line) first × (Settled (stateOf machine (now names) (now words) (now labels) (now lengths)) (now space) × FoundBelow (machine .depth) found) ⌝ }
     ensures { λ r. ⌜
-        ((text input room : List ℕ) (to by : Formula) (t u : Scanned) → Sound machine input (now (space .entry)) room
+        ((text input room : List ℕ) (to by : Formula) (t u : Scanned) → Sound (stateOf machine (now (names .entry)) (now (words .entry)) (now (labels .entry)) (now (lengths .entry))) input (now (space .entry)) room
         → Positioned text (afterOf here u) → formulaOf (now (line .entry)) first ≡ formulas.good to t
         → stepOf (now (line .entry)) t ≡ formulas.good by u → (entry : Record)
-        → Turns text machine input (now (space .entry)) room (Told (LoopOf name) (machine .depth) found entry)
-        (fromLimit name (positionOf text (afterOf here u)) to by from) r (now (space .exit)) room)
+        → Turns text (stateOf machine (now (names .entry)) (now (words .entry)) (now (labels .entry)) (now (lengths .entry))) input (now (space .entry)) room (Told text (now (names .entry)) (isLoopOf name) (machine .depth) found entry)
+        (fromLimit name (positionOf text (afterOf here u)) to by from) (turnOf r (now (names .exit)) (now (words .exit)) (now (labels .entry)) (now (lengths .entry))) (now (space .exit)) room)
         ⌝ }
 {
-    match value(line, first, machine, space) {
-        Worked::Fault(error) => fails(machine, error),
-        Worked::Text(_, _) => fails(machine, Error::TypeMismatch),
-        Worked::Whole(limit, follow) => with_step(
-            line,
-            here,
-            name,
-            from,
-            limit,
-            follow,
-            machine,
-            found,
-            space,
-        ),
-    }
+    let worked = value(line, first, machine, names, words, labels, lengths, space);
+    let Worked::Whole(limit, follow) = worked else {
+        return fails(machine, mismatch(worked));
+    };
+    with_step(
+        line,
+        here,
+        name,
+        from,
+        limit,
+        follow,
+        machine,
+        names,
+        words,
+        labels,
+        lengths,
+        found,
+        space,
+    )
 }
 
 // The name's type is tested first, then start, limit and step as each is worked out.
@@ -171,16 +201,20 @@ pub fn for_loop(
     name: Name,
     equals: Scanned,
     machine: Machine,
+    names: &mut [u8; 128],
+    words: &mut [u16; Tables::MOST],
+    labels: &[u8; 128],
+    lengths: &[u8; Tables::MOST],
     found: Found,
     space: &mut [u8],
 ) -> Turned
-    requires { ⌜ Counts (now line) name equals × (Settled machine (now space) × FoundBelow (machine .depth) found) ⌝ }
+    requires { ⌜ Counts (now line) name equals × (Settled (stateOf machine (now names) (now words) (now labels) (now lengths)) (now space) × FoundBelow (machine .depth) found) ⌝ }
     ensures { λ r. ⌜
-        ((text input room : List ℕ) (at : ℕ) (a b c : Formula) (u : Scanned) → Sound machine input (now (space .entry)) room → Positioned text (afterOf here u)
+        ((text input room : List ℕ) (at : ℕ) (a b c : Formula) (u : Scanned) → Sound (stateOf machine (now (names .entry)) (now (words .entry)) (now (labels .entry)) (now (lengths .entry))) input (now (space .entry)) room → Positioned text (afterOf here u)
         → forAt (now (line .entry)) (variableOf (now (line .entry)) name) equals ≡ done (tree.for (variableOf (now (line .entry)) name) a b c) u
-        → (entry : Record) → Turns text machine input (now (space .entry)) room
-        (Told (LoopOf (tellingOf (nameBytes (now (line .entry)) name))) (machine .depth) found entry)
-        (λ n. doStatement text at (tree.for (variableOf (now (line .entry)) name) a b c) n (positionOf text (afterOf here u))) r (now (space .exit)) room)
+        → (entry : Record) → Turns text (stateOf machine (now (names .entry)) (now (words .entry)) (now (labels .entry)) (now (lengths .entry))) input (now (space .entry)) room
+        (Told text (now (names .entry)) (isLoopOf (tellingOf (nameBytes (now (line .entry)) name))) (machine .depth) found entry)
+        (λ n. doStatement text at (tree.for (variableOf (now (line .entry)) name) a b c) n (positionOf text (afterOf here u))) (turnOf r (now (names .exit)) (now (words .exit)) (now (labels .entry)) (now (lengths .entry))) (now (space .exit)) room)
         ⌝ }
 {
     let kind = name.kind;
@@ -188,57 +222,69 @@ pub fn for_loop(
         return fails(machine, Error::TypeMismatch);
     };
     let telling = telling_of(line, name);
-    let start = equals.next;
-    match value(line, token_at(line, start), machine, space) {
-        Worked::Fault(error) => fails(machine, error),
-        Worked::Text(_, _) => fails(machine, Error::TypeMismatch),
-        Worked::Whole(from, to) => {
-            let next = to.next;
-            with_limit(
-                line,
-                here,
-                telling,
-                from,
-                token_at(line, next),
-                machine,
-                found,
-                space,
-            )
+    let start = token_at(line, equals.next);
+    let worked = value(line, start, machine, names, words, labels, lengths, space);
+    let Worked::Whole(from, to) = worked else {
+        return fails(machine, mismatch(worked));
+    };
+    let limit = token_at(line, to.next);
+    with_limit(
+        line,
+        here,
+        telling,
+        from,
+        limit,
+        machine,
+        names,
+        words,
+        labels,
+        lengths,
+        found,
+        space,
+    )
+}
+
+// The number at an entry.
+fn word_at(words: &[u16; Tables::MOST], slot: usize) -> u16
+    ensures { λ r. ⌜ r ≡ wordIn (now (words .entry)) slot ⌝ }
+{
+    if slot < Tables::MOST { words[slot] } else { 0 }
+}
+
+// A number at the entry of one of so many variables.
+fn set_word(words: &mut [u16; Tables::MOST], numbers: usize, slot: usize, word: u16)
+    ensures { λ _. ⌜ now (words .exit) ≡ wordsSet numbers (now (words .entry)) slot word ⌝ }
+{
+    if slot < numbers {
+        if slot < Tables::MOST {
+            words[slot] = word;
         }
     }
 }
 
-// The number that a variable has; an unset one has 0.
-fn word_of(machine: Machine, name: Telling) -> u16
-    ensures { λ r. ⌜ r ≡ wordAt (slotIn (machine .tables .numbers .names) name) (machine .tables .numbers .words) ⌝ }
-{
-    let tables = machine.tables;
-    let numbers = tables.numbers;
-    let names = numbers.names;
-    match slot_of(&names, name) {
-        Slot::None => 0,
-        Slot::At(slot) => numbers.words[slot],
-    }
-}
-
 // One turn more, or the loop ends.
-fn turn(here: Place, ahead: Scanned, machine: Machine, slot: usize, entry: Record) -> Turned
+fn turn(
+    here: Place,
+    ahead: Scanned,
+    machine: Machine,
+    words: &mut [u16; Tables::MOST],
+    slot: usize,
+    entry: Record,
+) -> Turned
     requires { ⌜ slot < machine .depth ⌝ }
     ensures { λ r. ⌜
-        ((text input space room : List ℕ) (k : Sought) → seeksCall k ≡ false → Sound machine input space room → Positioned text (afterOf here ahead)
-        → Turns text machine input space room (Told k (machine .depth) (found.At slot) entry)
-        (λ n. nextOn n (sought (wanted k) (n .records)) (positionOf text (afterOf here ahead))) r space room)
+        ((text input space room names labels lengths : List ℕ) (test : spec.Record → Bool) → LoopsOnly test
+        → Sound (stateOf machine names (now (words .entry)) labels lengths) input space room → Positioned text (afterOf here ahead)
+        → Turns text (stateOf machine names (now (words .entry)) labels lengths) input space room (Told text names test (machine .depth) (found.At slot) entry)
+        (λ n. nextOn n (sought test (n .records)) (positionOf text (afterOf here ahead))) (turnOf r names (now (words .exit)) labels lengths) space room)
         ⌝ }
 {
-    let name = entry.name;
-    match apply(Operator::Add, word_of(machine, name), entry.step) {
+    let variable = entry.slot;
+    match apply(Operator::Add, word_at(words, variable), entry.step) {
         Answer::Fault(error) => fails(machine, error),
         Answer::Whole(word) => {
-            let stored = with_number(machine, name, word);
-            let mut m = stored.machine;
-            if !stored.ok {
-                return fails(m, Error::OutOfMemory);
-            }
+            set_word(words, machine.numbers, variable, word);
+            let mut m = machine;
             if passed(word, entry.limit, entry.step) {
                 m.depth = slot;
                 return goes_on(m, here, ahead);
@@ -254,18 +300,20 @@ pub fn next_turn(
     here: Place,
     ahead: Scanned,
     machine: Machine,
+    words: &mut [u16; Tables::MOST],
     found: Found,
     entry: Record,
 ) -> Turned
     requires { ⌜ FoundBelow (machine .depth) found ⌝ }
     ensures { λ r. ⌜
-        ((text input space room : List ℕ) (k : Sought) → seeksCall k ≡ false → Sound machine input space room → Positioned text (afterOf here ahead)
-        → Turns text machine input space room (Told k (machine .depth) found entry)
-        (λ n. nextOn n (sought (wanted k) (n .records)) (positionOf text (afterOf here ahead))) r space room)
+        ((text input space room names labels lengths : List ℕ) (test : spec.Record → Bool) → LoopsOnly test
+        → Sound (stateOf machine names (now (words .entry)) labels lengths) input space room → Positioned text (afterOf here ahead)
+        → Turns text (stateOf machine names (now (words .entry)) labels lengths) input space room (Told text names test (machine .depth) found entry)
+        (λ n. nextOn n (sought test (n .records)) (positionOf text (afterOf here ahead))) (turnOf r names (now (words .exit)) labels lengths) space room)
         ⌝ }
 {
     match found {
         Found::None => fails(machine, Error::NextWithoutFor),
-        Found::At(slot) => turn(here, ahead, machine, slot, entry),
+        Found::At(slot) => turn(here, ahead, machine, words, slot, entry),
     }
 }

@@ -36,25 +36,25 @@ use Rattle.grammar.specs.Formulas.{after, quotedBytes}
 use Rattle.statements.specs.Statements.{Begun, bad, done, variableOf, targetAt, inputAt}
 use Rattle.statements.proofs.Findings.{by-name, by-text}
 use Rattle.variables.specs.Strings.{Room, make, fault, value, text, withString}
-use Rattle.variables.specs.bridge.Memory.{Held, spaceStored}
+use Rattle.variables.specs.bridge.Memory.{Held, Storable, spaceStored}
+use Rattle.variables.specs.Tables.{sumOf}
 use Rattle.formulas.specs.bridge.Memory.{Scans}
 use Rattle.machine.specs.Machine as spec
 use Rattle.machine.specs.Machine.{roomOf, withInput, noting, longestInputLine}
-use Rattle.machine.specs.bridge.Holding.{positionOf, Positioned, printedAs, Settled, Sound, Same}
-use Rattle.machine.specs.bridge.Taking.{takenAt}
+use Rattle.machine.specs.bridge.Holding.{positionOf, Positioned, printedAs, stateOf, Sound, Same, State}
 use Rattle.machine.specs.declared.state.Machine.{Machine}
+use Rattle.machine.specs.bridge.Taking.{takenAt}
 use Rattle.machine.specs.declared.state.Printer.{Printer}
 use Rattle.machine.specs.declared.positions.Next.{Next}
 use Rattle.machine.specs.declared.positions.Next.the-variants as next
-use Rattle.machine.specs.declared.positions.Turned.{Turned}
+use Rattle.turns.specs.bridge.Turns.{Turn, turnedTo, afterOf, Leaves, Leads, Turns, anyRecords, withPrinter, withTaken, stringSet, storedTurn}
 use Rattle.machine.specs.declared.records.Record.{Record}
 use Rattle.machine.specs.declared.taking.InputLine.the-variants as asked
 use Rattle.machine.proofs.Takes.{took, untaken}
 use Rattle.machine.proofs.Writing.{not-printed, room-length, written-grows, room-above, fitting-after, write-full}
 use Rattle.turns.specs.Steps as step
 use Rattle.turns.specs.Steps.{goesOn, fails, firstLine, takeLine, lineTaken, inputLine, filled, doStatement}
-use Rattle.turns.specs.bridge.Turns.{turnedTo, afterOf, Leaves, Leads, Turns, anyRecords, withPrinter, withTaken, stringSet, storedTurn}
-use Rattle.dialogue.specs.bridge.Asking.{takesLine, fillsIn}
+use Rattle.dialogue.specs.bridge.Asking.{Laid, takesLine, fillsIn}
 use Rattle.turns.proofs.Keeping.{settled-kept, sound-kept, same-kept, same-noting, room-held, leaves-unprinted}
 use Rattle.turns.proofs.Leading.{leads-on, turns-fails, turns-then}
 use Rattle.turns.proofs.Storing.{string-settled, string-long, leads-string, sound-tables, turns-stored}
@@ -134,7 +134,7 @@ module _ (input : List ℕ) (p : ℕ) {e : Extent} (h : p < length input) (k : R
       (ap (λ c. fillsIn v (take (e .end .0 - p) (drop p input)) after (withInput n (drop (e .next .0) input) c)) c)
 
 -- the machine with another count of what was taken
-module _ {m : Machine} {input space room : List ℕ} (k : ℕ) where
+module _ {m : State} {input space room : List ℕ} (k : ℕ) where
   taken-sound : Sound m input space room → k ≤ length input → Sound (withTaken m k) input space room
   taken-sound sound h =
       let t = sound .settled in
@@ -161,7 +161,7 @@ module _ {m : Machine} {input space room : List ℕ} (k : ℕ) where
         placed = s .placed;
       }
 
-module _ (text : List ℕ) {m : Machine} {input space room : List ℕ} (sound : Sound m input space room) (v : Variable) (after : spec.Position) where
+module _ (text : List ℕ) {m : State} {input space room : List ℕ} (sound : Sound m input space room) (v : Variable) (after : spec.Position) where
   -- no bytes are left
   takes-none : length input ≤ m .taken
       → Turns text m input space room anyRecords (takesLine v after) (turnedTo m (next.Fails InputPastEnd)) space room
@@ -178,7 +178,7 @@ module _ (text : List ℕ) {m : Machine} {input space room : List ℕ} (sound : 
         (λ rs l t n s. record { machine = n; is = taken-long input (m .taken) h k v after b n (s .left); same = s })
 
     -- it is taken
-    takes-short : e .end .0 - m .taken ≤ longestInputLine → {r : Turned} {space′ : List ℕ}
+    takes-short : e .end .0 - m .taken ≤ longestInputLine → {r : Turn} {space′ : List ℕ}
         → (Sound (withTaken m (e .next .0)) input space room
         → Turns text (withTaken m (e .next .0)) input space room anyRecords (fillsIn v (take (e .end .0 - m .taken) (drop (m .taken) input)) after) r space′ room)
         → Turns text m input space room anyRecords (takesLine v after) r space′ room
@@ -201,7 +201,7 @@ module _ (text : List ℕ) {m : Machine} {input space room : List ℕ} (sound : 
       takes-none
       (λ h b. takes-long h (reach input (m .taken) h refl) b)
 
-  pub takes-line : {e : Extent} → takenAt input (m .taken) ≡ asked.Is e → {r : Turned} {space′ : List ℕ}
+  pub takes-line : {e : Extent} → takenAt input (m .taken) ≡ asked.Is e → {r : Turn} {space′ : List ℕ}
       → (Sound (withTaken m (e .next .0)) input space room
       → Turns text (withTaken m (e .next .0)) input space room anyRecords (fillsIn v (take (e .end .0 - m .taken) (drop (m .taken) input)) after) r space′ room)
       → Turns text m input space room anyRecords (takesLine v after) r space′ room
@@ -219,7 +219,7 @@ module _ {room : Room} {space : List ℕ} {used : ℕ} (b : List ℕ) (held : He
   unfolding make
   make-fits h = rw (held .limit, held .lives, le-ltb (length space) (used + length b) h)
 
-module _ (program : List ℕ) {m : Machine} {input space room : List ℕ} (sound : Sound m input space room) (b : List ℕ) where
+module _ (program : List ℕ) {m : State} {input space room : List ℕ} (sound : Sound m input space room) (b : List ℕ) where
   -- there is no room for it
   pub fills-none : (v : Variable) (after : spec.Position) → length space < m .used + length b
       → Turns program m input space room anyRecords (fillsIn v b after) (turnedTo m (next.Fails OutOfStringSpace)) space room
@@ -270,7 +270,7 @@ module _ (program : List ℕ) {m : Machine} {input space room : List ℕ} (sound
 
 -- ---- the text is printed first
 
-module _ (program : List ℕ) {m : Machine} {input space room : List ℕ} (sound : Sound m input space room) (at : ℕ) (b : List ℕ) (v : Variable)
+module _ (program : List ℕ) {m : State} {input space room : List ℕ} (sound : Sound m input space room) (at : ℕ) (b : List ℕ) (v : Variable)
     (after : spec.Position) where
   -- there is no room for it
   pub asks-full : printedAs (m .printer) (length room) b .ok ≡ false
@@ -291,9 +291,9 @@ module _ (program : List ℕ) {m : Machine} {input space room : List ℕ} (sound
       sound
 
   -- it was printed
-  pub asks-on : printedAs (m .printer) (length room) b .ok ≡ true → {m′ : Machine} {room′ : List ℕ}
+  pub asks-on : printedAs (m .printer) (length room) b .ok ≡ true → {m′ : State} {room′ : List ℕ}
       → m′ ≡ withPrinter m (printedAs (m .printer) (length room) b .printer) → room′ ≡ copied room (m .printer .written) b
-      → {r : Turned} {space′ : List ℕ}
+      → {r : Turn} {space′ : List ℕ}
       → (Sound m′ input space room′ → Turns program m′ input space room′ anyRecords (takesLine v after) r space′ room′)
       → Turns program m input space room anyRecords (λ n. doStatement program at (lineInput b v) n after) r space′ room′
   asks-on e f g t =
@@ -303,9 +303,10 @@ module _ (program : List ℕ) {m : Machine} {input space room : List ℕ} (sound
       (λ rs l u n s. rw e at (leads-written s (sound .fitting) b (takesLine v after)))
       ((rw (f, g) at t) (l .sound)))
 
--- printing leaves the variables
-pub printed-settled : {m m′ : Machine} {space : List ℕ} {p : Printer} → m′ ≡ withPrinter m p → Settled m space → Settled m′ space
-printed-settled e t = rw e (record { numbers = t .numbers; strings = t .strings; all = t .all; within = t .within; small = t .small })
+-- printing leaves the strings
+pub laid-printed : {m m′ : Machine} {lengths space : List ℕ} {p : Printer} → stateOf m′ [] [] [] lengths ≡ withPrinter (stateOf m [] [] [] lengths) p
+    → Laid m lengths space → Laid m′ lengths space
+laid-printed {m} {m′} e l = let u : m′ .used .0 ≡ m .used .0 = ap (λ x. x .used) e in record { all = l .all ∙ sym u; within = rw u (l .within) }
 
 -- ---- its text and its variable
 
@@ -359,7 +360,6 @@ pub quoted-part : (s : List ℕ) (a n : ℕ) → take (a + n - a) (drop a s) ≡
 quoted-part s a n = let e : a + n - a ≡ n = omega arith in rw e
 
 -- what storing the line begins with
-pub fills-storable : {m : Machine} {space space′ : List ℕ} (b : List ℕ) → Settled m space → space′ ≡ copied space (m .used) b
-    → m .used + length b ≤ length space → length b ≤ longestInputLine → Settled m space′ × ((m .used + length b ≤ length space′) × (length b ≤ longestString))
-fills-storable {m} {space} b s e f h =
-    let l = copied-length space (m .used) b in rw e (settled-kept l s, (rw l f, omega arith))
+pub fills-storable : (lengths : List ℕ) (used : ℕ) (space : List ℕ) {space′ : List ℕ} (b : List ℕ) → sumOf lengths ≡ used → space′ ≡ copied space used b
+    → used + length b ≤ length space → length b ≤ longestInputLine → Storable lengths used space′ (length b) × (length b ≤ longestString)
+fills-storable lengths used space b s e f h = let l = copied-length space used b in (record { all = s; fits = rw (e, l) f }, omega arith)

@@ -16,8 +16,7 @@ use Rattle.space.specs.Moves.{copied}
 use Rattle.space.proofs.Frames.{copied-past}
 use Rattle.machine.specs.Machine as spec
 use Rattle.machine.specs.Machine.{withOutput}
-use Rattle.machine.specs.bridge.Holding.{printedAs, Settled, Fitting, Sound, Same}
-use Rattle.machine.specs.declared.state.Machine.{Machine}
+use Rattle.machine.specs.bridge.Holding.{printedAs, Settled, Fitting, Sound, Same, State}
 use Rattle.machine.specs.declared.state.Printer.{Printer}
 use Rattle.machine.specs.declared.positions.Next.{Next}
 use Rattle.machine.specs.declared.records.Record.{Record}
@@ -36,7 +35,7 @@ held-front l e = rw e (take-append-seam l (replicate (longestString - length l) 
 abbrev pub printedMet : Bool → (spec.Machine → step.Next) → spec.Machine → step.Next
 printedMet ok go = cond ok go (fails OutputFull)
 
-module _ {text : List ℕ} {rs : List Record} {m : Machine} {input space room : List ℕ} {n : spec.Machine}
+module _ {text : List ℕ} {rs : List Record} {m : State} {input space room : List ℕ} {n : spec.Machine}
     (same : Same text rs m input space room n) where
   -- another printer holds other output
   pub same-printer : (p : Printer) {room′ : List ℕ} → length room′ ≡ length room
@@ -76,7 +75,7 @@ module _ {text : List ℕ} {rs : List Record} {m : Machine} {input space room : 
 
 -- ---- the memory that is lent, where something was printed and nothing else changed
 
-pub record Printed (m : Machine) (space room : List ℕ) (m′ : Machine) (space′ room′ : List ℕ) : Type 0 where
+pub record Printed (m : State) (space room : List ℕ) (m′ : State) (space′ room′ : List ℕ) : Type 0 where
   pub settled : Settled m′ space′
   pub fitting : Fitting (m′ .printer) room′
   pub taken : m′ .taken ≡ m .taken
@@ -93,7 +92,7 @@ later-kept a b k l h e =
     let n : k + (l - k) ≡ l = omega arith in
     rw (← n) (sym (drop-drop (l - k) k a) ∙ ap (drop (l - k)) e ∙ drop-drop (l - k) k b)
 
-module _ {m : Machine} {space room : List ℕ} where
+module _ {m : State} {space room : List ℕ} where
   pub printed-none : Settled m space → Fitting (m .printer) room → Printed m space room m space room
   printed-none s f =
       record {
@@ -108,7 +107,7 @@ module _ {m : Machine} {space room : List ℕ} where
         beyond = refl;
       }
 
-  module _ {m′ : Machine} {space′ room′ : List ℕ} (h : Printed m space room m′ space′ room′) where
+  module _ {m′ : State} {space′ room′ : List ℕ} (h : Printed m space room m′ space′ room′) where
     -- more is printed
     pub printed-more : (p : Printer) {space″ room″ : List ℕ} → length space″ ≡ length space′ → length room″ ≡ length room′
         → Fitting p room″ → m′ .printer .written ≤ p .written → drop (p .written) room″ ≡ drop (p .written) room′

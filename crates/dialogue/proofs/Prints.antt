@@ -20,8 +20,7 @@ use Rattle.statements.specs.Parts.{itemFormulas, deepest}
 use Rattle.statements.specs.Statements.{items, isSeparator}
 use Rattle.statements.specs.bridge.Answers.{itemsOf}
 use Rattle.machine.specs.Machine as spec
-use Rattle.machine.specs.bridge.Holding.{positionOf, Positioned, printedAs, Settled, Fitting, Sound, Same}
-use Rattle.machine.specs.declared.state.Machine.{Machine}
+use Rattle.machine.specs.bridge.Holding.{positionOf, Positioned, printedAs, Settled, Fitting, Sound, Same, State}
 use Rattle.machine.specs.declared.state.Printer.{Printer}
 use Rattle.machine.specs.declared.positions.Next.the-variants as next
 use Rattle.machine.specs.declared.records.Record.{Record}
@@ -51,7 +50,7 @@ print-none quiet m go = refl
 
 -- ---- the line's end
 
-module _ {m : Machine} {space room : List ℕ} {m′ : Machine} {space′ room′ : List ℕ} (h : Printed m space room m′ space′ room′)
+module _ {m : State} {space room : List ℕ} {m′ : State} {space′ room′ : List ℕ} (h : Printed m space room m′ space′ room′)
     (text input : List ℕ) (here : Place) (u : Scanned) (sound : Sound m input space room) (p : Positioned text (afterOf here u))
     {does : spec.Machine → step.Next} where
   -- after the last bytes the run goes on, if there was room for them
@@ -81,7 +80,7 @@ fewer-shallow semicolon is h = h
 fewer-shallow (shown f) is h = omega arith
 
 -- what it has come to: the items from a token on are left
-pub record Prints (line : List ℕ) (all : List Item) (end : Scanned) (m : Machine) (space room : List ℕ) (m′ : Machine) (item : Scanned) (quiet : Bool) (space′ room′ : List ℕ) : Type 0 where
+pub record Prints (line : List ℕ) (all : List Item) (end : Scanned) (m : State) (space room : List ℕ) (m′ : State) (item : Scanned) (quiet : Bool) (space′ room′ : List ℕ) : Type 0 where
   pub rest : List Item
   pub reads : itemsOf line item ≡ items rest end
   pub shallow : deepest (itemFormulas rest) ≤ deepestNesting
@@ -96,7 +95,7 @@ module _ {line : List ℕ} {first : Scanned} (i : Itemed line first) {all : List
   pub items-end : endsStatement (end .token) ≡ true
   items-end = let f = i .reads in let k : i .end ≡ end = cc in rw (← k) (i .ends)
 
-  pub prints-begin : {m : Machine} {space room : List ℕ} → Settled m space → Fitting (m .printer) room
+  pub prints-begin : {m : State} {space room : List ℕ} → Settled m space → Fitting (m .printer) room
       → Prints line all end m space room m first false space room
   prints-begin s f =
       record {
@@ -108,7 +107,7 @@ module _ {line : List ℕ} {first : Scanned} (i : Itemed line first) {all : List
         leads = λ text rs input n same go. leads-self same;
       }
 
-module _ {line : List ℕ} {all : List Item} {end : Scanned} {m : Machine} {space room : List ℕ} {m′ : Machine} {item : Scanned} {quiet : Bool}
+module _ {line : List ℕ} {all : List Item} {end : Scanned} {m : State} {space room : List ℕ} {m′ : State} {item : Scanned} {quiet : Bool}
     {space′ room′ : List ℕ} (h : Prints line all end m space room m′ item quiet space′ room′) where
   module _ (a : Advances line item (h .rest) end) where
     -- the next item's step

@@ -22,8 +22,7 @@ use Rattle.statements.specs.Statements.{isSeparator}
 use Rattle.variables.specs.declared.values.Worked.{Worked}
 use Rattle.variables.specs.declared.values.Worked.the-variants.{Whole, Text, Fault}
 use Rattle.machine.specs.Machine as spec
-use Rattle.machine.specs.bridge.Holding.{printedAs, Settled, Fitting, Same}
-use Rattle.machine.specs.declared.state.Machine.{Machine}
+use Rattle.machine.specs.bridge.Holding.{printedAs, Settled, Fitting, Same, State}
 use Rattle.machine.specs.declared.state.Printer.{Printer}
 use Rattle.machine.specs.declared.positions.Next.the-variants as next
 use Rattle.machine.specs.declared.printing.Printed.{Printed}
@@ -52,7 +51,7 @@ shown-met q t go = by-test (q .ok) (λ e. rw e) (λ e. rw e)
 shown-onward : (q : Printed) (t : Scanned) → Onward (shownAs q t) t
 shown-onward q t = by-test (q .ok) (λ e. rw e refl) (λ e. rw e tt)
 
-module _ {m : Machine} {i : Item} {space room space′ : List ℕ} (fit : Fitting (m .printer) room) (bytes : List ℕ) (u : Scanned)
+module _ {m : State} {i : Item} {space room space′ : List ℕ} (fit : Fitting (m .printer) room) (bytes : List ℕ) (u : Scanned)
     (long : length space′ ≡ length space) where
   pub shows-bytes : ((text : List ℕ) (rs : List Record) (input : List ℕ) (n : spec.Machine) → Same text rs m input space room n
       → (go : spec.Machine → step.Next)
@@ -74,7 +73,7 @@ module _ {m : Machine} {i : Item} {space room space′ : List ℕ} (fit : Fittin
 
 -- ---- items
 
-module _ {m : Machine} {space room : List ℕ} (fit : Fitting (m .printer) room) (u : Scanned) where
+module _ {m : State} {space room : List ℕ} (fit : Fitting (m .printer) room) (u : Scanned) where
   pub shows-comma : Shows m comma u space room
       (shownAs (printedAs (m .printer) (length room) (replicate (14 - m .printer .column % 14) blank)) u)
       space (copied room (m .printer .written) (replicate (14 - m .printer .column % 14) blank))
@@ -101,11 +100,11 @@ module _ {m : Machine} {space room : List ℕ} (fit : Fitting (m .printer) room)
       }
 
 -- equal answers show the same: over variables, as the terms that stand for them are dear to rewrite
-shows-as : {m : Machine} {i : Item} {u : Scanned} {space room space′ room′ room″ : List ℕ} {r s : Shown} → r ≡ s → room′ ≡ room″
+shows-as : {m : State} {i : Item} {u : Scanned} {space room space′ room′ room″ : List ℕ} {r s : Shown} → r ≡ s → room′ ≡ room″
     → Shows m i u space room s space′ room″ → Shows m i u space room r space′ room′
 shows-as e f h = rw (e, f) h
 
-module _ {m : Machine} {f : Formula} {u : Scanned} {space room space′ room′ : List ℕ} {r : Shown} (settled : Settled m space)
+module _ {m : State} {f : Formula} {u : Scanned} {space room space′ room′ : List ℕ} {r : Shown} (settled : Settled m space)
     (fit : Fitting (m .printer) room) where
   pub shows-worked : (w : Worked) → Valued m f u space w space′ → ShowsWorked w (m .used) (m .printer) space′ room r room′
       → Shows m (shown f) u space room r space′ room′
@@ -136,7 +135,7 @@ module _ {m : Machine} {f : Formula} {u : Scanned} {space room space′ room′ 
 
 -- ---- by the token that begins it
 
-module _ (line : List ℕ) (t : Scanned) {m : Machine} {space room space′ room′ : List ℕ} {r : Shown} where
+module _ (line : List ℕ) (t : Scanned) {m : State} {space room space′ room′ : List ℕ} {r : Shown} where
   pub at-comma : isSymbol Comma (t .token) ≡ true → Shows m comma (after line t) space room r space′ room′
       → (i : Item) (u : Scanned) → ItemAt line t i u → Shows m i u space room r space′ room′
   at-comma e h comma u (a, b) = rw b h
@@ -158,7 +157,7 @@ module _ (line : List ℕ) (t : Scanned) {m : Machine} {space room space′ room
 
 -- ---- the line's end, by whether there was room for it
 
-module _ (m : Machine) {p q : Printed} (here : Place) (u : Scanned) (e : p ≡ q) where
+module _ (m : State) {p q : Printed} (here : Place) (u : Scanned) (e : p ≡ q) where
   pub end-refused : p .ok ≡ false → turnedTo m (next.Fails OutputFull) ≡ endWritten m q here u
   end-refused f = rw (← e, f)
 

@@ -7,11 +7,11 @@ ghost use Rattle.grammar.specs.Trees as tree;
 ghost use Rattle.grammar.specs.Trees.{Variable};
 ghost use Rattle.grammar.specs.Formulas.{after};
 ghost use Rattle.statements.specs.Statements.{done, variableOf, targetAt, inputAt};
-ghost use Rattle.machine.specs.bridge.Holding.{positionOf, Positioned, Settled, Sound};
+ghost use Rattle.machine.specs.bridge.Holding.{stateOf, positionOf, Positioned, Fitting, Sound};
 ghost use Rattle.machine.specs.Machine.{longestInputLine};
 ghost use Rattle.turns.specs.Steps.{doStatement};
-ghost use Rattle.turns.specs.bridge.Turns.{afterOf, Turns, anyRecords};
-ghost use Rattle.dialogue.specs.bridge.Asking.{Asks, takesLine, fillsIn};
+ghost use Rattle.turns.specs.bridge.Turns.{turnOf, afterOf, Turns, anyRecords};
+ghost use Rattle.dialogue.specs.bridge.Asking.{Asks, Laid, takesLine, fillsIn};
 use crate::outputting::with_printer;
 use machine::InputLine;
 use machine::Machine;
@@ -19,11 +19,12 @@ use machine::Turned;
 use machine::take_line;
 use machine::write;
 use scanner::token_at;
-use space::Offset;
 use space::copy_in;
 use turns::fails;
 use turns::stored_or_full;
 use turns::with_string;
+use variables::Tables;
+use variables::has_room;
 use whole::Error;
 use words::Kind;
 use words::Name;
@@ -39,27 +40,29 @@ fn fill(
     name: Name,
     ahead: Scanned,
     machine: Machine,
+    labels: &mut [u8; 128],
+    lengths: &mut [u8; Tables::MOST],
     bytes: &[u8],
     space: &mut [u8],
 ) -> Turned
-    requires { ⌜ Settled machine (now space) × (length (now bytes) ≤ longestInputLine) ⌝ }
+    requires { ⌜ Laid machine (now lengths) (now space) × (length (now bytes) ≤ longestInputLine) ⌝ }
     ensures { λ r. ⌜
-        ((text input room : List ℕ) → Sound machine input (now (space .entry)) room → Positioned text (afterOf here ahead)
-        → Turns text machine input (now (space .entry)) room anyRecords
-        (fillsIn (variableOf (now (line .entry)) name) (now (bytes .entry)) (positionOf text (afterOf here ahead))) r (now (space .exit)) room)
+        ((text input room names words : List ℕ) → Sound (stateOf machine names words (now (labels .entry)) (now (lengths .entry))) input (now (space .entry)) room → Positioned text (afterOf here ahead)
+        → Turns text (stateOf machine names words (now (labels .entry)) (now (lengths .entry))) input (now (space .entry)) room anyRecords
+        (fillsIn (variableOf (now (line .entry)) name) (now (bytes .entry)) (positionOf text (afterOf here ahead))) (turnOf r names words (now (labels .exit)) (now (lengths .exit))) (now (space .exit)) room)
         ⌝ }
 {
     let used = machine.used;
     let kind = name.kind;
     let len = bytes.len();
-    if space.len() - used < len {
+    if !has_room(space, used, len) {
         return fails(machine, Error::OutOfStringSpace);
     }
-    copy_in(space, Offset(used), bytes);
+    copy_in(space, used, bytes);
     match kind {
         Kind::Whole => fails(machine, Error::TypeMismatch),
         Kind::Text => stored_or_full(
-            with_string(machine, telling_of(line, name), space, len),
+            with_string(machine, labels, lengths, telling_of(line, name), space, len),
             here,
             ahead,
         ),
@@ -73,25 +76,38 @@ fn take_in(
     name: Name,
     ahead: Scanned,
     machine: Machine,
+    labels: &mut [u8; 128],
+    lengths: &mut [u8; Tables::MOST],
     input: &[u8],
     space: &mut [u8],
 ) -> Turned
-    requires { ⌜ Settled machine (now space) ⌝ }
+    requires { ⌜ Laid machine (now lengths) (now space) ⌝ }
     ensures { λ r. ⌜
-        ((text room : List ℕ) → Sound machine (now (input .entry)) (now (space .entry)) room → Positioned text (afterOf here ahead)
-        → Turns text machine (now (input .entry)) (now (space .entry)) room anyRecords
-        (takesLine (variableOf (now (line .entry)) name) (positionOf text (afterOf here ahead))) r (now (space .exit)) room)
+        ((text room names words : List ℕ) → Sound (stateOf machine names words (now (labels .entry)) (now (lengths .entry))) (now (input .entry)) (now (space .entry)) room → Positioned text (afterOf here ahead)
+        → Turns text (stateOf machine names words (now (labels .entry)) (now (lengths .entry))) (now (input .entry)) (now (space .entry)) room anyRecords
+        (takesLine (variableOf (now (line .entry)) name) (positionOf text (afterOf here ahead))) (turnOf r names words (now (labels .exit)) (now (lengths .exit))) (now (space .exit)) room)
         ⌝ }
 {
     let from = machine.taken;
     match take_line(input, from) {
         InputLine::Fault(error) => fails(machine, error),
         InputLine::Is(extent) => {
+            let start = from.0;
             let end = extent.end.0;
-            let next = extent.next.0;
+            let next = extent.next;
             let mut m = machine;
             m.taken = next;
-            fill(line, here, name, ahead, m, &input[from..end], space)
+            fill(
+                line,
+                here,
+                name,
+                ahead,
+                m,
+                labels,
+                lengths,
+                &input[start..end],
+                space,
+            )
         }
     }
 }
@@ -103,16 +119,19 @@ fn prompt(
     text: &[u8],
     target: Scanned,
     machine: Machine,
+    labels: &mut [u8; 128],
+    lengths: &mut [u8; Tables::MOST],
     input: &[u8],
     space: &mut [u8],
     room: &mut [u8],
 ) -> Turned
-    requires { ⌜ Sound machine (now input) (now space) (now room) ⌝ }
+    requires { ⌜ Laid machine (now lengths) (now space) × Fitting (machine .printer) (now room) ⌝ }
     ensures { λ r. ⌜
-        ((program : List ℕ) (at : ℕ) (v : Variable) (u : Scanned) → Positioned program (afterOf here u)
+        ((program names words : List ℕ) (at : ℕ) (v : Variable) (u : Scanned) → Sound (stateOf machine names words (now (labels .entry)) (now (lengths .entry))) (now (input .entry)) (now (space .entry)) (now (room .entry))
+        → Positioned program (afterOf here u)
         → targetAt (now (line .entry)) (now (text .entry)) target ≡ done (tree.lineInput (now (text .entry)) v) u
-        → Turns program machine (now (input .entry)) (now (space .entry)) (now (room .entry)) anyRecords
-        (λ n. doStatement program at (tree.lineInput (now (text .entry)) v) n (positionOf program (afterOf here u))) r (now (space .exit)) (now (room .exit)))
+        → Turns program (stateOf machine names words (now (labels .entry)) (now (lengths .entry))) (now (input .entry)) (now (space .entry)) (now (room .entry)) anyRecords
+        (λ n. doStatement program at (tree.lineInput (now (text .entry)) v) n (positionOf program (afterOf here u))) (turnOf r names words (now (labels .exit)) (now (lengths .exit))) (now (space .exit)) (now (room .exit)))
         ⌝ }
 {
     let printed = write(machine.printer, room, text);
@@ -129,6 +148,8 @@ fn prompt(
             name,
             token_at(line, target.next),
             m,
+            labels,
+            lengths,
             input,
             space,
         ),
@@ -187,15 +208,18 @@ pub fn line_input(
     here: Place,
     first: Scanned,
     machine: Machine,
+    labels: &mut [u8; 128],
+    lengths: &mut [u8; Tables::MOST],
     input: &[u8],
     space: &mut [u8],
     room: &mut [u8],
 ) -> Turned
-    requires { ⌜ Asks (now line) first × Sound machine (now input) (now space) (now room) ⌝ }
+    requires { ⌜ Asks (now line) first × (Laid machine (now lengths) (now space) × Fitting (machine .printer) (now room)) ⌝ }
     ensures { λ r. ⌜
-        ((text prompt : List ℕ) (at : ℕ) (v : Variable) (u : Scanned) → Positioned text (afterOf here u) → inputAt (now (line .entry)) first ≡ done (tree.lineInput prompt v) u
-        → Turns text machine (now (input .entry)) (now (space .entry)) (now (room .entry)) anyRecords
-        (λ n. doStatement text at (tree.lineInput prompt v) n (positionOf text (afterOf here u))) r (now (space .exit)) (now (room .exit)))
+        ((text prompt names words : List ℕ) (at : ℕ) (v : Variable) (u : Scanned) → Sound (stateOf machine names words (now (labels .entry)) (now (lengths .entry))) (now (input .entry)) (now (space .entry)) (now (room .entry))
+        → Positioned text (afterOf here u) → inputAt (now (line .entry)) first ≡ done (tree.lineInput prompt v) u
+        → Turns text (stateOf machine names words (now (labels .entry)) (now (lengths .entry))) (now (input .entry)) (now (space .entry)) (now (room .entry)) anyRecords
+        (λ n. doStatement text at (tree.lineInput prompt v) n (positionOf text (afterOf here u))) (turnOf r names words (now (labels .exit)) (now (lengths .exit))) (now (space .exit)) (now (room .exit)))
         ⌝ }
 {
     let asked = asked_at(line, first);
@@ -207,6 +231,8 @@ pub fn line_input(
         &line[from..end],
         asked.target,
         machine,
+        labels,
+        lengths,
         input,
         space,
         room,

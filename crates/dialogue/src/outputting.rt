@@ -11,9 +11,9 @@ ghost use Rattle.grammar.specs.Tests.{endsStatement};
 ghost use Rattle.statements.specs.Statements.{items, isSeparator};
 ghost use Rattle.statements.specs.bridge.Answers.{itemsOf};
 ghost use Rattle.variables.specs.bridge.Memory.{textLength};
-ghost use Rattle.machine.specs.bridge.Holding.{positionOf, Positioned, Settled, Fitting, Sound};
+ghost use Rattle.machine.specs.bridge.Holding.{stateOf, positionOf, Positioned, Settled, Fitting, Sound};
 ghost use Rattle.turns.specs.Steps.{doStatement};
-ghost use Rattle.turns.specs.bridge.Turns.{afterOf, Turns, anyRecords, Formed, withPrinter};
+ghost use Rattle.turns.specs.bridge.Turns.{turnOf, afterOf, Turns, anyRecords, Formed, withPrinter};
 ghost use Rattle.dialogue.specs.bridge.Showing.{Itemed, Writes, shownAs, ShowsWorked, ItemAt, Shows, endedTurn, endedRoom};
 use grammar::ends_statement;
 use grammar::is_symbol;
@@ -24,9 +24,11 @@ use machine::Turned;
 use machine::write;
 use machine::write_comma;
 use scanner::token_at;
+use space::Offset;
 use turns::fails;
 use turns::goes_on;
 use turns::value;
+use variables::Tables;
 use variables::Worked;
 use whole::Error;
 use whole::print_text;
@@ -37,7 +39,9 @@ use words::Sign;
 const LINE_END: [u8; 2] = [13, 10];
 
 pub(crate) fn with_printer(machine: Machine, printer: Printer) -> Machine
-    ensures { λ r. ⌜ r ≡ withPrinter machine printer ⌝ }
+    ensures { λ r. ⌜
+        ((names words labels lengths : List ℕ) → stateOf r names words labels lengths ≡ withPrinter (stateOf machine names words labels lengths) printer)
+        ⌝ }
 {
     let mut next = machine;
     next.printer = printer;
@@ -55,12 +59,19 @@ fn print_number(printer: Printer, room: &mut [u8], word: u16) -> Printed
 }
 
 // The text stands right after the variables' bytes.
-fn print_string(printer: Printer, room: &mut [u8], space: &[u8], from: usize, len: usize) -> Printed
-    requires { ⌜ Fitting printer (now room) × (from + len ≤ length (now space)) ⌝ }
-    ensures { λ r. ⌜ Writes printer (now (room .entry)) (take len (drop from (now (space .entry)))) r (now (room .exit)) ⌝ }
+fn print_string(
+    printer: Printer,
+    room: &mut [u8],
+    space: &[u8],
+    from: Offset,
+    len: usize,
+) -> Printed
+    requires { ⌜ Fitting printer (now room) × (from .0 + len ≤ length (now space)) ⌝ }
+    ensures { λ r. ⌜ Writes printer (now (room .entry)) (take len (drop (from .0) (now (space .entry)))) r (now (room .exit)) ⌝ }
 {
-    let end = from + len;
-    write(printer, room, &space[from..end])
+    let start = from.0;
+    let end = start + len;
+    write(printer, room, &space[start..end])
 }
 
 // What was worked out is printed and let go; an error stands.
@@ -80,9 +91,9 @@ fn shown_or_full(printed: Printed, ahead: Scanned) -> Shown
 }
 
 fn show(worked: Worked, machine: Machine, space: &[u8], room: &mut [u8]) -> Shown
-    requires { ⌜ Fitting (machine .printer) (now room) × (machine .used + textLength worked ≤ length (now space)) ⌝ }
+    requires { ⌜ Fitting (machine .printer) (now room) × (machine .used .0 + textLength worked ≤ length (now space)) ⌝ }
     ensures { λ r. ⌜
-        ShowsWorked worked (machine .used) (machine .printer) (now (space .entry)) (now (room .entry)) r (now (room .exit))
+        ShowsWorked worked (machine .used .0) (machine .printer) (now (space .entry)) (now (room .entry)) r (now (room .exit))
         ⌝ }
 {
     let printer = machine.printer;
@@ -100,7 +111,7 @@ fn show(worked: Worked, machine: Machine, space: &[u8], room: &mut [u8]) -> Show
 fn print_end(machine: Machine, quiet: bool, room: &mut [u8], here: Place, ahead: Scanned) -> Turned
     requires { ⌜ Fitting (machine .printer) (now room) ⌝ }
     ensures { λ r. ⌜
-        (r ≡ endedTurn machine quiet (length (now (room .entry))) here ahead)
+        ((names words labels lengths : List ℕ) → turnOf r names words labels lengths ≡ endedTurn (stateOf machine names words labels lengths) quiet (length (now (room .entry))) here ahead)
         × (now (room .exit) ≡ endedRoom (machine .printer) quiet (now (room .entry)))
         ⌝ }
 {
@@ -137,8 +148,8 @@ fn separates(item: Scanned) -> bool
 fn print_separator(line: &[u8], item: Scanned, machine: Machine, room: &mut [u8]) -> Shown
     requires { ⌜ Fitting (machine .printer) (now room) ⌝ }
     ensures { λ r. ⌜
-        ((i : Item) (u : Scanned) (space : List ℕ) → isSeparator (item .token) ≡ true → ItemAt (now (line .entry)) item i u
-        → Shows machine i u space (now (room .entry)) r space (now (room .exit)))
+        ((i : Item) (u : Scanned) (space names words labels lengths : List ℕ) → isSeparator (item .token) ≡ true → ItemAt (now (line .entry)) item i u
+        → Shows (stateOf machine names words labels lengths) i u space (now (room .entry)) r space (now (room .exit)))
         ⌝ }
 {
     let token = item.token;
@@ -155,22 +166,26 @@ fn print_item(
     line: &[u8],
     item: Scanned,
     machine: Machine,
+    names: &[u8; 128],
+    words: &[u16; Tables::MOST],
+    labels: &[u8; 128],
+    lengths: &[u8; Tables::MOST],
     space: &mut [u8],
     room: &mut [u8],
 ) -> Shown
     requires { ⌜
         (isSeparator (item .token) ≡ false → Formed (now line) item)
-        × (Settled machine (now space) × Fitting (machine .printer) (now room))
+        × (Settled (stateOf machine (now names) (now words) (now labels) (now lengths)) (now space) × Fitting (machine .printer) (now room))
         ⌝ }
     ensures { λ r. ⌜
         ((i : Item) (u : Scanned) → ItemAt (now (line .entry)) item i u
-        → Shows machine i u (now (space .entry)) (now (room .entry)) r (now (space .exit)) (now (room .exit)))
+        → Shows (stateOf machine (now (names .entry)) (now (words .entry)) (now (labels .entry)) (now (lengths .entry))) i u (now (space .entry)) (now (room .entry)) r (now (space .exit)) (now (room .exit)))
         ⌝ }
 {
     if separates(item) {
         return print_separator(line, item, machine, room);
     }
-    let worked = value(line, item, machine, space);
+    let worked = value(line, item, machine, names, words, labels, lengths, space);
     show(worked, machine, space, room)
 }
 
@@ -180,15 +195,20 @@ pub fn print(
     here: Place,
     first: Scanned,
     machine: Machine,
+    names: &[u8; 128],
+    words: &[u16; Tables::MOST],
+    labels: &[u8; 128],
+    lengths: &[u8; Tables::MOST],
     space: &mut [u8],
     room: &mut [u8],
 ) -> Turned
-    requires { ⌜ Itemed (now line) first × (Settled machine (now space) × Fitting (machine .printer) (now room)) ⌝ }
+    requires { ⌜ Itemed (now line) first × (Settled (stateOf machine (now names) (now words) (now labels) (now lengths)) (now space) × Fitting (machine .printer) (now room)) ⌝ }
     ensures { λ r. ⌜
-        ((text input : List ℕ) (at : ℕ) (is : List Item) (u : Scanned) → Sound machine input (now (space .entry)) (now (room .entry)) → Positioned text (afterOf here u)
+        ((text input : List ℕ) (at : ℕ) (is : List Item) (u : Scanned) → Sound (stateOf machine (now (names .entry)) (now (words .entry)) (now (labels .entry)) (now (lengths .entry))) input (now (space .entry)) (now (room .entry)) → Positioned text (afterOf here u)
         → itemsOf (now (line .entry)) first ≡ items is u
-        → Turns text machine input (now (space .entry)) (now (room .entry)) anyRecords
-        (λ n. doStatement text at (tree.print is) n (positionOf text (afterOf here u))) r (now (space .exit)) (now (room .exit)))
+        → Turns text (stateOf machine (now (names .entry)) (now (words .entry)) (now (labels .entry)) (now (lengths .entry))) input (now (space .entry)) (now (room .entry)) anyRecords
+        (λ n. doStatement text at (tree.print is) n (positionOf text (afterOf here u)))
+        (turnOf r (now (names .entry)) (now (words .entry)) (now (labels .entry)) (now (lengths .entry))) (now (space .exit)) (now (room .exit)))
         ⌝ }
 {
     let mut m = machine;
@@ -199,7 +219,7 @@ pub fn print(
             return print_end(m, quiet, room, here, item);
         }
         quiet = separates(item);
-        match print_item(line, item, m, space, room) {
+        match print_item(line, item, m, names, words, labels, lengths, space, room) {
             Shown::Fault(error) => return fails(m, error),
             Shown::On(printer, ahead) => {
                 m = with_printer(m, printer);

@@ -31,6 +31,7 @@ use operators::turn_of;
 use scanner::token_at;
 use skimming::Skimmed;
 use skimming::skim;
+use space::Offset;
 use strings::Given;
 use strings::given_length;
 use variables::Tables;
@@ -53,12 +54,12 @@ fn formula(
     labels: &[u8; 128],
     lengths: &[u8; Tables::MOST],
     space: &mut [u8],
-    used: usize,
+    used: Offset,
 ) -> Worked
-    requires { ⌜ Ready (now line) (now lengths) (now space) used × (Scans (now line) ahead × Reads room (formulaIn (now line) level ahead)) ⌝ }
+    requires { ⌜ Ready (now line) (now lengths) (now space) (used .0) × (Scans (now line) ahead × Reads room (formulaIn (now line) level ahead)) ⌝ }
     ensures { λ r. ⌜
         ((f : Formula) (u : Scanned) → formulaIn (now (line .entry)) level ahead ≡ good f u
-        → Evaluated (now (names .entry)) (now (words .entry)) (now (labels .entry)) (now (lengths .entry)) f u (now (space .entry)) used r (now (space .exit)))
+        → Evaluated (now (names .entry)) (now (words .entry)) (now (labels .entry)) (now (lengths .entry)) f u (now (space .entry)) (used .0) r (now (space .exit)))
         ⌝ }
 {
     let mut left = operand(
@@ -88,7 +89,7 @@ fn formula(
                     labels,
                     lengths,
                     space,
-                    used + text_length(left),
+                    Offset(used.0 + text_length(left)),
                 );
                 left = joined(operator, left, right, space, used);
             }
@@ -106,12 +107,12 @@ fn operand(
     labels: &[u8; 128],
     lengths: &[u8; Tables::MOST],
     space: &mut [u8],
-    used: usize,
+    used: Offset,
 ) -> Worked
-    requires { ⌜ Ready (now line) (now lengths) (now space) used × (Scans (now line) ahead × OperandReads room (now line) ahead) ⌝ }
+    requires { ⌜ Ready (now line) (now lengths) (now space) (used .0) × (Scans (now line) ahead × OperandReads room (now line) ahead) ⌝ }
     ensures { λ r. ⌜
         ((level : ℕ) (f : Formula) (u : Scanned) → operandOf (now (line .entry)) level ahead ≡ good f u
-        → Evaluated (now (names .entry)) (now (words .entry)) (now (labels .entry)) (now (lengths .entry)) f u (now (space .entry)) used r (now (space .exit)))
+        → Evaluated (now (names .entry)) (now (words .entry)) (now (labels .entry)) (now (lengths .entry)) f u (now (space .entry)) (used .0) r (now (space .exit)))
         ⌝ }
 {
     let token = ahead.token;
@@ -241,12 +242,12 @@ fn arguments(
     labels: &[u8; 128],
     lengths: &[u8; Tables::MOST],
     space: &mut [u8],
-    used: usize,
+    used: Offset,
 ) -> Worked
-    requires { ⌜ Ready (now line) (now lengths) (now space) used × (Scans (now line) ahead × Reads (room + 1) (argumentsOf (now line) function none (formulaIn (now line) 0 ahead))) ⌝ }
+    requires { ⌜ Ready (now line) (now lengths) (now space) (used .0) × (Scans (now line) ahead × Reads (room + 1) (argumentsOf (now line) function none (formulaIn (now line) 0 ahead))) ⌝ }
     ensures { λ r. ⌜
         ((f : Formula) (u : Scanned) → argumentsOf (now (line .entry)) function none (formulaIn (now (line .entry)) 0 ahead) ≡ good f u
-        → Evaluated (now (names .entry)) (now (words .entry)) (now (labels .entry)) (now (lengths .entry)) f u (now (space .entry)) used r (now (space .exit)))
+        → Evaluated (now (names .entry)) (now (words .entry)) (now (labels .entry)) (now (lengths .entry)) f u (now (space .entry)) (used .0) r (now (space .exit)))
         ⌝ }
 {
     let three = is_of_three(line, ahead, function);
@@ -263,7 +264,7 @@ fn arguments(
             labels,
             lengths,
             space,
-            used + given_length(given),
+            Offset(used.0 + given_length(given)),
         );
         match take_argument(function, three, given, worked) {
             Taken::Fault(error) => return Worked::Fault(error),
@@ -288,12 +289,12 @@ pub fn work_out(
     labels: &[u8; 128],
     lengths: &[u8; Tables::MOST],
     space: &mut [u8],
-    used: usize,
+    used: Offset,
 ) -> Worked
-    requires { ⌜ Ready (now line) (now lengths) (now space) used × (Scans (now line) ahead × Reads deepestNesting (formulaOf (now line) ahead)) ⌝ }
+    requires { ⌜ Ready (now line) (now lengths) (now space) (used .0) × (Scans (now line) ahead × Reads deepestNesting (formulaOf (now line) ahead)) ⌝ }
     ensures { λ r. ⌜
         ((f : Formula) (u : Scanned) → formulaOf (now (line .entry)) ahead ≡ good f u
-        → Evaluated (now (names .entry)) (now (words .entry)) (now (labels .entry)) (now (lengths .entry)) f u (now (space .entry)) used r (now (space .exit)))
+        → Evaluated (now (names .entry)) (now (words .entry)) (now (labels .entry)) (now (lengths .entry)) f u (now (space .entry)) (used .0) r (now (space .exit)))
         ⌝ }
 {
     formula(

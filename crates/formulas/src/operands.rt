@@ -43,10 +43,10 @@ pub(crate) fn quoted(
     quotation: Quotation,
     ahead: Scanned,
     space: &mut [u8],
-    used: usize,
+    used: Offset,
 ) -> Worked
-    requires { ⌜ (quotation .at .0 + quotation .len ≤ length (now line)) × ((length (now line) ≤ longestLine) × (used ≤ length (now space))) ⌝ }
-    ensures { λ r. ⌜ Made (now (space .entry)) used used (make (quotedBytes (now (line .entry)) quotation)) ahead r (now (space .exit)) ⌝ }
+    requires { ⌜ (quotation .at .0 + quotation .len ≤ length (now line)) × ((length (now line) ≤ longestLine) × (used .0 ≤ length (now space))) ⌝ }
+    ensures { λ r. ⌜ Made (now (space .entry)) (used .0) (used .0) (make (quotedBytes (now (line .entry)) quotation)) ahead r (now (space .exit)) ⌝ }
 {
     let place = quotation.at;
     let from = place.0;
@@ -55,7 +55,7 @@ pub(crate) fn quoted(
         return Worked::Fault(Error::OutOfStringSpace);
     }
     let end = from + len;
-    copy_in(space, Offset(used), &line[from..end]);
+    copy_in(space, used, &line[from..end]);
     Worked::Text(len, ahead)
 }
 
@@ -65,10 +65,10 @@ fn copied(
     lengths: &[u8; Tables::MOST],
     ahead: Scanned,
     space: &mut [u8],
-    used: usize,
+    used: Offset,
 ) -> Worked
-    requires { ⌜ SlotBelow mostVariables slot × ((sumOf (now lengths) ≤ used) × (used ≤ length (now space))) ⌝ }
-    ensures { λ r. ⌜ Made (now (space .entry)) used used (make (bytesAt slot (now (lengths .entry)) (now (space .entry)))) ahead r (now (space .exit)) ⌝ }
+    requires { ⌜ SlotBelow mostVariables slot × ((sumOf (now lengths) ≤ used .0) × (used .0 ≤ length (now space))) ⌝ }
+    ensures { λ r. ⌜ Made (now (space .entry)) (used .0) (used .0) (make (bytesAt slot (now (lengths .entry)) (now (space .entry)))) ahead r (now (space .exit)) ⌝ }
 {
     match slot {
         Slot::None => Worked::Text(0, ahead),
@@ -78,7 +78,7 @@ fn copied(
                 return Worked::Fault(Error::OutOfStringSpace);
             }
             let from = offset_of(lengths, i);
-            move_bytes(space, Offset(from), Offset(used), len);
+            move_bytes(space, from, used, len);
             Worked::Text(len, ahead)
         }
     }
@@ -104,12 +104,12 @@ pub(crate) fn named(
     labels: &[u8; 128],
     lengths: &[u8; Tables::MOST],
     space: &mut [u8],
-    used: usize,
+    used: Offset,
 ) -> Worked
-    requires { ⌜ Ready (now line) (now lengths) (now space) used ⌝ }
+    requires { ⌜ Ready (now line) (now lengths) (now space) (used .0) ⌝ }
     ensures { λ r. ⌜
         ((vars : Variables) → Looked vars (now (names .entry)) (now (words .entry)) (now (labels .entry)) (now (lengths .entry)) (now (space .entry))
-        → Made (now (space .entry)) used used (variableValue (name .kind) (tellingOf (nameBytes (now (line .entry)) name)) vars) ahead r (now (space .exit)))
+        → Made (now (space .entry)) (used .0) (used .0) (variableValue (name .kind) (tellingOf (nameBytes (now (line .entry)) name)) vars) ahead r (now (space .exit)))
         ⌝ }
 {
     let kind = name.kind;

@@ -12,6 +12,7 @@ ghost use Rattle.strings.specs.Functions.{startsWith, placeOf, called};
 ghost use Rattle.strings.specs.bridge.Memory.{givenLength, valuesIn, Placed, repliedAs};
 ghost use Rattle.functions.specs.bridge.Memory.{NumberOf};
 use grammar::gives;
+use space::Offset;
 use strings::Given;
 use strings::Reply;
 use strings::are_three;
@@ -33,13 +34,15 @@ use words::Kind;
 use words::Scanned;
 
 // Whether the text of `len` bytes at offset y stands at offset x too.
-fn stands_at(space: &[u8], x: usize, y: usize, len: usize) -> bool
-    requires { ⌜ (x + len ≤ length (now space)) × (y + len ≤ length (now space)) ⌝ }
-    ensures { λ r. ⌜ r ≡ startsWith (take len (drop y (now (space .entry)))) (drop x (now (space .entry))) ⌝ }
+fn stands_at(space: &[u8], x: Offset, y: Offset, len: usize) -> bool
+    requires { ⌜ (x .0 + len ≤ length (now space)) × (y .0 + len ≤ length (now space)) ⌝ }
+    ensures { λ r. ⌜ r ≡ startsWith (take len (drop (y .0) (now (space .entry)))) (drop (x .0) (now (space .entry))) ⌝ }
 {
+    let here = x.0;
+    let there = y.0;
     let mut i = 0;
     while i < len {
-        if space[x + i] != space[y + i] {
+        if space[here + i] != space[there + i] {
             return false;
         }
         i += 1;
@@ -48,12 +51,13 @@ fn stands_at(space: &[u8], x: usize, y: usize, len: usize) -> bool
 }
 
 // The first place from `start` on where the second text, which stands right after the first, stands in it, counted from 1; or 0.
-fn place_of(space: &[u8], from: usize, start: u16, first: usize, second: usize) -> u16
-    requires { ⌜ (from + first + second ≤ length (now space)) × ((length (now space) ≤ longestSpace) × (1 ≤ start)) ⌝ }
+fn place_of(space: &[u8], from: Offset, start: u16, first: usize, second: usize) -> u16
+    requires { ⌜ (from .0 + first + second ≤ length (now space)) × ((length (now space) ≤ longestSpace) × (1 ≤ start)) ⌝ }
     ensures { λ r. ⌜
-        r ≡ placeOf start (take first (drop from (now (space .entry)))) (take second (drop (from + first) (now (space .entry))))
+        r ≡ placeOf start (take first (drop (from .0) (now (space .entry)))) (take second (drop (from .0 + first) (now (space .entry))))
         ⌝ }
 {
+    let front = from.0;
     let begin = start as usize;
     if first < begin {
         return 0;
@@ -61,10 +65,10 @@ fn place_of(space: &[u8], from: usize, start: u16, first: usize, second: usize) 
     if second == 0 {
         return start;
     }
-    let y = from + first;
+    let sought = front + first;
     let mut place = begin;
     while place + second <= first + 1 {
-        if stands_at(space, from + place - 1, y, second) {
+        if stands_at(space, Offset(front + place - 1), Offset(sought), second) {
             return place as u16;
         }
         place += 1;
@@ -73,10 +77,11 @@ fn place_of(space: &[u8], from: usize, start: u16, first: usize, second: usize) 
 }
 
 // INSTR: of two arguments from the first place on, of three from the place that the first one says.
-fn instr(space: &[u8], used: usize, given: Given) -> Answer
-    requires { ⌜ Placed (now space) used given ⌝ }
-    ensures { λ r. ⌜ NumberOf (called Instr) (now (space .entry)) used given r ⌝ }
+fn instr(space: &[u8], used: Offset, given: Given) -> Answer
+    requires { ⌜ Placed (now space) (used .0) given ⌝ }
+    ensures { λ r. ⌜ NumberOf (called Instr) (now (space .entry)) (used .0) given r ⌝ }
 {
+    let front = used.0;
     let first = first_length(given);
     let second = second_length(given);
     if !are_three(given) {
@@ -87,34 +92,37 @@ fn instr(space: &[u8], used: usize, given: Given) -> Answer
         return Answer::Fault(Error::IllegalFunctionCall);
     }
     let third = third_length(given);
-    Answer::Whole(place_of(space, used + first, start, second, third))
+    Answer::Whole(place_of(space, Offset(front + first), start, second, third))
 }
 
 // ASC: the first byte's code.
-fn asc(space: &[u8], used: usize, given: Given) -> Answer
-    requires { ⌜ Placed (now space) used given ⌝ }
-    ensures { λ r. ⌜ NumberOf (called Asc) (now (space .entry)) used given r ⌝ }
+fn asc(space: &[u8], used: Offset, given: Given) -> Answer
+    requires { ⌜ Placed (now space) (used .0) given ⌝ }
+    ensures { λ r. ⌜ NumberOf (called Asc) (now (space .entry)) (used .0) given r ⌝ }
 {
+    let front = used.0;
     if first_length(given) == 0 {
         return Answer::Fault(Error::IllegalFunctionCall);
     }
-    Answer::Whole(space[used] as u16)
+    Answer::Whole(space[front] as u16)
 }
 
 // VAL: the number that a text begins with.
-fn val_of(space: &[u8], used: usize, len: usize) -> Answer
-    requires { ⌜ used + len ≤ length (now space) ⌝ }
-    ensures { λ r. ⌜ r ≡ valOf (take len (drop used (now (space .entry)))) ⌝ }
+fn val_of(space: &[u8], used: Offset, len: usize) -> Answer
+    requires { ⌜ used .0 + len ≤ length (now space) ⌝ }
+    ensures { λ r. ⌜ r ≡ valOf (take len (drop (used .0) (now (space .entry)))) ⌝ }
 {
-    let end = used + len;
-    val(&space[used..end])
+    let front = used.0;
+    let end = front + len;
+    val(&space[front..end])
 }
 
 // A function that gives a number.
-fn number_called(function: Function, space: &[u8], used: usize, given: Given) -> Answer
-    requires { ⌜ Placed (now space) used given × (gives function ≡ kind.Whole) ⌝ }
-    ensures { λ r. ⌜ NumberOf (called function) (now (space .entry)) used given r ⌝ }
+fn number_called(function: Function, space: &[u8], used: Offset, given: Given) -> Answer
+    requires { ⌜ Placed (now space) (used .0) given × (gives function ≡ kind.Whole) ⌝ }
+    ensures { λ r. ⌜ NumberOf (called function) (now (space .entry)) (used .0) given r ⌝ }
 {
+    let live = used.0;
     let word = first_word(given);
     let len = first_length(given);
     match function {
@@ -125,7 +133,7 @@ fn number_called(function: Function, space: &[u8], used: usize, given: Given) ->
         Function::Abs => absolute(word),
         Function::Sgn => Answer::Whole(sign(word)),
         // What is left is FRE.
-        _ => Answer::Whole((space.len() - used) as u16),
+        _ => Answer::Whole((space.len() - live) as u16),
     }
 }
 
@@ -143,14 +151,14 @@ fn replied(reply: Reply, ahead: Scanned) -> Worked
 pub fn called(
     function: Function,
     space: &mut [u8],
-    used: usize,
+    used: Offset,
     given: Given,
     ahead: Scanned,
 ) -> Worked
-    requires { ⌜ Placed (now space) used given ⌝ }
+    requires { ⌜ Placed (now space) (used .0) given ⌝ }
     ensures { λ r. ⌜
-        Made (now (space .entry)) used (used + givenLength given)
-        (called function (valuesIn given (drop used (now (space .entry))))) ahead r (now (space .exit))
+        Made (now (space .entry)) (used .0) (used .0 + givenLength given)
+        (called function (valuesIn given (drop (used .0) (now (space .entry))))) ahead r (now (space .exit))
         ⌝ }
 {
     let kind = gives(function);

@@ -1,21 +1,33 @@
 -- The search down the records, by the code's slots and as the definition makes it.
 use mathlib.Core.Path.{_≡_, refl, sym, ap, _∙_}
-use mathlib.Core.Bool.{true, false, cond, not, false≢true}
+use mathlib.Core.Bool.{Bool, true, false, cond, not, false≢true}
 use mathlib.Core.List.{List}
 use Prim.Native.Nat.{ℕ, zero, suc, _-_, _≤_, _<_}
 use native.Mathlib.Omega.{arith}
-use lib.Dec.{eqb}
+use borrow.Author.Tests.{eq-eqb, ne-eqb, eqb-true, eqb-false, ltb-false}
+use lib.Dec.{eqb, ltb}
 use lib.ListN.{length, getD}
 use Rattle.whole.proofs.Never.{never}
 use Rattle.words.proofs.Choices.{by-test}
+use Rattle.words.specs.Names.{alike}
+use Rattle.words.specs.declared.names.Telling.{Telling}
+use Rattle.variables.specs.Tables.{namesFrom, slotIn}
+use Rattle.variables.specs.Variables.{mostVariables}
+use Rattle.variables.specs.bridge.Memory.{nameAt, Apart}
+use Rattle.variables.specs.declared.tables.Slot.{Slot}
+use Rattle.variables.specs.declared.tables.Slot.the-variants as slot
+use Rattle.variables.proofs.Names.{name-slot, slot-name}
 use Rattle.machine.specs.Machine as spec
-use Rattle.machine.specs.Machine.{missing, sought, isCall}
+use Rattle.machine.specs.Machine.{missing, isCall, isLoopOf}
 use Rattle.machine.specs.bridge.Holding.{blankRecord, counts, recordOf, recordsIn}
-use Rattle.machine.specs.bridge.Wanted.{seeksCall, wanted, isSought, foundIn}
+use Rattle.machine.specs.bridge.Wanted as sought
+use Rattle.machine.specs.bridge.Wanted.{isSought, foundIn, entryAt, FoundAt, Told}
+use Rattle.machine.specs.bridge.Seeking.{Wish, nothing, call, loop, loopOf, testOf, bySlot, soughtFor}
 use Rattle.machine.specs.declared.records.Record.{Record}
+use Rattle.machine.specs.declared.records.Found.{Found}
 use Rattle.machine.specs.declared.records.Found.the-variants as found
 use Rattle.machine.specs.declared.records.Sought.{Sought}
-use Rattle.machine.proofs.Stacking.{getD-any}
+use Rattle.machine.proofs.Stacking.{getD-any, record-kept, records-kept}
 
 -- ---- the code's search
 
@@ -60,65 +72,112 @@ unfolding foundIn
 none-left k rs zero h = refl
 none-left k rs (suc i) h = absurd (omega arith)
 
--- ---- as the definition makes it
-
--- its test on a record is the code's,
-same-test : (text : List ℕ) (k : Sought) (e : Record) → wanted k (recordOf text e) ≡ isSought k e
-same-test text k e =
-    by-test (seeksCall k) (λ a. by-test (counts e) (λ f. rw (a, f)) (λ f. rw (a, f))) λ a.
-    by-test (eqb (k .kind) 2) (λ b. by-test (counts e) (λ f. rw (a, b, f)) (λ f. rw (a, b, f))) λ b.
-    by-test (eqb (k .kind) 3) (λ c. by-test (counts e) (λ f. rw (a, b, c, f)) (λ f. rw (a, b, c, f)))
-    (λ c. by-test (counts e) (λ f. rw (a, b, c, f)) (λ f. rw (a, b, c, f)))
-
--- and so is its end
-same-end : (text : List ℕ) (e : Record) → isCall (recordOf text e) ≡ not (counts e)
-same-end text e = by-test (counts e) (λ f. rw f) (λ f. rw f)
-
--- what is found where no GOSUB's record is asked for is a loop's,
-pub found-loop : (k : Sought) (e : Record) → seeksCall k ≡ false → isSought k e ≡ true → counts e ≡ true
-found-loop k e c w = by-test (counts e) (λ f. f) (λ f. absurd (false≢true (rw (c, f) at w)))
-
--- and where one is, a GOSUB's
-pub found-call : (k : Sought) (e : Record) → seeksCall k ≡ true → isSought k e ≡ true → counts e ≡ false
-found-call k e c w = by-test (counts e) (λ f. absurd (false≢true (rw (c, f) at w))) (λ f. f)
-
--- the record at a slot, which is the one asked for
-pub record FoundAt (text : List ℕ) (rs : List Record) (k : Sought) (d i : ℕ) : Type 0 where
-  pub below : i < d
-  pub asked : isSought k (getD rs i blankRecord) ≡ true
-  pub is : sought (wanted k) (recordsIn text rs d) ≡ spec.found (recordOf text (getD rs i blankRecord)) (recordsIn text rs i)
-
 not-found : {P : Type 0} {i : ℕ} → found.None ≡ found.At i → P
 not-found e = never (cc)
 
--- what the code finds is what the definition finds
-module _ (text : List ℕ) (rs : List Record) (k : Sought) where
-  step : (d : ℕ) → let x = getD rs d blankRecord in
-      sought (wanted k) (recordsIn text rs (suc d))
-      ≡ cond (isSought k x) (spec.found (recordOf text x) (recordsIn text rs d))
-      (cond (not (counts x)) missing (sought (wanted k) (recordsIn text rs d)))
-  unfolding recordsIn sought
-  step d =
-      let x = getD rs d blankRecord in
-      rw (same-test text k x, same-end text x)
+-- a GOSUB's record is no loop's
+no-loop : (numbers : ℕ) (x : Slot) (e : Record) → counts e ≡ false → false ≡ isSought (bySlot numbers x) e
+no-loop numbers slot.None e f = rw f
+no-loop numbers (slot.At i) e f = by-test (ltb i numbers) (λ t. rw (t, f)) (λ t. rw (t, f))
 
-  pub record-found : (d i : ℕ) → foundIn k rs d ≡ found.At i → FoundAt text rs k d i
-  unfolding foundIn
-  record-found zero i e = not-found e
-  record-found (suc d) i e =
-      let x = getD rs d blankRecord in
-      by-test (isSought k x)
-      (λ t. let f : found.At d ≡ found.At i = rw t at e in let g : d ≡ i = cc in
-      rw (← g) (record { below = omega arith; asked = t; is = step d ∙ rw t }))
-      (λ t. by-test (counts x)
-      (λ l. let r = record-found d i (rw (t, l) at e) in
-      record { below = omega (arith, r .below); asked = r .asked; is = step d ∙ rw (t, l) (r .is) })
-      (λ l. not-found (rw (t, l) at e)))
+-- ---- as the definition makes it
 
-  pub record-missing : (d : ℕ) → foundIn k rs d ≡ found.None → sought (wanted k) (recordsIn text rs d) ≡ missing
-  unfolding foundIn recordsIn sought
-  record-missing zero e = refl
-  record-missing (suc d) e =
-      let x = getD rs d blankRecord in
-      by-test (isSought k x) (λ t. not-found (sym (rw t at e)))
-      (λ t. step d ∙ by-test (counts x) (λ l. rw (t, l) (record-missing d (rw (t, l) at e))) (λ l. rw (t, l)))
+-- the end of its search is the code's
+same-end : (text names : List ℕ) (e : Record) → isCall (recordOf text names e) ≡ not (counts e)
+same-end text names e = by-test (counts e) (λ f. rw f) (λ f. rw f)
+
+not-at : {P : Type 0} {i : ℕ} → slot.None ≡ slot.At i → P
+not-at e = never (cc)
+
+-- no two names of the table are one variable's
+module _ (text names : List ℕ) (numbers : ℕ) (few : numbers ≤ mostVariables) (apart : Apart (namesFrom numbers names)) where
+  -- a loop's record is that of a variable just where its entry is the variable's
+  module _ (name : Telling) (e : Record) (known : e .slot < numbers) where
+    abbrev own : Type 0
+    own = alike (nameAt names (e .slot)) name ≡ true → slotIn names name ≡ slot.At (e .slot)
+
+    has-own : own
+    has-own t = name-slot names numbers few apart (e .slot) name known t
+
+    other : (x : Slot) → slotIn names name ≡ x → (x ≡ slot.At (e .slot) → ⊥) → alike (nameAt names (e .slot)) name ≡ false
+    other x q n = by-test (alike (nameAt names (e .slot)) name) (λ t. absurd (n (sym q ∙ has-own t))) (λ t. t)
+
+    slot-is : (i : ℕ) → slotIn names name ≡ slot.At i → alike (nameAt names (e .slot)) name ≡ eqb (e .slot) i
+    slot-is i q =
+        by-test (eqb (e .slot) i)
+        (λ t. let s = eqb-true (e .slot) i t in rw (t, s) (slot-name names i name (omega arith) q))
+        (λ t. rw t (other (slot.At i) q (λ z. let s : i ≡ e .slot = cc in eqb-false (e .slot) i t (sym s))))
+
+    same-loop : (x : Slot) → slotIn names name ≡ x → counts e ≡ true → alike (nameAt names (e .slot)) name ≡ isSought (bySlot numbers x) e
+    same-loop slot.None q f = rw f (other slot.None q (λ z. not-at z))
+    same-loop (slot.At i) q f =
+        by-test (ltb i numbers) (λ t. rw (t, f) (slot-is i q))
+        (λ t. rw (t, f) (other (slot.At i) q (λ z. let s : i ≡ e .slot = cc in absurd (omega (arith, ltb-false i numbers t)))))
+
+  -- its test on a record is the code's
+  same-test : (w : Wish) (e : Record) → (counts e ≡ true → e .slot < numbers) → testOf w (recordOf text names e) ≡ isSought (soughtFor names numbers w) e
+  same-test nothing e h = by-test (counts e) (λ f. rw f) (λ f. rw f)
+  same-test call e h = by-test (counts e) (λ f. rw f) (λ f. rw f)
+  same-test loop e h = by-test (counts e) (λ f. rw f) (λ f. rw f)
+  same-test (loopOf name) e h =
+      by-test (counts e)
+      (λ f. rw f (rw f at (same-loop name e (h f) (slotIn names name) refl f)))
+      (λ f. rw f (rw f at (no-loop numbers (slotIn names name) e f)))
+
+  module _ (w : Wish) (rs : List Record) where
+    abbrev k : Sought
+    k = soughtFor names numbers w
+
+    abbrev Known : ℕ → Type 0
+    Known d = (i : ℕ) → i < d → counts (getD rs i blankRecord) ≡ true → getD rs i blankRecord .slot < numbers
+
+    step : (d : ℕ) → Known (suc d) → let x = getD rs d blankRecord in
+        spec.sought (testOf w) (recordsIn text names rs (suc d))
+        ≡ cond (isSought k x) (spec.found (recordOf text names x) (recordsIn text names rs d))
+        (cond (not (counts x)) missing (spec.sought (testOf w) (recordsIn text names rs d)))
+    unfolding recordsIn spec.sought
+    step d h = let x = getD rs d blankRecord in rw (same-test w x (h d (omega arith)), same-end text names x)
+
+    found-at : (d i : ℕ) → Known d → foundIn k rs d ≡ found.At i → FoundAt text names (testOf w) d i (getD rs i blankRecord) rs
+    unfolding foundIn
+    found-at zero i h e = not-found e
+    found-at (suc d) i h e =
+        let x = getD rs d blankRecord in
+        by-test (isSought k x)
+        (λ t. let f : found.At d ≡ found.At i = rw t at e in let g : d ≡ i = cc in
+        rw (← g) (record { below = omega arith; at = refl; passes = same-test w x (h d (omega arith)) ∙ t; is = step d h ∙ rw t }))
+        (λ t. by-test (counts x)
+        (λ l. let r = found-at d i (λ j m. h j (omega arith)) (rw (t, l) at e) in
+        record { below = omega (arith, r .below); at = refl; passes = r .passes; is = step d h ∙ rw (t, l) (r .is) })
+        (λ l. not-found (rw (t, l) at e)))
+
+    found-none : (d : ℕ) → Known d → foundIn k rs d ≡ found.None → spec.sought (testOf w) (recordsIn text names rs d) ≡ missing
+    unfolding foundIn recordsIn spec.sought
+    found-none zero h e = refl
+    found-none (suc d) h e =
+        let x = getD rs d blankRecord in
+        by-test (isSought k x) (λ t. not-found (sym (rw t at e)))
+        (λ t. step d h ∙ by-test (counts x) (λ l. rw (t, l) (found-none d (λ j m. h j (omega arith)) (rw (t, l) at e))) (λ l. rw (t, l)))
+
+    told-by : (d : ℕ) → Known d → (f : Found) → foundIn k rs d ≡ f → Told text names (testOf w) d f (entryAt f rs) rs
+    told-by d h (found.At i) e = found-at d i h e
+    told-by d h found.None e = found-none d h e
+
+    -- what the code finds is what the definition finds
+    pub told : (d : ℕ) → Known d → Told text names (testOf w) d (foundIn k rs d) (entryAt (foundIn k rs d) rs) rs
+    told d h = told-by d h (foundIn k rs d) refl
+
+-- what was told of the records stands when more names are in the table
+module _ (text names names′ : List ℕ) (numbers : ℕ) (kept : (i : ℕ) → i < numbers → nameAt names′ i ≡ nameAt names i) (rs : List Record)
+    (test : spec.Record → Bool) (d : ℕ) (known : (i : ℕ) → i < d → counts (getD rs i blankRecord) ≡ true → getD rs i blankRecord .slot < numbers) where
+  pub told-kept : (f : Found) (entry : Record) → Told text names test d f entry rs → Told text names′ test d f entry rs
+  told-kept found.None entry t = rw (records-kept text names names′ numbers kept rs d known) t
+  told-kept (found.At i) entry t =
+      let e = t .at in
+      let one : recordOf text names′ entry ≡ recordOf text names entry = rw e (record-kept text names names′ numbers kept (getD rs i blankRecord) (known i (t .below))) in
+      record {
+        below = t .below;
+        at = e;
+        passes = rw one (t .passes);
+        is = rw (records-kept text names names′ numbers kept rs d known, one, records-kept text names names′ numbers kept rs i (λ j l. known j (omega (arith, t .below)))) (t .is);
+      }

@@ -21,58 +21,60 @@ use Rattle.statements.proofs.Views.{Final, plain, thens, elses, more-view, fina
 use Rattle.statements.proofs.Ways.{if-so, by-assign, by-items, by-condition, by-for, by-input}
 use Rattle.machine.specs.declared.records.Sought.{Sought}
 use Rattle.machine.specs.bridge.Wanted as sought
-use Rattle.machine.specs.bridge.Seeking.{soughtBy, Seeks, soughtLoop}
+use Rattle.machine.specs.bridge.Seeking.{wishOf, soughtFor, loopSought, Seeks, soughtLoop}
 use Rattle.machine.proofs.Tokens.{wordTag, by-named}
 
 -- ---- the statement that begins a part
 
-last-seeks : (line : List ℕ) (at q : ℕ) (x : Statement) (end : Scanned) {k : Sought} → Final line true at q x end → Seeks k (begunAt line true at)
-    → k ≡ soughtBy x
-last-seeks line at q x end (plain f) h = rw (f .begun) at h
-last-seeks line at q x end (thens f) h = rw (f .begun) at h
-last-seeks line at q x end (elses f) h = rw (f .begun) at h
+module _ (names : List ℕ) (numbers : ℕ) where
+  last-seeks : (line : List ℕ) (at q : ℕ) (x : Statement) (end : Scanned) {k : Sought} → Final line true at q x end
+      → Seeks names numbers k (begunAt line true at) → k ≡ soughtFor names numbers (wishOf x)
+  last-seeks line at q x end (plain f) h = rw (f .begun) at h
+  last-seeks line at q x end (thens f) h = rw (f .begun) at h
+  last-seeks line at q x end (elses f) h = rw (f .begun) at h
 
-part-by : (line : List ℕ) (at : ℕ) (p : Part) (end : Scanned) {k : Sought} → partOf line true at ≡ goodPart p end → Seeks k (begunAt line true at)
-    → k ≡ soughtBy (headOf p)
-part-by line at (last q x) end e h = last-seeks line at q x end (final-view line true at e) h
-part-by line at (more q x rest) end e h = rw (more-view line true at e .begun) at h
+  part-by : (line : List ℕ) (at : ℕ) (p : Part) (end : Scanned) {k : Sought} → partOf line true at ≡ goodPart p end
+      → Seeks names numbers k (begunAt line true at) → k ≡ soughtFor names numbers (wishOf (headOf p))
+  part-by line at (last q x) end e h = last-seeks line at q x end (final-view line true at e) h
+  part-by line at (more q x rest) end e h = rw (more-view line true at e .begun) at h
 
--- led as the statement at a place is
-pub part-seeks : (line : List ℕ) (at : ℕ) {l : Lead} {k : Sought} → l ≡ leadOf line true (tokenAt line (place at)) → Seeks k (begunBy line l)
-    → (p : Part) (end : Scanned) → partOf line true at ≡ goodPart p end → k ≡ soughtBy (headOf p)
-unfolding begunAt
-part-seeks line at e h p end i = part-by line at p end i (rw e at h)
+  -- led as the statement at a place is
+  pub part-seeks : (line : List ℕ) (at : ℕ) {l : Lead} {k : Sought} → l ≡ leadOf line true (tokenAt line (place at))
+      → Seeks names numbers k (begunBy line l) → (p : Part) (end : Scanned) → partOf line true at ≡ goodPart p end
+      → k ≡ soughtFor names numbers (wishOf (headOf p))
+  unfolding begunAt
+  part-seeks line at e h p end i = part-by line at p end i (rw e at h)
 
 -- ---- FOR and NEXT ask for the loop of the name that follows
 
-module _ (s : List ℕ) (t : Scanned) where
-  abbrev loopOf : Name → Sought
-  loopOf v = sought.LoopOf (variableOf s v .telling)
+module _ (names : List ℕ) (numbers : ℕ) (s : List ℕ) (t : Scanned) where
+  abbrev ofLoop : Name → Sought
+  ofLoop v = loopSought names numbers (variableOf s v .telling)
 
   abbrev counted : Name → Begun
   counted v = forAt s (variableOf s v) (after s t)
 
-  pub for-seeks : Seeks (soughtLoop s t) (byWord s For t)
+  pub for-seeks : Seeks names numbers (soughtLoop names numbers s t) (byWord s For t)
   for-seeks =
-      by-named (λ x. Seeks (onName x loopOf sought.Loop) (onName x counted bad))
-      (λ v. by-for (Seeks (loopOf v)) tt s (after s t) (variableOf s v) (λ a b c u e. refl))
+      by-named (λ x. Seeks names numbers (onName x ofLoop sought.Loop) (onName x counted bad))
+      (λ v. by-for (Seeks names numbers (ofLoop v)) tt s (after s t) (variableOf s v) (λ a b c u e. refl))
       (λ x no. rw (no Begun counted bad) tt)
       (t .token)
 
   abbrev turned : Name → Begun
   turned v = done (nextOf (variableOf s v)) (after s t)
 
-  pub next-seeks : Seeks (soughtLoop s t) (byWord s Next t)
+  pub next-seeks : Seeks names numbers (soughtLoop names numbers s t) (byWord s Next t)
   next-seeks =
-      by-named (λ x. Seeks (onName x loopOf sought.Loop) (onName x turned (done next t)))
+      by-named (λ x. Seeks names numbers (onName x ofLoop sought.Loop) (onName x turned (done next t)))
       (λ v. refl)
-      (λ x no. rw (no Begun turned (done next t)) (no Sought loopOf sought.Loop))
+      (λ x no. rw (no Begun turned (done next t)) (no Sought ofLoop sought.Loop))
       (t .token)
 
   -- ---- the others ask for none
 
   abbrev N : Begun → Type 0
-  N b = Seeks sought.Nothing b
+  N b = Seeks names numbers sought.Nothing b
 
   abbrev otherWords : List ℕ
   otherWords = 0 ∷ 1 ∷ 2 ∷ 3 ∷ 4 ∷ 5 ∷ 6 ∷ 9 ∷ 10 ∷ 12 ∷ 13 ∷ 14 ∷ 15 ∷ 16 ∷ 17 ∷ 18 ∷ 19 ∷ 20 ∷ 21 ∷ []

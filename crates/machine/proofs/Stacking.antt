@@ -10,7 +10,8 @@ use lib.Dec.{eqb}
 use lib.ListN.{length, getD, set, length-map}
 use lib.Seq.{set-out, getD-set-same, getD-set-other}
 use Rattle.whole.proofs.Numbers.{less}
-use Rattle.words.specs.declared.names.Telling.{Telling}
+use Rattle.words.proofs.Choices.{by-test}
+use Rattle.variables.specs.bridge.Memory.{nameAt}
 use Rattle.machine.specs.Machine.{loop, call}
 use Rattle.machine.specs.bridge.Holding.{positionOf, blankRecord, counts, backOf, overNumber, callRecord, loopRecord, recordOf, recordsIn}
 use Rattle.machine.specs.declared.positions.Position.{Position}
@@ -34,11 +35,11 @@ records-past rs slot e h = set-out rs slot e h
 
 -- ---- a record as the definition has it
 
-module _ (text : List ℕ) (e : Record) where
-  pub is-loop : counts e ≡ true → recordOf text e ≡ loop (e .name) (e .limit) (e .step) (positionOf text (backOf e))
+module _ (text names : List ℕ) (e : Record) where
+  pub is-loop : counts e ≡ true → recordOf text names e ≡ loop (nameAt names (e .slot)) (e .limit) (e .step) (positionOf text (backOf e))
   is-loop f = rw f
 
-  pub is-call : counts e ≡ false → recordOf text e ≡ call (positionOf text (backOf e))
+  pub is-call : counts e ≡ false → recordOf text names e ≡ call (positionOf text (backOf e))
   is-call f = rw f
 
 -- a place to come back to is the one that was put there
@@ -49,48 +50,59 @@ over-held false = refl
 pub call-back : (q : Position) → backOf (callRecord q) ≡ q
 call-back q = rw (over-held (q .over))
 
-pub loop-back : (name : Telling) (limit step : ℕ) (q : Position) → backOf (loopRecord name limit step q) ≡ q
-loop-back name limit step q = rw (over-held (q .over))
+pub loop-back : (slot limit step : ℕ) (q : Position) → backOf (loopRecord slot limit step q) ≡ q
+loop-back slot limit step q = rw (over-held (q .over))
 
 -- and so is the record
-pub call-held : (text : List ℕ) (q : Position) → recordOf text (callRecord q) ≡ call (positionOf text q)
-call-held text q = ap (λ x. call (positionOf text x)) (call-back q)
+pub call-held : (text names : List ℕ) (q : Position) → recordOf text names (callRecord q) ≡ call (positionOf text q)
+call-held text names q = ap (λ x. call (positionOf text x)) (call-back q)
 
-pub loop-held : (text : List ℕ) (name : Telling) (limit step : ℕ) (q : Position)
-    → recordOf text (loopRecord name limit step q) ≡ loop name limit step (positionOf text q)
-loop-held text name limit step q = ap (λ x. loop name limit step (positionOf text x)) (loop-back name limit step q)
+pub loop-held : (text names : List ℕ) (slot limit step : ℕ) (q : Position)
+    → recordOf text names (loopRecord slot limit step q) ≡ loop (nameAt names slot) limit step (positionOf text q)
+loop-held text names slot limit step q = ap (λ x. loop (nameAt names slot) limit step (positionOf text x)) (loop-back slot limit step q)
 
 -- ---- those of them that count
 
-module _ (text : List ℕ) (rs : List Record) where
-  pub records-length : (d : ℕ) → length (recordsIn text rs d) ≡ d
+module _ (text names : List ℕ) (rs : List Record) where
+  pub records-length : (d : ℕ) → length (recordsIn text names rs d) ≡ d
   unfolding recordsIn
   records-length zero = refl
   records-length (suc d) = ap suc (records-length d)
 
   -- there are none
-  pub records-none : recordsIn text rs 0 ≡ []
+  pub records-none : recordsIn text names rs 0 ≡ []
   unfolding recordsIn
   records-none = refl
 
   -- the topmost, and those below it
-  pub records-top : (d : ℕ) → recordsIn text rs (suc d) ≡ recordOf text (getD rs d blankRecord) ∷ recordsIn text rs d
+  pub records-top : (d : ℕ) → recordsIn text names rs (suc d) ≡ recordOf text names (getD rs d blankRecord) ∷ recordsIn text names rs d
   unfolding recordsIn
   records-top d = refl
 
   -- one written above them changes none
-  pub records-above : (d slot : ℕ) (e : Record) → d ≤ slot → recordsIn text (set rs slot e) d ≡ recordsIn text rs d
+  pub records-above : (d slot : ℕ) (e : Record) → d ≤ slot → recordsIn text names (set rs slot e) d ≡ recordsIn text names rs d
   unfolding recordsIn
   records-above zero slot e h = refl
   records-above (suc d) slot e h =
-      ap₂ _∷_ (ap (recordOf text) (getD-set-other rs slot d e blankRecord (omega arith))) (records-above d slot e (omega arith))
+      ap₂ _∷_ (ap (recordOf text names) (getD-set-other rs slot d e blankRecord (omega arith))) (records-above d slot e (omega arith))
 
   -- one written just above them comes on top
   pub records-push : (d : ℕ) (e : Record) → d < length rs
-      → recordsIn text (set rs d e) (suc d) ≡ recordOf text e ∷ recordsIn text rs d
+      → recordsIn text names (set rs d e) (suc d) ≡ recordOf text names e ∷ recordsIn text names rs d
   unfolding recordsIn
   records-push d e h =
-      ap₂ _∷_ (ap (recordOf text) (getD-set-same rs d e blankRecord h)) (records-above d d e (le-refl d))
+      ap₂ _∷_ (ap (recordOf text names) (getD-set-same rs d e blankRecord h)) (records-above d d e (le-refl d))
+
+-- more names in the table change none of them, where each loop's variable was there
+module _ (text names names′ : List ℕ) (numbers : ℕ) (kept : (i : ℕ) → i < numbers → nameAt names′ i ≡ nameAt names i) where
+  pub record-kept : (e : Record) → (counts e ≡ true → e .slot < numbers) → recordOf text names′ e ≡ recordOf text names e
+  record-kept e h = by-test (counts e) (λ f. rw f (ap (λ n. loop n (e .limit) (e .step) (positionOf text (backOf e))) (kept (e .slot) (h f)))) (λ f. rw f)
+
+  pub records-kept : (rs : List Record) (d : ℕ) → ((i : ℕ) → i < d → counts (getD rs i blankRecord) ≡ true → getD rs i blankRecord .slot < numbers)
+      → recordsIn text names′ rs d ≡ recordsIn text names rs d
+  unfolding recordsIn
+  records-kept rs zero h = refl
+  records-kept rs (suc d) h = ap₂ _∷_ (record-kept (getD rs d blankRecord) (h d (omega arith))) (records-kept rs d (λ i l. h i (omega arith)))
 
 -- what holds of each of them
 module _ (P : Record → Type 0) (rs : List Record) (d : ℕ) (each : (i : ℕ) → i < d → P (getD rs i blankRecord)) where

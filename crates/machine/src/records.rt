@@ -8,24 +8,17 @@ ghost use Rattle.machine.specs.bridge.Wanted.{LoopOf, isSought, foundIn}
 use crate::positions::Position;
 use crate::state::Machine;
 use words::Place;
-use words::Telling;
-use words::same_name;
 
-const NO_NAME: Telling = Telling {
-    first: 0,
-    second: 0,
-};
-
-// A FOR's: its variable, limit and step; or a GOSUB's. Both have the place to come back to. Numbers alone: a host may lend any bytes, so
-// every kind but a FOR's is a GOSUB's, and every number but 0 says that the line is over.
+// A FOR's: its variable's entry among the number variables, limit and step; or a GOSUB's. Both have the place to come back to. Numbers
+// alone: a host may lend any bytes, so every kind but a FOR's is a GOSUB's, and every number but 0 says that the line is over.
 pub struct Record {
     pub kind: u8,
-    pub name: Telling,
+    pub over: u8,
     pub limit: u16,
     pub step: u16,
+    pub slot: usize,
     pub line: Place,
     pub at: Place,
-    pub over: u8,
 }
 
 pub struct Stack {
@@ -37,10 +30,11 @@ pub enum Found {
     None,
 }
 
-// The record that a statement asks for, by its kind: none, the nearest GOSUB's, the topmost loop's, or that of a variable's loop.
+// The record that a statement asks for, by its kind: none, the nearest GOSUB's, the topmost loop's, or that of the loop of the variable
+// at an entry.
 pub struct Sought {
     pub kind: u8,
-    pub name: Telling,
+    pub slot: usize,
 }
 
 impl Sought {
@@ -54,25 +48,25 @@ impl Sought {
 
     pub const NOTHING: Sought = Sought {
         kind: Sought::NONE,
-        name: NO_NAME,
+        slot: 0,
     };
 
     pub const CALL: Sought = Sought {
         kind: Sought::NEAREST_CALL,
-        name: NO_NAME,
+        slot: 0,
     };
 
     pub const LOOP: Sought = Sought {
         kind: Sought::ANY_LOOP,
-        name: NO_NAME,
+        slot: 0,
     };
 
-    pub fn loop_of(name: Telling) -> Sought
-        ensures { λ r. ⌜ r ≡ LoopOf name ⌝ }
+    pub fn loop_of(slot: usize) -> Sought
+        ensures { λ r. ⌜ r ≡ LoopOf slot ⌝ }
     {
         Sought {
             kind: Sought::NAMED_LOOP,
-            name,
+            slot,
         }
     }
 }
@@ -87,12 +81,12 @@ impl Record {
     {
         Record {
             kind: 0,
-            name: NO_NAME,
+            over: 0,
             limit: 0,
             step: 0,
+            slot: 0,
             line: Place(0),
             at: Place(0),
-            over: 0,
         }
     }
 
@@ -104,29 +98,29 @@ impl Record {
         let at = back.at;
         Record {
             kind: Record::CALL,
-            name: NO_NAME,
+            over: over_number(back.over),
             limit: 0,
             step: 0,
+            slot: 0,
             line,
             at,
-            over: over_number(back.over),
         }
     }
 
     // A FOR's.
-    pub fn counts(name: Telling, limit: u16, step: u16, back: Position) -> Record
-        ensures { λ r. ⌜ r ≡ loopRecord name limit step back ⌝ }
+    pub fn counts(slot: usize, limit: u16, step: u16, back: Position) -> Record
+        ensures { λ r. ⌜ r ≡ loopRecord slot limit step back ⌝ }
     {
         let line = back.line;
         let at = back.at;
         Record {
             kind: Record::COUNT,
-            name,
+            over: over_number(back.over),
             limit,
             step,
+            slot,
             line,
             at,
-            over: over_number(back.over),
         }
     }
 
@@ -180,7 +174,7 @@ fn is_sought(sought: Sought, entry: Record) -> bool
         return true;
     }
     if kind == Sought::NAMED_LOOP {
-        return same_name(entry.name, sought.name);
+        return entry.slot == sought.slot;
     }
     false
 }

@@ -1,35 +1,53 @@
 // The record that a statement asks for.
 ghost use mathlib.Core.Path.{_≡_};
 ghost use Rattle.statements.specs.Statements.{begunBy};
-ghost use Rattle.machine.specs.bridge.Seeking.{Seeks, soughtLoop};
+ghost use Rattle.words.specs.Names.{nameBytes, tellingOf};
+ghost use Rattle.machine.specs.bridge.Seeking.{Seeks, soughtLoop, loopSought};
 use crate::records::Sought;
 use statements::Lead;
+use variables::Slot;
+use variables::slot_of;
+use words::Name;
 use words::Scanned;
 use words::Token;
 use words::Word;
 use words::telling_of;
 
-// By how it is led.
-pub fn sought_record(line: &[u8], lead: Lead) -> Sought
-    ensures { λ r. ⌜ Seeks r (begunBy (now (line .entry)) lead) ⌝ }
+// By how it is led; `names` are those of so many number variables.
+pub fn sought_record(line: &[u8], lead: Lead, names: &[u8; 128], numbers: usize) -> Sought
+    ensures { λ r. ⌜ Seeks (now (names .entry)) numbers r (begunBy (now (line .entry)) lead) ⌝ }
 {
     match lead {
         Lead::Nothing => Sought::NOTHING,
         Lead::By(word, from) => match word {
             Word::Return => Sought::CALL,
-            Word::For => named_loop(line, from),
-            Word::Next => named_loop(line, from),
+            Word::For => sought_loop(line, from, names, numbers),
+            Word::Next => sought_loop(line, from, names, numbers),
             _ => Sought::NOTHING,
         },
     }
 }
 
-fn named_loop(line: &[u8], target: Scanned) -> Sought
-    ensures { λ r. ⌜ r ≡ soughtLoop (now (line .entry)) target ⌝ }
+fn sought_loop(line: &[u8], target: Scanned, names: &[u8; 128], numbers: usize) -> Sought
+    ensures { λ r. ⌜ r ≡ soughtLoop (now (names .entry)) numbers (now (line .entry)) target ⌝ }
 {
     let token = target.token;
     match token {
-        Token::Named(name) => Sought::loop_of(telling_of(line, name)),
+        Token::Named(name) => loop_of(line, name, names, numbers),
         _ => Sought::LOOP,
+    }
+}
+
+// A variable that was never assigned has no loop.
+fn loop_of(line: &[u8], name: Name, names: &[u8; 128], numbers: usize) -> Sought
+    ensures { λ r. ⌜ r ≡ loopSought (now (names .entry)) numbers (tellingOf (nameBytes (now (line .entry)) name)) ⌝ }
+{
+    match slot_of(names, telling_of(line, name)) {
+        Slot::None => Sought::NOTHING,
+        Slot::At(slot) => if slot < numbers {
+            Sought::loop_of(slot)
+        } else {
+            Sought::NOTHING
+        },
     }
 }

@@ -1,7 +1,8 @@
-// The machine: the variables' tables, and counts of what was printed, taken and done.
+// The machine: counts of what was printed, taken and done, and how much of the tables is in use.
 ghost use mathlib.Core.Path.{_≡_};
 ghost use Rattle.machine.specs.bridge.Holding.{freshMachine};
-use variables::Tables;
+use space::Offset;
+use words::Place;
 
 // The bytes since the last byte 10, and how many bytes were written.
 pub struct Printer {
@@ -9,13 +10,16 @@ pub struct Printer {
     pub written: usize,
 }
 
+// The variables' tables are lent beside it, and so are the records.
 pub struct Machine {
-    pub tables: Tables,
-    // How many bytes of the string space the variables have.
-    pub used: usize,
+    // How many number variables there are, and how many string variables.
+    pub numbers: usize,
+    pub strings: usize,
+    // Where the variables' bytes end in the string space.
+    pub used: Offset,
     pub printer: Printer,
-    // How many bytes of input were taken.
-    pub taken: usize,
+    // The first byte of input that was not taken.
+    pub taken: Place,
     pub steps: u32,
     // How many records there are.
     pub depth: usize,
@@ -28,18 +32,19 @@ impl Machine {
 
     pub const LONGEST_INPUT_LINE: usize = 254;
 
-    // Every variable unset, both tables empty, column 0.
+    // Every variable unset, column 0.
     pub fn fresh() -> Machine
         ensures { λ r. ⌜ r ≡ freshMachine ⌝ }
     {
         Machine {
-            tables: Tables::empty(),
-            used: 0,
+            numbers: 0,
+            strings: 0,
+            used: Offset(0),
             printer: Printer {
                 column: 0,
                 written: 0,
             },
-            taken: 0,
+            taken: Place(0),
             steps: 0,
             depth: 0,
         }

@@ -14,15 +14,16 @@ pub enum InputLine {
 }
 
 // The line from a place on: 62 if no bytes are left, 23 if over 254 bytes.
-pub fn take_line(input: &[u8], from: usize) -> InputLine
-    ensures { λ r. ⌜ r ≡ takenAt (now (input .entry)) from ⌝ }
+pub fn take_line(input: &[u8], from: Place) -> InputLine
+    ensures { λ r. ⌜ r ≡ takenAt (now (input .entry)) (from .0) ⌝ }
 {
-    if input.len() <= from {
+    let start = from.0;
+    if input.len() <= start {
         return InputLine::Fault(Error::InputPastEnd);
     }
-    let extent = extent_at(input, Place(from));
+    let extent = extent_at(input, from);
     let end = extent.end.0;
-    if Machine::LONGEST_INPUT_LINE < end - from {
+    if Machine::LONGEST_INPUT_LINE < end - start {
         return InputLine::Fault(Error::LineBufferOverflow);
     }
     InputLine::Is(extent)

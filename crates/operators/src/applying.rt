@@ -10,6 +10,7 @@ ghost use Rattle.operators.specs.bridge.Memory.{orderOf, isLessOrder, is
 ghost use Rattle.variables.specs.bridge.Memory.{textLength, Agrees, Held, GoesOn};
 use grammar::OperatorFound;
 use grammar::tight_operator;
+use space::Offset;
 use variables::Worked;
 use variables::answered;
 use variables::has_room;
@@ -36,10 +37,13 @@ pub enum Turn {
 }
 
 // Strings compare by bytes, and a proper prefix is less. The right one stands right after the left one.
-fn compare(space: &[u8], left: usize, first: usize, second: usize) -> Order
-    requires { ⌜ left + first + second ≤ length (now space) ⌝ }
-    ensures { λ r. ⌜ r ≡ orderOf (take first (drop left (now (space .entry)))) (take second (drop (left + first) (now (space .entry)))) ⌝ }
+fn compare(space: &[u8], used: Offset, first: usize, second: usize) -> Order
+    requires { ⌜ used .0 + first + second ≤ length (now space) ⌝ }
+    ensures { λ r. ⌜
+        r ≡ orderOf (take first (drop (used .0) (now (space .entry)))) (take second (drop (used .0 + first) (now (space .entry))))
+        ⌝ }
 {
+    let left = used.0;
     let right = left + first;
     let mut i = 0;
     while i < first && i < second {
@@ -135,15 +139,16 @@ fn wants_whole(operator: Operator) -> bool
 }
 
 // Two texts side by side are already joined; only room is asked for, while both are live.
-fn join(space: &[u8], used: usize, first: usize, second: usize, ahead: Scanned) -> Worked
-    requires { ⌜ used + first + second ≤ length (now space) ⌝ }
-    ensures { λ r. ⌜ r ≡ joinedLength (length (now (space .entry))) used first second ahead ⌝ }
+fn join(space: &[u8], used: Offset, first: usize, second: usize, ahead: Scanned) -> Worked
+    requires { ⌜ used .0 + first + second ≤ length (now space) ⌝ }
+    ensures { λ r. ⌜ r ≡ joinedLength (length (now (space .entry))) (used .0) first second ahead ⌝ }
 {
+    let front = used.0;
     let len = first + second;
     if Text::LONGEST < len {
         return Worked::Fault(Error::StringTooLong);
     }
-    if !has_room(space, used + len, len) {
+    if !has_room(space, Offset(front + len), len) {
         return Worked::Fault(Error::OutOfStringSpace);
     }
     Worked::Text(len, ahead)
@@ -153,15 +158,15 @@ fn join(space: &[u8], used: usize, first: usize, second: usize, ahead: Scanned) 
 fn on_texts(
     operator: Operator,
     space: &[u8],
-    used: usize,
+    used: Offset,
     first: usize,
     second: usize,
     ahead: Scanned,
 ) -> Worked
-    requires { ⌜ used + first + second ≤ length (now space) ⌝ }
+    requires { ⌜ used .0 + first + second ≤ length (now space) ⌝ }
     ensures { λ r. ⌜
-        ((room : Room) → Held room (now (space .entry)) (used + first + second)
-        → Agrees r (now (space .entry)) used (onTexts operator (take first (drop used (now (space .entry)))) (take second (drop (used + first) (now (space .entry)))) room))
+        ((room : Room) → Held room (now (space .entry)) (used .0 + first + second)
+        → Agrees r (now (space .entry)) (used .0) (onTexts operator (take first (drop (used .0) (now (space .entry)))) (take second (drop (used .0 + first) (now (space .entry)))) room))
         × GoesOn r ahead
         ⌝ }
 {
@@ -224,10 +229,16 @@ fn beside_whole(operator: Operator, a: u16, right: Worked) -> Worked
 }
 
 // The same of a text on the left.
-fn beside_text(operator: Operator, first: usize, right: Worked, space: &[u8], used: usize) -> Worked
-    requires { ⌜ used + first + textLength right ≤ length (now space) ⌝ }
+fn beside_text(
+    operator: Operator,
+    first: usize,
+    right: Worked,
+    space: &[u8],
+    used: Offset,
+) -> Worked
+    requires { ⌜ used .0 + first + textLength right ≤ length (now space) ⌝ }
     ensures { λ r. ⌜
-        RightMet operator (text (take first (drop used (now (space .entry))))) (used + first) right (now (space .entry)) used r
+        RightMet operator (text (take first (drop (used .0) (now (space .entry))))) (used .0 + first) right (now (space .entry)) (used .0) r
         ⌝ }
 {
     let Worked::Text(second, ahead) = right else {
@@ -237,9 +248,9 @@ fn beside_text(operator: Operator, first: usize, right: Worked, space: &[u8], us
 }
 
 // Both sides' answers: the first error stands, and the right value must be of the left one's type.
-pub fn joined(operator: Operator, left: Worked, right: Worked, space: &[u8], used: usize) -> Worked
-    requires { ⌜ used + textLength left + textLength right ≤ length (now space) ⌝ }
-    ensures { λ r. ⌜ SidesMet operator left right (now (space .entry)) used r ⌝ }
+pub fn joined(operator: Operator, left: Worked, right: Worked, space: &[u8], used: Offset) -> Worked
+    requires { ⌜ used .0 + textLength left + textLength right ≤ length (now space) ⌝ }
+    ensures { λ r. ⌜ SidesMet operator left right (now (space .entry)) (used .0) r ⌝ }
 {
     if let Worked::Text(first, _) = left {
         return beside_text(operator, first, right, space, used);

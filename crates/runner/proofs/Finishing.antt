@@ -23,8 +23,7 @@ use Rattle.variables.proofs.Told.{numbers-told, strings-told}
 use Rattle.variables.specs.Strings.{longestSpace}
 use Rattle.machine.specs.Machine as spec
 use Rattle.machine.specs.Machine.{lentBy}
-use Rattle.machine.specs.bridge.Holding.{variablesOf, Settled, Sound, Same}
-use Rattle.machine.specs.declared.state.Machine.{Machine}
+use Rattle.machine.specs.bridge.Holding.{variablesOf, Settled, Sound, Same, State}
 use Rattle.machine.specs.declared.records.Record.{Record}
 use Rattle.runner.specs.Run as run
 use Rattle.runner.specs.Run.{endsWith, isRefused, tablesOf, answerOf, spaceAfter, roomAfter, runOf}
@@ -35,13 +34,13 @@ use Rattle.runner.specs.declared.running.Outcome.the-variants.{Refused}
 use Rattle.runner.specs.declared.running.Ran.{Ran}
 
 -- the tables are told by the variables that they hold
-tables-told : (m : Machine) (space : List ℕ) → Settled m space → m .tables ≡ tablesOf (variablesOf m space)
+tables-told : (m : State) (space : List ℕ) → Settled m space → m .tables ≡ tablesOf (variablesOf m space)
 tables-told m space s =
     ap₂ (λ n t. record { numbers = n; strings = t }) (numbers-told (m .tables .numbers) (s .numbers))
     (strings-told (m .tables .strings) space (s .strings) (omega (arith, s .all, s .within)))
 
 -- the space holds their bytes
-space-told : (m : Machine) (space : List ℕ) → Settled m space
+space-told : (m : State) (space : List ℕ) → Settled m space
     → cleared space (m .used)
     ≡ joinedStrings (variablesOf m space .strings) ++ replicate (length space - stringBytes (variablesOf m space .strings)) 0
 space-told m space s =
@@ -49,12 +48,12 @@ space-told m space s =
     let live : stringBytes (stringsHeld t space) ≡ m .used = strings-live t space (s .strings) (omega (arith, s .all, s .within)) ∙ s .all in
     cleaned t space (m .used) (s .strings) (sym (s .all)) ∙ ap (λ k. joinedStrings (stringsHeld t space) ++ replicate (length space - k) 0) (sym live)
 
-answer-told : (o : Outcome) (m : Machine) (tables : Tables) (ran : run.Ran) → isRefused (ran .ending) ≡ false → o ≡ ran .ending → m .steps ≡ ran .machine .steps
+answer-told : (o : Outcome) (m : State) (tables : Tables) (ran : run.Ran) → isRefused (ran .ending) ≡ false → o ≡ ran .ending → m .steps ≡ ran .machine .steps
     → m .printer .written ≡ length (ran .machine .output) → m .taken ≡ ran .machine .taken → m .tables ≡ tablesOf (ran .machine .variables)
     → endedAs o m ≡ answerOf ran tables
 answer-told o m tables ran f a b c d e = rw (f, ← a, ← b, ← c, ← d, ← e)
 
-module _ {text : List ℕ} {rs : List Record} {m : Machine} {input space room : List ℕ} {n : spec.Machine}
+module _ {text : List ℕ} {rs : List Record} {m : State} {input space room : List ℕ} {n : spec.Machine}
     (sound : Sound m input space room) (same : Same text rs m input space room n) where
   written : length (n .output) ≡ m .printer .written
   written = rw (same .output) (length-take-le (m .printer .written) room (sound .fitting .within))

@@ -11,23 +11,24 @@ use Rattle.loader.specs.Lines.{Line, linesOf}
 use Rattle.grammar.specs.Trees.{Part}
 use Rattle.space.specs.Moves.{cleared}
 use Rattle.variables.specs.Strings.{longestSpace}
+use Rattle.variables.specs.Variables.{mostVariables}
 use Rattle.variables.proofs.Holding.{empty-numbers, empty-strings, empty-numbers-held, empty-strings-held, empty-sum}
 use Rattle.rows.specs.bridge.Rows.{spanIn, Tabled}
 use Rattle.rows.proofs.Ordering.{row-lines}
 use Rattle.machine.specs.Machine.{lentBy, mostRecords}
 use Rattle.machine.specs.Machine as spec
-use Rattle.machine.specs.bridge.Holding.{linesAt, blankRecord, freshMachine, Sound, Same}
+use Rattle.machine.specs.bridge.Holding.{linesAt, blankRecord, freshMachine, State, stateOf, Sound, Same}
 use Rattle.machine.specs.declared.records.Record.{Record}
 use Rattle.machine.specs.declared.records.Sought.{Sought}
+use Rattle.machine.specs.declared.state.Machine.{Machine}
 use Rattle.machine.proofs.Stacking.{records-none}
 use Rattle.runner.specs.Run as run
 use Rattle.runner.specs.Run.{finished, endsWith, running, entering, lineNumberOf, isRefused}
 use Rattle.runner.specs.bridge.Standings.{AtAs, StandsAs, Rowed, StandsIn}
 use Rattle.runner.specs.bridge.Acting.{goesOf, StandsAt, LooksUp, Ready, Acts, ActsAt}
-use Rattle.runner.specs.bridge.Endings.{runIn, outcomeOf, endedAs, RanAs}
+use Rattle.runner.specs.bridge.Endings.{runIn, outcomeOf, endedAs, RanAs, Blank}
 use Rattle.runner.specs.declared.going.Acted.{Acted}
 use Rattle.runner.specs.declared.going.Asked.{Asked}
-use Rattle.runner.specs.declared.going.Going.{Going}
 use Rattle.runner.specs.declared.going.Lookup.{Lookup}
 use Rattle.runner.specs.declared.running.Outcome.the-variants.{Out}
 use Rattle.runner.specs.declared.running.Ran.{Ran}
@@ -60,25 +61,29 @@ running-turn k l text z m ls p e = rw (z, e)
 -- ---- what the loop keeps
 
 -- the code's machine and standing are a definition's, from which what is left of the run comes to the same
-pub record Kept (text rows input space₀ room₀ : List ℕ) (budget : ℕ) (space room : List ℕ) (g : Going) (rs : List Record) : Type 0 where
-  pub sound : Sound (g .machine) input space room
+pub record Kept (text rows input space₀ room₀ : List ℕ) (budget : ℕ) (space room : List ℕ) (m : State) (s : Standing) (rs : List Record) : Type 0 where
+  pub sound : Sound m input space room
   pub spaceLong : length space ≡ length space₀
   pub roomLong : length room ≡ length room₀
   -- output beyond the bytes written is unchanged
-  pub beyond : drop (g .machine .printer .written) room ≡ drop (g .machine .printer .written) room₀
+  pub beyond : drop (m .printer .written) room ≡ drop (m .printer .written) room₀
   pub slots : length rs ≡ mostRecords
-  pub within : g .machine .steps ≤ budget
-  pub rowed : Rowed rows (g .standing)
+  pub within : m .steps ≤ budget
+  pub rowed : Rowed rows s
   -- the definition's machine, and where its run stands
   pub machine : spec.Machine
-  pub same : Same text rs (g .machine) input space room machine
+  pub same : Same text rs m input space room machine
   pub place : run.Standing
-  pub stands : StandsAs text rows (g .standing) machine place
-  pub comes : running (budget - g .machine .steps) text place ≡ runIn text input (lentBy space₀ room₀) budget
+  pub stands : StandsAs text rows s machine place
+  pub comes : running (budget - m .steps) text place ≡ runIn text input (lentBy space₀ room₀) budget
 
 -- it holds at the start
 module _ (text input space room : List ℕ) (small : length space ≤ longestSpace) where
-  fresh-sound : Sound freshMachine input space room
+  abbrev fresh : State
+  fresh =
+      stateOf freshMachine (replicate 128 0) (replicate mostVariables 0) (replicate 128 0) (replicate mostVariables 0)
+
+  fresh-sound : Sound fresh input space room
   fresh-sound =
       record {
         settled = record { numbers = empty-numbers; strings = empty-strings; all = empty-sum; within = omega arith; small = small };
@@ -87,11 +92,11 @@ module _ (text input space room : List ℕ) (small : length space ≤ longestSpa
         deep = omega arith;
       }
 
-  fresh-same : (rs : List Record) → Same text rs freshMachine input space room (spec.fresh input (lentBy space room))
+  fresh-same : (rs : List Record) → Same text rs fresh input space room (spec.fresh input (lentBy space room))
   fresh-same rs =
       record {
         variables = rw (empty-numbers-held, empty-strings-held space);
-        records = sym (records-none text rs);
+        records = sym (records-none text (replicate 128 0) rs);
         column = refl;
         output = refl;
         outputRoom = refl;
@@ -102,24 +107,26 @@ module _ (text input space room : List ℕ) (small : length space ≤ longestSpa
         placed = λ i h. absurd (omega arith);
       }
 
-  pub kept-fresh : (budget : ℕ) {rows : List ℕ} {g : Going} {rs : List Record} → Tabled text rows → rs ≡ replicate mostRecords blankRecord
-      → (g .machine ≡ freshMachine) × StandsIn rows (g .standing) (λ x. Unit {0}) (λ x n. entering n (linesOf x))
-      → Kept text rows input space room budget space room g rs
-  kept-fresh budget {rows} {g} {rs} t f e =
-      record {
-        sound = rw (e .0) fresh-sound;
+  pub kept-fresh : (budget : ℕ) {rows names words labels lengths : List ℕ} {machine : Machine} {s : Standing} {rs : List Record} → Tabled text rows
+      → Blank names words labels lengths → rs ≡ replicate mostRecords blankRecord
+      → (machine ≡ freshMachine) × StandsIn rows s (λ x. Unit {0}) (λ x n. entering n (linesOf x))
+      → Kept text rows input space room budget space room (stateOf machine names words labels lengths) s rs
+  kept-fresh budget {rows} {machine = machine} {s = s} {rs = rs} t blank f e =
+      rw (e .0, blank .noNames, blank .noWords, blank .noLabels, blank .noLengths)
+      (record {
+        sound = fresh-sound;
         spaceLong = refl;
         roomLong = refl;
         beyond = refl;
         slots = rw f (length-replicate mostRecords blankRecord);
-        within = rw (e .0) (omega arith);
+        within = omega arith;
         rowed = e .1 .rowed;
         machine = spec.fresh input (lentBy space room);
-        same = rw (e .0) (fresh-same rs);
+        same = fresh-same rs;
         place = entering (spec.fresh input (lentBy space room)) (linesOf text);
         stands = e .1 .stands text t tt (spec.fresh input (lentBy space room));
-        comes = let z : budget - 0 ≡ budget = omega arith in rw (e .0, z);
-      }
+        comes = let z : budget - 0 ≡ budget = omega arith in rw z;
+      })
 
 -- what is dropped twice, further on
 drop-more : (x y : List ℕ) (a b : ℕ) → a ≤ b → drop a x ≡ drop a y → drop b x ≡ drop b y
@@ -146,44 +153,44 @@ module _ {text rows : List ℕ} (t : Tabled text rows) (m : spec.Machine) (p : r
             ∙ ap (λ x. endsWith (Out x) m) (ap lineNumberOf (row-lines t (row .0) r) ∙ row-numbered t (row .0) r),
       )
 
-module _ {text rows input space₀ room₀ : List ℕ} {budget : ℕ} {space room : List ℕ} {g : Going} {rs : List Record}
-    (t : Tabled text rows) (k : Kept text rows input space₀ room₀ budget space room g rs) where
+module _ {text rows input space₀ room₀ : List ℕ} {budget : ℕ} {space room : List ℕ} {m : State} {s : Standing} {rs : List Record}
+    (t : Tabled text rows) (k : Kept text rows input space₀ room₀ budget space room m s rs) where
   -- where no step is made any more, the answer is the run's
-  pub kept-out : goesOf (g .standing) (g .machine .steps) budget ≡ false → {r : Ran} {space′ : List ℕ}
-      → r ≡ endedAs (outcomeOf rows (g .standing)) (g .machine) → space′ ≡ cleared space (g .machine .used)
+  pub kept-out : goesOf s (m .steps) budget ≡ false → {r : Ran} {space′ : List ℕ}
+      → r ≡ endedAs (outcomeOf rows s) m → space′ ≡ cleared space (m .used)
       → RanAs (runIn text input (lentBy space₀ room₀) budget) space₀ room₀ r space′ room
   kept-out e a b =
-      let o = stays-out t (k .machine) (k .place) (g .standing) (k .rowed) (k .stands) (k .within) e in
-      ran-as (k .sound) (k .same) (outcomeOf rows (g .standing)) (o .0) (sym (o .1) ∙ k .comes) space₀ room₀ (k .spaceLong) (k .beyond) a b
+      let o = stays-out t (k .machine) (k .place) s (k .rowed) (k .stands) (k .within) e in
+      ran-as (k .sound) (k .same) (outcomeOf rows s) (o .0) (sym (o .1) ∙ k .comes) space₀ room₀ (k .spaceLong) (k .beyond) a b
 
-  module _ (e : goesOf (g .standing) (g .machine .steps) budget ≡ true) where
+  module _ (e : goesOf s (m .steps) budget ≡ true) where
     -- otherwise a statement is done,
-    pub kept-at : StandsAt text rows (g .standing)
-    kept-at = goes-at t (k .machine) (k .place) (g .standing) (k .rowed) (k .stands) e .0
+    pub kept-at : StandsAt text rows s
+    kept-at = goes-at t (k .machine) (k .place) s (k .rowed) (k .stands) e .0
 
-    left : g .machine .steps < budget
-    left = goes-at t (k .machine) (k .place) (g .standing) (k .rowed) (k .stands) e .1
+    left : m .steps < budget
+    left = goes-at t (k .machine) (k .place) s (k .rowed) (k .stands) e .1
 
-    pub kept-ready : budget < 4294967296 → {sought : Sought} {lookup : Lookup} → LooksUp sought (g .machine .depth) rs lookup
-        → Ready (g .machine) lookup input space room
+    pub kept-ready : budget < 4294967296 → {sought : Sought} {lookup : Lookup} → LooksUp sought (m .depth) rs lookup
+        → Ready m lookup input space room
     kept-ready h w = record { below = looked-below w; sound = k .sound; few = omega (arith, left) }
 
-    module _ {asked : Asked} {lookup : Lookup} {r : Acted} {space′ room′ : List ℕ} (acted : ActsAt text rows g asked lookup input space room r space′ room′) where
-      abbrev acts : Acts text rows (kept-at .row .0) (kept-at .at) (g .machine) asked lookup input space room r space′ room′
+    module _ {asked : Asked} {lookup : Lookup} {r : Acted} {m′ : State} {space′ room′ : List ℕ} (acted : ActsAt text rows s m asked lookup input space room r m′ space′ room′) where
+      abbrev acts : Acts text rows (kept-at .row .0) (kept-at .at) m asked lookup input space room r m′ space′ room′
       acts = acted .acts (kept-at .row) (kept-at .at) (kept-at .is)
 
       -- which takes a step,
-      pub kept-less : budget - r .going .machine .steps < budget - g .machine .steps
+      pub kept-less : budget - m′ .steps < budget - m .steps
       kept-less = omega (arith, left, acts .leaves .steps)
 
       -- and keeps all
-      pub kept-again : {rs′ : List Record} → LooksUp (asked .sought) (g .machine .depth) rs lookup → rs′ ≡ set rs (r .slot) (r .held)
-          → Kept text rows input space₀ room₀ budget space′ room′ (r .going) rs′
+      pub kept-again : {rs′ : List Record} → LooksUp (asked .sought) (m .depth) rs lookup → rs′ ≡ set rs (r .slot) (r .held)
+          → Kept text rows input space₀ room₀ budget space′ room′ m′ (r .going .standing) rs′
       kept-again look f =
           let l = acts .leaves in
           let w : AtAs text (spanIn rows (kept-at .row .0)) (kept-at .at) (k .machine) (k .place) = rw (kept-at .is) at (k .stands) in
           let d = acts .went (w .stood) rs (k .slots) look (k .machine) (k .same) in
-          let one : budget - g .machine .steps ≡ suc (budget - r .going .machine .steps) = omega (arith, left, l .steps) in
+          let one : budget - m .steps ≡ suc (budget - m′ .steps) = omega (arith, left, l .steps) in
           rw f
           (record {
             sound = l .sound;
@@ -197,5 +204,5 @@ module _ {text rows input space₀ room₀ : List ℕ} {budget : ℕ} {space roo
             same = d .same;
             place = run.turn text (k .machine) (linesAt text (spanIn rows (kept-at .row .0) .place .0)) (w .stood .reads .of);
             stands = d .stands;
-            comes = sym (running-turn (budget - g .machine .steps) (budget - r .going .machine .steps) text one _ _ _ (w .is)) ∙ k .comes;
+            comes = sym (running-turn (budget - m .steps) (budget - m′ .steps) text one _ _ _ (w .is)) ∙ k .comes;
           })

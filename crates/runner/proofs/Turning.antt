@@ -21,17 +21,18 @@ use Rattle.rows.specs.declared.cells.Row.{Row}
 use Rattle.rows.proofs.Ordering.{row-lines}
 use Rattle.machine.specs.Machine as spec
 use Rattle.machine.specs.Machine.{mostRecords}
-use Rattle.machine.specs.bridge.Holding.{linesAt, blankRecord, Parted, Sound, Same}
-use Rattle.machine.specs.bridge.Wanted.{foundIn, entryAt}
-use Rattle.machine.specs.bridge.Seeking.{soughtBy, Seeks}
-use Rattle.machine.specs.declared.state.Machine.{Machine}
+use Rattle.machine.specs.bridge.Holding.{linesAt, blankRecord, Parted, State, stateOf, Sound, Same}
+use Rattle.machine.specs.bridge.Wanted.{foundIn, entryAt, Told}
+use Rattle.machine.specs.bridge.Seeking.{wishOf, testOf, Seeks}
 use Rattle.machine.specs.declared.positions.Next.{Next}
-use Rattle.machine.specs.declared.positions.Next.the-variants as next
 use Rattle.machine.specs.declared.positions.Turned.{Turned}
+use Rattle.machine.specs.declared.positions.Next.the-variants as next
+use Rattle.turns.specs.bridge.Turns.{Turn, turnedTo, Comes, Leaves, Turns, FoundBelow, Standing, turnOf}
 use Rattle.machine.specs.declared.records.Record.{Record}
 use Rattle.machine.specs.declared.records.Found.{Found}
 use Rattle.machine.specs.declared.records.Found.the-variants as found
 use Rattle.machine.specs.declared.records.Sought.{Sought}
+use Rattle.machine.proofs.Searching as search-laws
 use Rattle.machine.proofs.Searching.{nothing-found}
 use Rattle.machine.proofs.Stacking.{records-past}
 use Rattle.machine.proofs.Seeking.{part-seeks}
@@ -39,7 +40,6 @@ use Rattle.machine.proofs.Standing as told
 use Rattle.machine.proofs.Standing.{told-as}
 use Rattle.turns.specs.Steps as step
 use Rattle.turns.specs.Steps.{doStatement}
-use Rattle.turns.specs.bridge.Turns.{turnedTo, Comes, Leaves, Turns, Told, FoundBelow, Standing}
 use Rattle.control.proofs.Jumps.{found-low}
 use Rattle.runner.specs.Run as run
 use Rattle.runner.specs.bridge.Standings.{lineIn, Stood, StandsAs, StandsIn, GoesTo, nextOf}
@@ -55,7 +55,7 @@ use Rattle.runner.proofs.Entering.{row-numbered}
 
 -- ---- one step more changes nothing else
 
-sound-stepped : {m : Machine} {input space room : List ℕ} → Sound m input space room → Sound (stepped m) input space room
+sound-stepped : {m : State} {input space room : List ℕ} → Sound m input space room → Sound (stepped m) input space room
 sound-stepped s =
     record {
       settled = record {
@@ -70,7 +70,7 @@ sound-stepped s =
       deep = s .deep;
     }
 
-same-stepped : {text : List ℕ} {rs : List Record} {m : Machine} {input space room : List ℕ} {n : spec.Machine}
+same-stepped : {text : List ℕ} {rs : List Record} {m : State} {input space room : List ℕ} {n : spec.Machine}
     → Same text rs m input space room n → Same text rs (stepped m) input space room (spec.withStep n)
 same-stepped s =
     record {
@@ -104,8 +104,8 @@ module _ {text : List ℕ} {span : LineSpan} {at : Place} (w : Stood text span a
   stood-parted = record { of = w .reads .of; end = w .reads .end; is = stood-reads; shallow = w .reads .shallow }
 
 -- what was left of a machine
-leaves-as : {m : Machine} {input space room : List ℕ} {r : Turned} {space′ room′ : List ℕ} → Leaves m input space room r space′ room′
-    → Leaves m input space room (turnedTo (r .machine) next.Ends) space′ room′
+leaves-as : {m : State} {input space room : List ℕ} {r : Turn} {space′ room′ : List ℕ} → Leaves m input space room r space′ room′
+    → Leaves m input space room (turnedTo (r .state) next.Ends) space′ room′
 leaves-as l =
     record { sound = l .sound; spaceLong = l .spaceLong; roomLong = l .roomLong; steps = l .steps; more = l .more; beyond = l .beyond }
 
@@ -178,22 +178,23 @@ stands-here {row = row} {at = at} w e =
     let a : w .row ≡ row = cc (w .is) in let b : w .at ≡ at = cc (w .is) in rw (a, b) at (w .here)
 
 -- asks as it is led,
-pub asks-made : {text rows : List ℕ} {s : code.Standing} {row : Row} {at : Place} {span : LineSpan} {lead : Lead} {sought : Sought}
+pub asks-made : {text rows names : List ℕ} {numbers : ℕ} {s : code.Standing} {row : Row} {at : Place} {span : LineSpan} {lead : Lead} {sought : Sought}
     → s ≡ standing.At row at → span ≡ spanIn rows (row .0) → lead ≡ leadOf (lineIn text span) true (tokenAt (lineIn text span) at)
-    → Seeks sought (begunBy (lineIn text span) lead) → AsksAt text rows s (record { lead = lead; sought = sought })
-asks-made {text} {row = row} {at = at} {span = span} {lead = lead} {sought = sought} e f led seeks =
-    let r : Asks (lineIn text span) at (record { lead = lead; sought = sought }) = record { led = led; seeks = seeks } in
+    → Seeks names numbers sought (begunBy (lineIn text span) lead) → AsksAt text rows names numbers s (record { lead = lead; sought = sought })
+asks-made {text} {names = names} {numbers = numbers} {row = row} {at = at} {span = span} {lead = lead} {sought = sought} e f led seeks =
+    let r : Asks names numbers (lineIn text span) at (record { lead = lead; sought = sought }) = record { led = led; seeks = seeks } in
     record { asks = λ row′ at′ e′. let a : row ≡ row′ = cc in let b : at ≡ at′ = cc in rw (f, a, b) at r }
 
 -- and acts
-pub acts-at : {text rows : List ℕ} {g : Going} {asked : Asked} {lookup : Lookup} {input space room : List ℕ} {r : Acted} {space′ room′ : List ℕ} {row : Row} {at : Place}
-    → g .standing ≡ standing.At row at → Acts text rows (row .0) at (g .machine) asked lookup input space room r space′ room′
-    → ActsAt text rows g asked lookup input space room r space′ room′
+pub acts-at : {text rows : List ℕ} {s : code.Standing} {m : State} {asked : Asked} {lookup : Lookup} {input space room : List ℕ} {r : Acted} {m′ : State} {space′ room′ : List ℕ}
+    {row : Row} {at : Place} → s ≡ standing.At row at → Acts text rows (row .0) at m asked lookup input space room r m′ space′ room′
+    → ActsAt text rows s m asked lookup input space room r m′ space′ room′
 acts-at {row = row} {at = at} e a =
     record { acts = λ row′ at′ e′. let x : row ≡ row′ = cc in let y : at ≡ at′ = cc in rw (x, y) at a }
 
-module _ {text rows : List ℕ} {row : ℕ} {at : Place} {m : Machine} {asked : Asked} {lookup : Lookup} {input space room : List ℕ}
-    (here : At text rows row at) (asks : Asks (lineIn text (spanIn rows row)) at asked) (ready : Ready m lookup input space room) where
+module _ {text rows : List ℕ} {row : ℕ} {at : Place} {m : State} {asked : Asked} {lookup : Lookup} {input space room : List ℕ}
+    (here : At text rows row at) (asks : Asks (m .tables .numbers .names) (m .tables .numbers .count) (lineIn text (spanIn rows row)) at asked)
+    (ready : Ready m lookup input space room) where
   -- what the statement asks of the caller
   pub acts-begins : Standing text (lineIn text (spanIn rows row)) (spanIn rows row .place)
       × (Parted (lineIn text (spanIn rows row)) (at .0)
@@ -204,23 +205,26 @@ module _ {text rows : List ℕ} {row : ℕ} {at : Place} {m : Machine} {asked : 
       (stood-line (here .stood), (stood-parted (here .stood), (sound-stepped (ready .sound), (ready .below, (asks .led, here .tabled)))))
 
   -- and what it does
-  pub acts-made : {turned : Turned} {s : code.Standing} {space′ room′ : List ℕ}
+  pub acts-made : {turned : Turned} (names words labels lengths : List ℕ) {s : code.Standing} {space′ room′ : List ℕ}
       → ((p : Part) (end : Scanned) → partOf (lineIn text (spanIn rows row)) true (at .0) ≡ goodPart p end
-      → Turns text (stepped m) input space room (Told (soughtBy (headOf p)) (m .depth) (lookup .found) (lookup .entry))
-      (λ n. doStatement text (placeOf p) (headOf p) n (record { lines = linesAt text (spanIn rows row .place .0); rest = tailOf p })) turned space′ room′)
+      → Turns text (stepped m) input space room (Told text (m .tables .numbers .names) (testOf (wishOf (headOf p))) (m .depth) (lookup .found) (lookup .entry))
+      (λ n. doStatement text (placeOf p) (headOf p) n (record { lines = linesAt text (spanIn rows row .place .0); rest = tailOf p })) (turnOf turned names words labels lengths) space′ room′)
       → StandsIn rows s (λ x. GoesTo x (turned .next)) (λ x n. run.following (spanIn rows row .number) (nextOf x (turned .next) n))
       → Acts text rows row at m asked lookup input space room
-      (record { going = record { machine = turned .machine; standing = s }; slot = turned .slot; held = turned .held }) space′ room′
-  acts-made {turned} {s} does follows =
+      (record { going = record { machine = turned .machine; standing = s }; slot = turned .slot; held = turned .held })
+      (stateOf (turned .machine) names words labels lengths) space′ room′
+  acts-made {turned} names words labels lengths {s} does follows =
       record {
         leaves = leaves-as (does _ _ (stood-reads (here .stood)) .leaves);
         rowed = follows .rowed;
         went = λ w rs long look n same.
             let p = stood-reads w in
-            let told : Told (soughtBy (headOf (w .reads .of))) (m .depth) (lookup .found) (lookup .entry) rs = record {
-              at = look .found ∙ ap (λ x. foundIn x rs (m .depth)) (part-seeks (lineIn text (spanIn rows row)) (at .0) (asks .led) (asks .seeks) _ _ p);
-              is = look .entry;
-            } in
+            let numbers = m .tables .numbers in
+            let tidy = ready .sound .settled .numbers in
+            let found = look .found ∙ ap (λ x. foundIn x rs (m .depth)) (part-seeks (numbers .names) (numbers .count) (lineIn text (spanIn rows row)) (at .0) (asks .led) (asks .seeks) _ _ p) in
+            let entry = look .entry ∙ ap (λ x. entryAt x rs) found in
+            let told : Told text (numbers .names) (testOf (wishOf (headOf (w .reads .of)))) (m .depth) (lookup .found) (lookup .entry) rs =
+            rw (found, entry) (search-laws.told text (numbers .names) (numbers .count) (tidy .few) (tidy .apart) (wishOf (headOf (w .reads .of))) rs (m .depth) (λ i b. same .placed i b .known)) in
             let c = came text (turned .next) _ _ (does _ _ p .comes rs long told (spec.withStep n) (same-stepped same)) in
             let number : run.lineNumberOf (linesAt text (spanIn rows row .place .0)) ≡ spanIn rows row .number =
             ap run.lineNumberOf (row-lines (here .tabled) row (here .inside)) ∙ row-numbered (here .tabled) row (here .inside) in

@@ -3,13 +3,13 @@ ghost use mathlib.Core.Path.{_≡_};
 ghost use Rattle.space.specs.Moves.{cleared};
 ghost use Rattle.loader.specs.Lines.{linesOf};
 ghost use Rattle.rows.specs.bridge.Rows.{Ordered};
-ghost use Rattle.machine.specs.bridge.Holding.{freshMachine};
+ghost use Rattle.machine.specs.bridge.Holding.{freshMachine, stateOf};
 ghost use Rattle.runner.specs.Run as run;
 ghost use Rattle.runner.specs.bridge.Standings.{Rowed, StandsIn};
 ghost use Rattle.runner.specs.bridge.Acting.{goesOf, StandsAt, AsksAt, seeksOne, slotOf, noLookup, Ready, ActsAt, leavesOne};
-ghost use Rattle.runner.specs.bridge.Endings.{outcomeOf, endedAs};
+ghost use Rattle.runner.specs.bridge.Endings.{outcomeOf, doneAs};
+use crate::running::Done;
 use crate::running::Outcome;
-use crate::running::Ran;
 use crate::standing::Standing;
 use crate::standing::entered;
 use crate::standing::following;
@@ -25,6 +25,7 @@ use rows::span_in;
 use statements::Lead;
 use statements::lead_at;
 use steps::do_statement;
+use variables::Tables;
 use variables::clean_up;
 
 pub struct Going {
@@ -77,10 +78,11 @@ pub(crate) fn goes(going: Going, budget: u32) -> bool
 }
 
 // What the statement asks for.
-pub(crate) fn asks(text: &[u8], rows: &Rows, going: Going) -> Asked
+pub(crate) fn asks(text: &[u8], rows: &Rows, going: Going, names: &[u8; 128]) -> Asked
     requires { ⌜ StandsAt (now text) (now rows) (going .standing) ⌝ }
-    ensures { λ r. ⌜ AsksAt (now (text .entry)) (now (rows .entry)) (going .standing) r ⌝ }
+    ensures { λ r. ⌜ AsksAt (now (text .entry)) (now (rows .entry)) (now (names .entry)) (going .machine .numbers) (going .standing) r ⌝ }
 {
+    let machine = going.machine;
     let standing = going.standing;
     match standing {
         Standing::Over(_) => Asked {
@@ -93,7 +95,7 @@ pub(crate) fn asks(text: &[u8], rows: &Rows, going: Going) -> Asked
             let end = span.end.0;
             let line = &text[from..end];
             let lead = lead_at(line, at, true);
-            let sought = sought_record(line, lead);
+            let sought = sought_record(line, lead, names, machine.numbers);
             Asked { lead, sought }
         }
     }
@@ -131,15 +133,24 @@ pub(crate) fn act(
     text: &[u8],
     rows: &Rows,
     going: Going,
+    names: &mut [u8; 128],
+    words: &mut [u16; Tables::MOST],
+    labels: &mut [u8; 128],
+    lengths: &mut [u8; Tables::MOST],
     asked: Asked,
     lookup: Lookup,
     input: &[u8],
     space: &mut [u8],
     room: &mut [u8],
 ) -> Acted
-    requires { ⌜ StandsAt (now text) (now rows) (going .standing) × (AsksAt (now text) (now rows) (going .standing) asked × Ready (going .machine) lookup (now input) (now space) (now room)) ⌝ }
+    requires { ⌜
+        StandsAt (now text) (now rows) (going .standing)
+        × (AsksAt (now text) (now rows) (now names) (going .machine .numbers) (going .standing) asked
+        × Ready (stateOf (going .machine) (now names) (now words) (now labels) (now lengths)) lookup (now input) (now space) (now room))
+        ⌝ }
     ensures { λ r. ⌜
-        ActsAt (now (text .entry)) (now (rows .entry)) going asked lookup (now (input .entry)) (now (space .entry)) (now (room .entry)) r (now (space .exit)) (now (room .exit))
+        ActsAt (now (text .entry)) (now (rows .entry)) (going .standing) (stateOf (going .machine) (now (names .entry)) (now (words .entry)) (now (labels .entry)) (now (lengths .entry))) asked lookup (now (input .entry)) (now (space .entry)) (now (room .entry)) r
+        (stateOf (r .going .machine) (now (names .exit)) (now (words .exit)) (now (labels .exit)) (now (lengths .exit))) (now (space .exit)) (now (room .exit))
         ⌝ }
 {
     let standing = going.standing;
@@ -167,6 +178,10 @@ pub(crate) fn act(
         at,
         lead,
         begun,
+        names,
+        words,
+        labels,
+        lengths,
         found,
         entry,
         input,
@@ -204,24 +219,26 @@ fn outcome_of(rows: &Rows, standing: Standing) -> Outcome
 }
 
 // What it answers: the strings' bytes are left in the space, and zeros after them.
-pub(crate) fn told(rows: &Rows, going: Going, space: &mut [u8]) -> Ran
+pub(crate) fn told(rows: &Rows, going: Going, space: &mut [u8]) -> Done
     requires { ⌜ Ordered (now rows) × Rowed (now rows) (going .standing) ⌝ }
     ensures { λ r. ⌜
-        (r ≡ endedAs (outcomeOf (now (rows .entry)) (going .standing)) (going .machine))
-        × (now (space .exit) ≡ cleared (now (space .entry)) (going .machine .used))
+        (r ≡ doneAs (outcomeOf (now (rows .entry)) (going .standing)) (going .machine))
+        × (now (space .exit) ≡ cleared (now (space .entry)) (going .machine .used .0))
         ⌝ }
 {
     let machine = going.machine;
     let standing = going.standing;
     let outcome = outcome_of(rows, standing);
-    clean_up(space, machine.used);
+    let used = machine.used;
+    clean_up(space, used);
     let printer = machine.printer;
-    let tables = machine.tables;
-    Ran {
+    let taken = machine.taken;
+    Done {
         outcome,
         steps: machine.steps,
         written: printer.written,
-        taken: machine.taken,
-        tables,
+        taken: taken.0,
+        numbers: machine.numbers,
+        strings: machine.strings,
     }
 }

@@ -8,7 +8,7 @@ ghost use Rattle.rows.specs.bridge.Rows.{Tabled};
 ghost use Rattle.machine.specs.Machine.{lentBy, mostRecords};
 ghost use Rattle.runner.specs.Run.{runOf, answerOf, spaceAfter, roomAfter};
 ghost use Rattle.runner.specs.bridge.Acting.{LooksUp};
-ghost use Rattle.runner.specs.bridge.Endings.{runIn, RanAs, refusedAs, beforeOf};
+ghost use Rattle.runner.specs.bridge.Endings.{runIn, ranOf, RanAs, Blank, refusedAs, beforeOf};
 ghost use Rattle.variables.specs.Strings.{longestSpace};
 use crate::going::Lookup;
 use crate::going::act;
@@ -32,6 +32,8 @@ use machine::with_record;
 use rows::Row;
 use rows::Rows;
 use rows::make_rows;
+use variables::Numbers;
+use variables::Strings;
 use variables::Tables;
 use whole::Error;
 use words::LineNumber;
@@ -51,6 +53,16 @@ pub struct Ran {
     pub written: usize,
     pub taken: usize,
     pub tables: Tables,
+}
+
+// What the loop comes to: how the run ended, and how many variables there are of each kind.
+pub struct Done {
+    pub outcome: Outcome,
+    pub steps: u32,
+    pub written: usize,
+    pub taken: usize,
+    pub numbers: usize,
+    pub strings: usize,
 }
 
 // What is tested before a run: whether it goes, or why not.
@@ -74,28 +86,45 @@ fn look_up(stack: Stack, depth: usize, sought: Sought) -> Lookup
 fn run_loaded(
     text: &[u8],
     rows: &Rows,
+    names: &mut [u8; 128],
+    words: &mut [u16; Tables::MOST],
+    labels: &mut [u8; 128],
+    lengths: &mut [u8; Tables::MOST],
     input: &[u8],
     space: &mut [u8],
     room: &mut [u8],
     budget: u32,
-) -> Ran
-    requires { ⌜ Tabled (now text) (now rows) × (length (now space) ≤ longestSpace) ⌝ }
+) -> Done
+    requires { ⌜ Tabled (now text) (now rows) × ((length (now space) ≤ longestSpace) × Blank (now names) (now words) (now labels) (now lengths)) ⌝ }
     ensures { λ r. ⌜
         RanAs (runIn (now (text .entry)) (now (input .entry)) (lentBy (now (space .entry)) (now (room .entry))) budget)
-        (now (space .entry)) (now (room .entry)) r (now (space .exit)) (now (room .exit))
+        (now (space .entry)) (now (room .entry)) (ranOf r (now (names .exit)) (now (words .exit)) (now (labels .exit)) (now (lengths .exit))) (now (space .exit)) (now (room .exit))
         ⌝ }
 {
     let mut stack = Stack::empty();
     let mut going = begins(rows);
     while goes(going, budget) {
-        let asked = asks(text, rows, going);
+        let asked = asks(text, rows, going, names);
         let mut lookup = no_lookup();
         if seeks(asked) {
             let sought = asked.sought;
             let machine = going.machine;
             lookup = look_up(stack, machine.depth, sought);
         }
-        let acted = act(text, rows, going, asked, lookup, input, space, room);
+        let acted = act(
+            text,
+            rows,
+            going,
+            names,
+            words,
+            labels,
+            lengths,
+            asked,
+            lookup,
+            input,
+            space,
+            room,
+        );
         if leaves(acted) {
             let held = acted.held;
             stack = with_record(stack, acted.slot, held);
@@ -106,7 +135,7 @@ fn run_loaded(
     told(rows, going, space)
 }
 
-// Each line is found and judged once.
+// Each line is found and judged once; the variables' tables are the run's own, and lent down.
 fn run_fine(text: &[u8], input: &[u8], space: &mut [u8], room: &mut [u8], budget: u32) -> Ran
     requires { ⌜ (loadOf (now text) ≡ Fine) × (length (now space) ≤ longestSpace) ⌝ }
     ensures { λ r. ⌜
@@ -116,7 +145,41 @@ fn run_fine(text: &[u8], input: &[u8], space: &mut [u8], room: &mut [u8], budget
 {
     let mut rows = [0; Row::CELLS];
     make_rows(text, &mut rows);
-    run_loaded(text, &rows, input, space, room, budget)
+    let mut names = [0; 128];
+    let mut words = [0; Tables::MOST];
+    let mut labels = [0; 128];
+    let mut lengths = [0; Tables::MOST];
+    let done = run_loaded(
+        text,
+        &rows,
+        &mut names,
+        &mut words,
+        &mut labels,
+        &mut lengths,
+        input,
+        space,
+        room,
+        budget,
+    );
+    let outcome = done.outcome;
+    let numbers = Numbers {
+        names,
+        words,
+        count: done.numbers,
+    };
+    let strings = Strings {
+        names: labels,
+        lengths,
+        count: done.strings,
+    };
+    let tables = Tables { numbers, strings };
+    Ran {
+        outcome,
+        steps: done.steps,
+        written: done.written,
+        taken: done.taken,
+        tables,
+    }
 }
 
 // 106 is tested before 100 and the lines.

@@ -17,10 +17,10 @@ use Rattle.grammar.specs.Formulas.{minusStands, notStands, tightOperator}
 use Rattle.skimming.specs.bridge.Full.{Standing, over, at, moved, lastMark, turned, standsAfter, openIn, NeverFull}
 use Rattle.skimming.specs.bridge.Remaining.{weight}
 use Rattle.skimming.specs.bridge.Steps.{wantStep, endStep, stepOf}
-use Rattle.skimming.specs.declared.steps.Phase.{Phase}
-use Rattle.skimming.specs.declared.steps.Phase.the-variants as phase
-use Rattle.skimming.specs.declared.steps.Step.{Step}
-use Rattle.skimming.specs.declared.steps.Step.the-variants.{Refused, Ends, Wants, Has, Opens, Renews, Closes}
+use Rattle.skimming.specs.declared.stepping.Phase.{Phase}
+use Rattle.skimming.specs.declared.stepping.Phase.the-variants as phase
+use Rattle.skimming.specs.declared.stepping.Step.{Step}
+use Rattle.skimming.specs.declared.stepping.Step.the-variants.{Refused, Ends, Wants, Has, Opens, Renews, Closes}
 use Rattle.skimming.proofs.Grammar.{by-found}
 use Rattle.skimming.proofs.Lightness.{Lightens, step-lightens}
 use Rattle.skimming.proofs.Weights.{token-weight}

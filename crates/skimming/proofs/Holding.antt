@@ -17,10 +17,10 @@ use Rattle.skimming.specs.bridge.Remaining.{weight}
 use Rattle.skimming.specs.bridge.Steps.{stepOf}
 use Rattle.skimming.specs.declared.skims.Skimmed.{Skimmed}
 use Rattle.skimming.specs.declared.skims.Skimmed.the-variants.{Bad, Good}
-use Rattle.skimming.specs.declared.steps.Phase.{Phase}
-use Rattle.skimming.specs.declared.steps.Phase.the-variants as phase
-use Rattle.skimming.specs.declared.steps.Step.{Step}
-use Rattle.skimming.specs.declared.steps.Step.the-variants.{Refused, Ends, Wants, Has, Opens, Renews, Closes}
+use Rattle.skimming.specs.declared.stepping.Phase.{Phase}
+use Rattle.skimming.specs.declared.stepping.Phase.the-variants as phase
+use Rattle.skimming.specs.declared.stepping.Step.{Step}
+use Rattle.skimming.specs.declared.stepping.Step.the-variants.{Refused, Ends, Wants, Has, Opens, Renews, Closes}
 use Rattle.skimming.proofs.Chains.{chained, chained-twice, operandIn}
 use Rattle.skimming.proofs.Outside.{outside, outside-bad, ended, wants}
 use Rattle.skimming.proofs.Agreement.{want-is}

@@ -20,10 +20,10 @@ use Rattle.skimming.specs.bridge.Remaining.{weight, climbOf, operandOf, 
 use Rattle.skimming.specs.bridge.Steps.{wantStep, endStep, hasStep, stepOf}
 use Rattle.skimming.specs.declared.skims.Skimmed.{Skimmed}
 use Rattle.skimming.specs.declared.skims.Skimmed.the-variants.{Bad, Good}
-use Rattle.skimming.specs.declared.steps.Phase.{Phase}
-use Rattle.skimming.specs.declared.steps.Phase.the-variants as phase
-use Rattle.skimming.specs.declared.steps.Step.{Step}
-use Rattle.skimming.specs.declared.steps.Step.the-variants.{Refused, Ends, Wants, Has, Opens, Renews, Closes}
+use Rattle.skimming.specs.declared.stepping.Phase.{Phase}
+use Rattle.skimming.specs.declared.stepping.Phase.the-variants as phase
+use Rattle.skimming.specs.declared.stepping.Step.{Step}
+use Rattle.skimming.specs.declared.stepping.Step.the-variants.{Refused, Ends, Wants, Has, Opens, Renews, Closes}
 use Rattle.skimming.proofs.Weights.{symbol-reads, after-lighter}
 use Rattle.skimming.proofs.Grammar.{by-found, Lighter, closed-lighter, climb-lightens, operand-lightens, arguments-lightens}
 use Rattle.skimming.proofs.Chains.{reading, loosest, chained}

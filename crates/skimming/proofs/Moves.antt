@@ -22,10 +22,10 @@ use Rattle.skimming.specs.bridge.Remaining.{argumentsOf}
 use Rattle.skimming.specs.bridge.Steps.{wantStep, endStep, hasStep, stepOf}
 use Rattle.skimming.specs.declared.skims.Skimmed.{Skimmed}
 use Rattle.skimming.specs.declared.skims.Skimmed.the-variants.{Bad, Good}
-use Rattle.skimming.specs.declared.steps.Phase.{Phase}
-use Rattle.skimming.specs.declared.steps.Phase.the-variants as phase
-use Rattle.skimming.specs.declared.steps.Step.{Step}
-use Rattle.skimming.specs.declared.steps.Step.the-variants.{Refused, Ends, Wants, Has, Opens, Renews, Closes}
+use Rattle.skimming.specs.declared.stepping.Phase.{Phase}
+use Rattle.skimming.specs.declared.stepping.Phase.the-variants as phase
+use Rattle.skimming.specs.declared.stepping.Step.{Step}
+use Rattle.skimming.specs.declared.stepping.Step.the-variants.{Refused, Ends, Wants, Has, Opens, Renews, Closes}
 use Rattle.skimming.proofs.Grammar.{by-found}
 use Rattle.skimming.proofs.Chains.{reading, loosest, chained, operandIn}
 use Rattle.skimming.proofs.Outside.{counted, counted-count, ended, outside, outside-nothing, wants, has, begins, wants-begins, begins-bad, begins-open, begins-minus, begins-not, begins-call, has-operator, has-end, end-plain, end-call}

@@ -11,7 +11,7 @@ use Rattle.words.specs.declared.symbols.Sign.the-variants.{Open, Close, Comma, 
 use Rattle.words.specs.declared.symbols.Token.{Token}
 use Rattle.words.specs.declared.symbols.Token.the-variants.{EndOfLine, Keyword, Not, Infix, Call, Named, Number, Hexadecimal, LineOnly, Quoted, Symbol, Unreadable}
 use Rattle.skimming.specs.bridge.Steps.{signStep, wantStep}
-use Rattle.skimming.specs.declared.steps.Step.the-variants.{Refused}
+use Rattle.skimming.specs.declared.stepping.Step.the-variants.{Refused}
 
 abbrev otherSigns : List ℕ
 otherSigns = 1 ∷ 2 ∷ 3 ∷ 4 ∷ 5 ∷ 6 ∷ []

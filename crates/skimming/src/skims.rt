@@ -6,9 +6,9 @@ ghost use Rattle.grammar.specs.Formulas.{enough, formulaOf};
 ghost use Rattle.skimming.specs.bridge.Flat.{skimmedOf, Opened, wantAt};
 ghost use Rattle.skimming.specs.bridge.Marks.{First, topOf, firstDepth};
 use crate::marks::NOTHING;
-use crate::steps::Phase;
-use crate::steps::Step;
-use crate::steps::next_step;
+use crate::stepping::Phase;
+use crate::stepping::Step;
+use crate::stepping::next_step;
 use grammar::LOOSEST;
 use words::Scanned;
 

@@ -1,11 +1,11 @@
 -- What each function leaves as it was, and what stands where it wrote.
 use mathlib.Core.Path.{_≡_, refl, sym, ap, _∙_}
-use mathlib.Core.List.{List, [], append-nil}
+use mathlib.Core.List.{List, [], _++_, append-nil}
 use Prim.Native.Nat.{ℕ, _+_, _-_, _≤_, _<_}
 use native.Mathlib.Omega.{arith}
 use borrow.Author.Tests.{le-leb, lt-leb}
-use lib.ListN.{length, take, drop, replicate, length-drop, length-replicate, drop-of-length-le}
-use lib.Seq.{take-all, length-take-le}
+use lib.ListN.{length, take, drop, replicate, length-drop, length-replicate, drop-of-length-le, take-append-drop}
+use lib.Seq.{take-all, length-take-le, drop-drop}
 use Rattle.space.specs.Moves.{overlaid, copied, moved, cleared}
 use Rattle.space.proofs.Bounds.{by-bound}
 use Rattle.space.proofs.Overlaid.{overlaid-length, overlaid-below, overlaid-above, overlaid-back, overlaid-bytes, overlaid-none}
@@ -109,6 +109,16 @@ module _ (space : List ℕ) (from to count : ℕ) where
 -- to move no bytes changes nothing
 pub moved-none : (space : List ℕ) (from to : ℕ) → moved space from to 0 ≡ space
 moved-none space from to = moved-either space from to 0 (λ s. s ≡ space) (λ h k. overlaid-none space to) refl
+
+-- nor does moving them to where they stand
+pub moved-nowhere : (space : List ℕ) (at count : ℕ) → moved space at at count ≡ space
+unfolding overlaid
+moved-nowhere space at count =
+    moved-either space at at count (λ s. s ≡ space)
+    (λ h k. let l = part-length space at at count h in
+    rw l (ap (λ s. take at space ++ (take count (drop at space) ++ s)) (sym (drop-drop count at space))
+    ∙ ap (λ s. take at space ++ s) (take-append-drop count (drop at space)) ∙ take-append-drop at space))
+    refl
 
 -- ---- zeros to the end
 

@@ -7,13 +7,13 @@ ghost use Rattle.space.specs.Moves.{overlaid, copied, moved, cleared};
 use crate::offsets::Offset;
 
 // Whether so many bytes from an offset on lie in a slice of a length.
-pub fn fits(len: usize, at: usize, count: usize) -> bool
-    ensures { λ r. ⌜ r ≡ leb (at + count) len ⌝ }
+pub fn fits(len: usize, at: Offset, count: usize) -> bool
+    ensures { λ r. ⌜ r ≡ leb (at .0 + count) len ⌝ }
 {
     if len < count {
         return false;
     }
-    at <= len - count
+    at.0 <= len - count
 }
 
 // Copies bytes in at an offset.
@@ -21,7 +21,7 @@ pub fn copy_in(space: &mut [u8], to: Offset, bytes: &[u8])
     ensures { λ _. ⌜ now (space .exit) ≡ copied (now (space .entry)) (to .0) (now (bytes .entry)) ⌝ }
 {
     let at = to.0;
-    if !fits(space.len(), at, bytes.len()) {
+    if !fits(space.len(), to, bytes.len()) {
         return;
     }
     let mut i = 0;
@@ -59,10 +59,10 @@ pub fn move_bytes(space: &mut [u8], from: Offset, to: Offset, count: usize)
 {
     let source = from.0;
     let target = to.0;
-    if !fits(space.len(), source, count) {
+    if !fits(space.len(), from, count) {
         return;
     }
-    if !fits(space.len(), target, count) {
+    if !fits(space.len(), to, count) {
         return;
     }
     if target <= source {

@@ -28,16 +28,15 @@ use Rattle.machine.specs.Machine as spec
 use native.Mathlib.Omega.{arith}
 use Rattle.statements.specs.Parts.{Rest, nothing, part, headOf, tailOf, placeOf, deepest}
 use Rattle.statements.proofs.Depths.{head-shallow, rest-shallow, then-shallow, else-shallow}
-use Rattle.machine.specs.bridge.Holding.{linesAt, positionOf, Shallow, Parted, Positioned, Sound}
-use Rattle.machine.specs.bridge.Seeking.{soughtBy}
-use Rattle.machine.specs.declared.state.Machine.{Machine}
-use Rattle.machine.specs.declared.positions.Turned.{Turned}
+use Rattle.machine.specs.bridge.Holding.{linesAt, positionOf, Shallow, Parted, Positioned, Sound, State}
+use Rattle.machine.specs.bridge.Seeking.{wishOf, testOf}
+use Rattle.machine.specs.bridge.Wanted.{Told}
+use Rattle.turns.specs.bridge.Turns.{Turn, turnedTo, afterOf, Turns, anyRecords, Standing}
 use Rattle.machine.specs.declared.positions.Next.the-variants as next
 use Rattle.machine.specs.declared.records.Record.{Record}
 use Rattle.machine.specs.declared.records.Found.{Found}
 use Rattle.statements.proofs.Firsts.{true-part}
 use Rattle.turns.specs.Steps.{doStatement}
-use Rattle.turns.specs.bridge.Turns.{turnedTo, afterOf, Turns, anyRecords, Told, Standing}
 use Rattle.turns.specs.bridge.Doing.{Begins, Does}
 use Rattle.statements.proofs.Ways.{if-so, by-items, by-condition, by-input}
 use Rattle.turns.proofs.Doing.{any-told, goes-turn}
@@ -164,14 +163,14 @@ module _ (line : List ℕ) (at : ℕ) {l : Lead} (is : l ≡ leadOf line true (t
   pub lead-reads : {A : Type 0} → l ≡ Nothing → Parted line at → A
   lead-reads by p = absurd (rw (lead-there, by) at (part-begins p))
 
-module _ (text line : List ℕ) (here : Place) (at : ℕ) (m : Machine) (found : Found) (entry : Record) (input space room : List ℕ) (r : Turned)
+module _ (text line : List ℕ) (here : Place) (at : ℕ) (m : State) (found : Found) (entry : Record) (input space room : List ℕ) (r : Turn)
     (space′ room′ : List ℕ) where
   abbrev D : Begun → Type 0
   D b = Does text line here at m found entry input space room r space′ room′ b
 
   abbrev TurnsAs : Part → Type 0
   TurnsAs p =
-      Turns text m input space room (Told (soughtBy (headOf p)) (m .depth) found entry)
+      Turns text m input space room (Told text (m .tables .numbers .names) (testOf (wishOf (headOf p))) (m .depth) found entry)
       (λ n. doStatement text (placeOf p) (headOf p) n (record { lines = linesAt text (here .0); rest = tailOf p })) r space′ room′
 
   last-does : Standing text line here → (q : ℕ) (x : tree.Statement) (end : Scanned) → Final line true at q x end → Shallow (last q x)
@@ -228,8 +227,8 @@ module _ (text line : List ℕ) (here : Place) (at : ℕ) (m : Machine) (found :
 abbrev otherWords : List ℕ
 otherWords = 3 ∷ 4 ∷ 9 ∷ 10 ∷ 13 ∷ 16 ∷ 17 ∷ 18 ∷ 19 ∷ 20 ∷ 21 ∷ []
 
-module _ (text line : List ℕ) (here : Place) (at : ℕ) (m : Machine) (found : Found) (entry : Record) (input space room : List ℕ)
-    (r : Turned) (sound : Sound m input space room) (t : Scanned) (e : r ≡ turnedTo m (next.On (afterOf here t))) where
+module _ (text line : List ℕ) (here : Place) (at : ℕ) (m : State) (found : Found) (entry : Record) (input space room : List ℕ)
+    (r : Turn) (sound : Sound m input space room) (t : Scanned) (e : r ≡ turnedTo m (next.On (afterOf here t))) where
   -- the run goes on there
   pub other-does : (w : Word) → OneOf otherWords (wordTag w) → Does text line here at m found entry input space room r space room (byWord line w t)
   other-does Let h = absurd (miss otherWords 0 tt h)

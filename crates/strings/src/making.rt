@@ -45,35 +45,37 @@ fn least(a: usize, b: usize) -> usize
 }
 
 // A result of so many bytes asks for room while the arguments, and what was live before them, are live.
-fn grants(space: &[u8], used: usize, given: Given, len: usize) -> bool
-    requires { ⌜ Placed (now space) used given ⌝ }
-    ensures { λ r. ⌜ r ≡ leb (used + givenLength given + len) (length (now (space .entry))) ⌝ }
+fn grants(space: &[u8], used: Offset, given: Given, len: usize) -> bool
+    requires { ⌜ Placed (now space) (used .0) given ⌝ }
+    ensures { λ r. ⌜ r ≡ leb (used .0 + givenLength given + len) (length (now (space .entry))) ⌝ }
 {
-    has_room(space, used + given_length(given), len)
+    let start = used.0;
+    has_room(space, Offset(start + given_length(given)), len)
 }
 
 // A part of the first text, as far as it goes, moved down over it.
-fn part(space: &mut [u8], used: usize, given: Given, from: usize, most: usize) -> Reply
-    requires { ⌜ Placed (now space) used given × (most ≤ longestString) ⌝ }
+fn part(space: &mut [u8], used: Offset, given: Given, from: usize, most: usize) -> Reply
+    requires { ⌜ Placed (now space) (used .0) given × (most ≤ longestString) ⌝ }
     ensures { λ r. ⌜
-        TextOf (λ vs. produced (take most (drop from (bytes vs 0))) vs) (now (space .entry)) used given r (now (space .exit))
+        TextOf (λ vs. produced (take most (drop from (bytes vs 0))) vs) (now (space .entry)) (used .0) given r (now (space .exit))
         ⌝ }
 {
+    let front = used.0;
     let all = first_length(given);
     let start = least(from, all);
     let len = least(most, all - start);
     if !grants(space, used, given, len) {
         return Reply::Fault(Error::OutOfStringSpace);
     }
-    move_bytes(space, Offset(used + start), Offset(used), len);
+    move_bytes(space, Offset(front + start), used, len);
     Reply::Text(len)
 }
 
 // A text built in a buffer, copied in where the arguments stood.
-fn built(space: &mut [u8], used: usize, given: Given, text: Text) -> Reply
-    requires { ⌜ Placed (now space) used given ⌝ }
+fn built(space: &mut [u8], used: Offset, given: Given, text: Text) -> Reply
+    requires { ⌜ Placed (now space) (used .0) given ⌝ }
     ensures { λ r. ⌜
-        ((l : List ℕ) → text ≡ held l → TextOf (produced l) (now (space .entry)) used given r (now (space .exit)))
+        ((l : List ℕ) → text ≡ held l → TextOf (produced l) (now (space .entry)) (used .0) given r (now (space .exit)))
         ⌝ }
 {
     let len = text.len as usize;
@@ -81,7 +83,7 @@ fn built(space: &mut [u8], used: usize, given: Given, text: Text) -> Reply
         return Reply::Fault(Error::OutOfStringSpace);
     }
     let bytes = text.bytes;
-    copy_in(space, Offset(used), &bytes[..len]);
+    copy_in(space, used, &bytes[..len]);
     Reply::Text(len)
 }
 
@@ -100,10 +102,10 @@ fn repeated(byte: u8, count: u16) -> Text
 }
 
 // SPACE$, and what CHR$ and STRING$ come to: so many of one byte.
-fn filled(space: &mut [u8], used: usize, given: Given, count: u16, byte: u8) -> Reply
-    requires { ⌜ Placed (now space) used given ⌝ }
+fn filled(space: &mut [u8], used: Offset, given: Given, count: u16, byte: u8) -> Reply
+    requires { ⌜ Placed (now space) (used .0) given ⌝ }
     ensures { λ r. ⌜
-        TextOf (λ vs room. ranged (within 0 count) room (produced (replicate count byte) vs room)) (now (space .entry)) used given r
+        TextOf (λ vs room. ranged (within 0 count) room (produced (replicate count byte) vs room)) (now (space .entry)) (used .0) given r
         (now (space .exit))
         ⌝ }
 {
@@ -114,9 +116,9 @@ fn filled(space: &mut [u8], used: usize, given: Given, count: u16, byte: u8) -> 
 }
 
 // CHR$: the byte of a code.
-fn chr(space: &mut [u8], used: usize, given: Given) -> Reply
-    requires { ⌜ Placed (now space) used given ⌝ }
-    ensures { λ r. ⌜ TextOf (called Chr) (now (space .entry)) used given r (now (space .exit)) ⌝ }
+fn chr(space: &mut [u8], used: Offset, given: Given) -> Reply
+    requires { ⌜ Placed (now space) (used .0) given ⌝ }
+    ensures { λ r. ⌜ TextOf (called Chr) (now (space .entry)) (used .0) given r (now (space .exit)) ⌝ }
 {
     let code = first_word(given);
     if !in_range(0, code) {
@@ -126,10 +128,11 @@ fn chr(space: &mut [u8], used: usize, given: Given) -> Reply
 }
 
 // STRING$: so many of a code, or of a text's first byte.
-fn string(space: &mut [u8], used: usize, given: Given) -> Reply
-    requires { ⌜ Placed (now space) used given ⌝ }
-    ensures { λ r. ⌜ TextOf (called String) (now (space .entry)) used given r (now (space .exit)) ⌝ }
+fn string(space: &mut [u8], used: Offset, given: Given) -> Reply
+    requires { ⌜ Placed (now space) (used .0) given ⌝ }
+    ensures { λ r. ⌜ TextOf (called String) (now (space .entry)) (used .0) given r (now (space .exit)) ⌝ }
 {
+    let front = used.0;
     let count = first_word(given);
     let second = second_of(given);
     match second {
@@ -143,16 +146,16 @@ fn string(space: &mut [u8], used: usize, given: Given) -> Reply
             if len == 0 {
                 return Reply::Fault(Error::IllegalFunctionCall);
             }
-            let byte = space[used + first_length(given)];
+            let byte = space[front + first_length(given)];
             filled(space, used, given, count, byte)
         }
     }
 }
 
 // LEFT$: so many bytes at the front.
-fn left(space: &mut [u8], used: usize, given: Given) -> Reply
-    requires { ⌜ Placed (now space) used given ⌝ }
-    ensures { λ r. ⌜ TextOf (called Left) (now (space .entry)) used given r (now (space .exit)) ⌝ }
+fn left(space: &mut [u8], used: Offset, given: Given) -> Reply
+    requires { ⌜ Placed (now space) (used .0) given ⌝ }
+    ensures { λ r. ⌜ TextOf (called Left) (now (space .entry)) (used .0) given r (now (space .exit)) ⌝ }
 {
     let n = second_word(given);
     if !in_range(0, n) {
@@ -162,9 +165,9 @@ fn left(space: &mut [u8], used: usize, given: Given) -> Reply
 }
 
 // RIGHT$: so many bytes at the end.
-fn right(space: &mut [u8], used: usize, given: Given) -> Reply
-    requires { ⌜ Placed (now space) used given ⌝ }
-    ensures { λ r. ⌜ TextOf (called Right) (now (space .entry)) used given r (now (space .exit)) ⌝ }
+fn right(space: &mut [u8], used: Offset, given: Given) -> Reply
+    requires { ⌜ Placed (now space) (used .0) given ⌝ }
+    ensures { λ r. ⌜ TextOf (called Right) (now (space .entry)) (used .0) given r (now (space .exit)) ⌝ }
 {
     let n = second_word(given);
     if !in_range(0, n) {
@@ -188,9 +191,9 @@ fn mid_length(given: Given) -> u16
 }
 
 // MID$: the bytes from a place on, counted from 1.
-fn mid(space: &mut [u8], used: usize, given: Given) -> Reply
-    requires { ⌜ Placed (now space) used given ⌝ }
-    ensures { λ r. ⌜ TextOf (called Mid) (now (space .entry)) used given r (now (space .exit)) ⌝ }
+fn mid(space: &mut [u8], used: Offset, given: Given) -> Reply
+    requires { ⌜ Placed (now space) (used .0) given ⌝ }
+    ensures { λ r. ⌜ TextOf (called Mid) (now (space .entry)) (used .0) given r (now (space .exit)) ⌝ }
 {
     let n = second_word(given);
     if !in_range(1, n) {
@@ -204,9 +207,9 @@ fn mid(space: &mut [u8], used: usize, given: Given) -> Reply
 }
 
 // A function that gives a text, when its arguments are all worked out.
-pub fn text_called(function: Function, space: &mut [u8], used: usize, given: Given) -> Reply
-    requires { ⌜ Placed (now space) used given × (gives function ≡ kind.Text) ⌝ }
-    ensures { λ r. ⌜ TextOf (called function) (now (space .entry)) used given r (now (space .exit)) ⌝ }
+pub fn text_called(function: Function, space: &mut [u8], used: Offset, given: Given) -> Reply
+    requires { ⌜ Placed (now space) (used .0) given × (gives function ≡ kind.Text) ⌝ }
+    ensures { λ r. ⌜ TextOf (called function) (now (space .entry)) (used .0) given r (now (space .exit)) ⌝ }
 {
     let word = first_word(given);
     match function {

@@ -11,8 +11,7 @@ use Rattle.words.specs.declared.symbols.Scanned.{Scanned}
 use Rattle.grammar.specs.Trees.{Formula, Variable, assign}
 use Rattle.variables.specs.bridge.Memory.{spaceStored}
 use Rattle.variables.specs.declared.values.Worked.the-variants.{Whole, Text, Fault}
-use Rattle.machine.specs.bridge.Holding.{Sound, positionOf, Positioned}
-use Rattle.machine.specs.declared.state.Machine.{Machine}
+use Rattle.machine.specs.bridge.Holding.{Sound, positionOf, Positioned, State}
 use Rattle.machine.specs.declared.positions.Next.the-variants as next
 use Rattle.turns.specs.Steps.{goesOn, assigned, doStatement}
 use Rattle.turns.specs.bridge.Turns.{turnedTo, afterOf, Turns, anyRecords, Valued, numberSet, stringSet, storedTurn}
@@ -21,7 +20,7 @@ use Rattle.turns.proofs.Leading.{leads-on, turns-fails}
 use Rattle.turns.proofs.Working.{leads-worked}
 use Rattle.turns.proofs.Storing.{number-settled, leads-number, string-settled, string-long, leads-string, sound-tables, turns-stored}
 
-module _ (text : List ℕ) {m : Machine} {input space room space′ : List ℕ} {f : Formula} {u : Scanned} (here : Place) (at : ℕ)
+module _ (text : List ℕ) {m : State} {input space room space′ : List ℕ} {f : Formula} {u : Scanned} (here : Place) (at : ℕ)
     (sound : Sound m input space room) where
   -- an error stands,
   pub assigned-fault : (v : Variable) {e : Error} → Valued m f u space (Fault e) space′

@@ -12,15 +12,13 @@ use Rattle.grammar.specs.Formulas.{good, after, formulaOf}
 use Rattle.words.specs.declared.symbols.Word.the-variants.{Let}
 use Rattle.statements.specs.Statements.{Begun, variableOf, byWord}
 use Rattle.machine.specs.Machine as spec
-use Rattle.machine.specs.bridge.Holding.{positionOf, Positioned, Sound}
-use Rattle.machine.specs.declared.state.Machine.{Machine}
-use Rattle.machine.specs.declared.positions.Turned.{Turned}
+use Rattle.machine.specs.bridge.Holding.{positionOf, Positioned, Sound, State}
+use Rattle.turns.specs.bridge.Turns.{Turn, turnedTo, afterOf, Turns, anyRecords}
 use Rattle.machine.specs.declared.positions.Next.the-variants as next
 use Rattle.machine.specs.declared.records.Record.{Record}
 use Rattle.machine.specs.declared.records.Found.{Found}
 use Rattle.turns.specs.Steps as step
 use Rattle.turns.specs.Steps.{goesOn, ends, stops, fails, doStatement}
-use Rattle.turns.specs.bridge.Turns.{turnedTo, afterOf, Turns, anyRecords}
 use Rattle.turns.specs.bridge.Doing.{Does}
 use Rattle.statements.proofs.Ways.{by-assign}
 use Rattle.turns.proofs.Keeping.{leaves-unprinted}
@@ -28,9 +26,9 @@ use Rattle.turns.proofs.Leading.{leads-self, turns-fails, turns-on, tur
 
 -- ---- turns that change nothing
 
-module _ {text : List ℕ} {m : Machine} {input space room : List ℕ} where
+module _ {text : List ℕ} {m : State} {input space room : List ℕ} where
   -- what holds whatever the records holds of those that meet what is told
-  pub any-told : {told : List Record → Type 0} {does : spec.Machine → step.Next} {r : Turned} {space′ room′ : List ℕ}
+  pub any-told : {told : List Record → Type 0} {does : spec.Machine → step.Next} {r : Turn} {space′ room′ : List ℕ}
       → Turns text m input space room anyRecords does r space′ room′ → Turns text m input space room told does r space′ room′
   any-told t = record { leaves = t .leaves; comes = λ rs l h n s. t .comes rs l tt n s }
 
@@ -51,7 +49,7 @@ module _ {text : List ℕ} {m : Machine} {input space room : List ℕ} where
 
 -- ---- from a name on
 
-module _ (text line : List ℕ) (here : Place) (at : ℕ) (m : Machine) (found : Found) (entry : Record) (input space room : List ℕ) (r : Turned)
+module _ (text line : List ℕ) (here : Place) (at : ℕ) (m : State) (found : Found) (entry : Record) (input space room : List ℕ) (r : Turn)
     (space′ room′ : List ℕ) where
   abbrev D : Begun → Type 0
   D b = Does text line here at m found entry input space room r space′ room′ b

@@ -9,29 +9,26 @@ use Rattle.whole.specs.declared.errors.Error.{Error}
 use Rattle.words.specs.declared.places.Place.{Place}
 use Rattle.machine.specs.Machine as spec
 use Rattle.machine.specs.Machine.{mostRecords}
-use Rattle.machine.specs.bridge.Holding.{linesAt, Begins, positionOf, Positioned, blankRecord, Same}
-use Rattle.machine.specs.declared.state.Machine.{Machine}
+use Rattle.machine.specs.bridge.Holding.{linesAt, Begins, positionOf, Positioned, blankRecord, Same, State}
 use Rattle.machine.specs.declared.positions.Position.{Position}
 use Rattle.machine.specs.declared.positions.Next.{Next}
 use Rattle.machine.specs.declared.positions.Next.the-variants as next
-use Rattle.machine.specs.declared.positions.Turned.{Turned}
+use Rattle.turns.specs.bridge.Turns.{Turn, turnedTo, Comes, Leaves, Turns}
 use Rattle.machine.specs.declared.records.Record.{Record}
 use Rattle.machine.proofs.Stacking.{records-past}
-use Rattle.machine.specs.Machine.{mostRecords}
 use Rattle.turns.specs.Steps as step
 use Rattle.turns.specs.Steps.{goesOn, enters, ends, stops, fails}
-use Rattle.turns.specs.bridge.Turns.{turnedTo, Comes, Leaves, Turns}
 -- it stands among the definitions, as contracts name it
 pub use Rattle.turns.specs.bridge.Turns.{Leads}
 
-module _ {text : List ℕ} {rs : List Record} {m : Machine} {input space room : List ℕ} where
+module _ {text : List ℕ} {rs : List Record} {m : State} {input space room : List ℕ} where
   -- at once
   pub leads-self : {go : spec.Machine → step.Next} {n : spec.Machine} → Same text rs m input space room n
       → Leads text rs m input space room (go n) go
   leads-self {n = n} h = record { machine = n; is = refl; same = h }
 
   -- one after the other
-  pub leads-on : {m′ : Machine} {space′ room′ : List ℕ} {x : step.Next} {go go′ : spec.Machine → step.Next}
+  pub leads-on : {m′ : State} {space′ room′ : List ℕ} {x : step.Next} {go go′ : spec.Machine → step.Next}
       → Leads text rs m input space room x go
       → ((n : spec.Machine) → Same text rs m input space room n → Leads text rs m′ input space′ room′ (go n) go′)
       → Leads text rs m′ input space′ room′ x go′
@@ -40,13 +37,13 @@ module _ {text : List ℕ} {rs : List Record} {m : Machine} {input space room : 
 -- ---- a turn that writes no record
 
 -- what the definition does comes to `go`, whatever records there are
-abbrev pub Led : List ℕ → Machine → List ℕ → List ℕ → List ℕ → (List Record → Type 0) → (spec.Machine → step.Next) → Machine → List ℕ → List ℕ
+abbrev pub Led : List ℕ → State → List ℕ → List ℕ → List ℕ → (List Record → Type 0) → (spec.Machine → step.Next) → State → List ℕ → List ℕ
     → (spec.Machine → step.Next) → Type 0
 Led text m input space room told does m′ space′ room′ go =
     (rs : List Record) → length rs ≡ mostRecords → told rs → (n : spec.Machine) → Same text rs m input space room n
     → Leads text rs m′ input space′ room′ (does n) go
 
-module _ {text : List ℕ} {m m′ : Machine} {input space room space′ room′ : List ℕ} {told : List Record → Type 0}
+module _ {text : List ℕ} {m m′ : State} {input space room space′ room′ : List ℕ} {told : List Record → Type 0}
     {does : spec.Machine → step.Next} where
   pub turns-unwritten : {x : Next} → Leaves m input space room (turnedTo m′ x) space′ room′
       → ((rs : List Record) → length rs ≡ mostRecords → told rs → (n : spec.Machine) → Same text rs m input space room n
@@ -89,11 +86,11 @@ module _ {text : List ℕ} {m m′ : Machine} {input space room space′ room′
 
 -- ---- one step after another
 
-module _ {m m′ : Machine} {input space room space′ room′ : List ℕ} {x : Next} (before : Leaves m input space room (turnedTo m′ x) space′ room′) where
-  pub leaves-then : {r : Turned} {space″ room″ : List ℕ} → Leaves m′ input space′ room′ r space″ room″ → Leaves m input space room r space″ room″
+module _ {m m′ : State} {input space room space′ room′ : List ℕ} {x : Next} (before : Leaves m input space room (turnedTo m′ x) space′ room′) where
+  pub leaves-then : {r : Turn} {space″ room″ : List ℕ} → Leaves m′ input space′ room′ r space″ room″ → Leaves m input space room r space″ room″
   leaves-then {r} h =
       let w = m′ .printer .written in
-      let k = r .machine .printer .written in
+      let k = r .state .printer .written in
       let e : w + (k - w) ≡ k = omega (arith, h .more) in
       record {
         sound = h .sound;
@@ -106,7 +103,7 @@ module _ {m m′ : Machine} {input space room space′ room′ : List ℕ} {x : 
       }
 
   -- a turn of the machine that the first step leaves
-  pub turns-then : {text : List ℕ} {told : List Record → Type 0} {does does′ : spec.Machine → step.Next} {r : Turned} {space″ room″ : List ℕ}
+  pub turns-then : {text : List ℕ} {told : List Record → Type 0} {does does′ : spec.Machine → step.Next} {r : Turn} {space″ room″ : List ℕ}
       → Led text m input space room told does m′ space′ room′ does′
       → Turns text m′ input space′ room′ told does′ r space″ room″ → Turns text m input space room told does r space″ room″
   turns-then led t =

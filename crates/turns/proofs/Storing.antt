@@ -4,6 +4,7 @@ use mathlib.Core.Bool.{Bool, true, false, cond, not}
 use mathlib.Core.List.{List}
 use Prim.Native.Nat.{ℕ, _+_, _≤_}
 use lib.ListN.{length, take, drop}
+use native.Mathlib.Nat.{le-refl}
 use Rattle.whole.specs.declared.errors.Error.the-variants.{OutOfMemory}
 use Rattle.words.specs.declared.names.Telling.{Telling}
 use Rattle.words.specs.declared.places.Place.{Place}
@@ -15,12 +16,12 @@ use Rattle.variables.specs.declared.tables.Tables.{Tables}
 use Rattle.variables.proofs.StoredNumbers.{NumberKept, number-stored}
 use Rattle.variables.proofs.StoredStrings.{StringKept, string-stored}
 use Rattle.machine.specs.Machine as spec
-use Rattle.machine.specs.bridge.Holding.{Settled, Sound, Same, positionOf, Positioned}
-use Rattle.machine.specs.declared.state.Machine.{Machine}
+use Rattle.machine.specs.bridge.Holding.{Settled, Sound, Same, positionOf, Positioned, State}
 use Rattle.machine.specs.declared.records.Record.{Record}
 use Rattle.turns.specs.Steps as step
 use Rattle.turns.specs.Steps.{goesOn, fails, storeNumber, storeString, withNumber, withString}
-use Rattle.turns.specs.bridge.Turns.{afterOf, withTables, Turns, numberSet, stringSet, storedTurn}
+use Rattle.turns.specs.bridge.Turns.{turnOf, storageOf, storedAs, afterOf, withTables, Turns, numberSet, stringSet, storedTurn, Storage}
+use Rattle.machine.specs.declared.positions.Turned.{Turned}
 use Rattle.turns.specs.declared.setting.Stored.{Stored}
 use Rattle.turns.proofs.Keeping.{same-tables, leaves-unprinted}
 use Rattle.turns.proofs.Leading.{Leads, Led, turns-fails, turns-on}
@@ -31,11 +32,11 @@ storedMet ok go = cond ok go (fails OutOfMemory)
 
 -- ---- a number
 
-module _ {m : Machine} {space : List ℕ} (name : Telling) (w : ℕ) (settled : Settled m space) where
+module _ {m : State} {space : List ℕ} (name : Telling) (w : ℕ) (settled : Settled m space) where
   kept-number : NumberKept (m .tables .numbers) name w (numberStored (m .tables .numbers) name w)
   kept-number = number-stored (m .tables .numbers) name w (settled .numbers)
 
-  pub number-settled : Settled (numberSet m name w .machine) space
+  pub number-settled : Settled (numberSet m name w .state) space
   number-settled =
       record {
         numbers = kept-number .tidy;
@@ -47,7 +48,7 @@ module _ {m : Machine} {space : List ℕ} (name : Telling) (w : ℕ) (settled : 
 
   module _ {text : List ℕ} {rs : List Record} {input room : List ℕ} {n : spec.Machine} (same : Same text rs m input space room n)
       (go : spec.Machine → step.Next) where
-    pub leads-number : Leads text rs (numberSet m name w .machine) input space room (storeNumber n name w go)
+    pub leads-number : Leads text rs (numberSet m name w .state) input space room (storeNumber n name w go)
         (storedMet (numberSet m name w .ok) go)
     leads-number =
         let k = kept-number in
@@ -58,18 +59,18 @@ module _ {m : Machine} {space : List ℕ} (name : Telling) (w : ℕ) (settled : 
         record {
           machine = n;
           is = rw (e, no);
-          same = same-tables same t (m .used) refl (n .variables) (same .variables ∙ rw (k .refused no));
+          same = same-tables same t (m .used) refl (n .variables) (same .variables ∙ rw (k .refused no)) (k .names) (k .more);
         })
         (λ e. let yes : numberSet m name w .ok ≡ true = k .ok ∙ ap not (sym f ∙ e) in
         record {
           machine = withNumber n name w;
           is = rw (e, yes);
-          same = same-tables same t (m .used) refl (withNumber n name w .variables) (rw (same .variables, k .held yes));
+          same = same-tables same t (m .used) refl (withNumber n name w .variables) (rw (same .variables, k .held yes)) (k .names) (k .more);
         })
 
 -- ---- a string: its bytes stand right after the variables'
 
-module _ {m : Machine} {space : List ℕ} (name : Telling) (len : ℕ) (settled : Settled m space) (fits : m .used + len ≤ length space) where
+module _ {m : State} {space : List ℕ} (name : Telling) (len : ℕ) (settled : Settled m space) (fits : m .used + len ≤ length space) where
   abbrev afterwards : List ℕ
   afterwards = spaceStored (m .tables .strings) (m .used) name space len
 
@@ -79,7 +80,7 @@ module _ {m : Machine} {space : List ℕ} (name : Telling) (len : ℕ) (settled 
   pub string-long : length (spaceStored (m .tables .strings) (m .used) name space len) ≡ length space
   string-long = kept-string .long
 
-  pub string-settled : Settled (stringSet m name len .machine) (spaceStored (m .tables .strings) (m .used) name space len)
+  pub string-settled : Settled (stringSet m name len .state) (spaceStored (m .tables .strings) (m .used) name space len)
   string-settled =
       let l = string-long in
       record {
@@ -92,7 +93,7 @@ module _ {m : Machine} {space : List ℕ} (name : Telling) (len : ℕ) (settled 
 
   module _ {text : List ℕ} {rs : List Record} {input room : List ℕ} {n : spec.Machine} (same : Same text rs m input space room n)
       (go : spec.Machine → step.Next) where
-    pub leads-string : Leads text rs (stringSet m name len .machine) input (spaceStored (m .tables .strings) (m .used) name space len) room
+    pub leads-string : Leads text rs (stringSet m name len .state) input (spaceStored (m .tables .strings) (m .used) name space len) room
         (storeString n name (take len (drop (m .used) space)) go) (storedMet (stringSet m name len .ok) go)
     leads-string =
         let k = kept-string in
@@ -106,29 +107,34 @@ module _ {m : Machine} {space : List ℕ} (name : Telling) (len : ℕ) (settled 
         record {
           machine = n;
           is = rw (e, no);
-          same = same-tables same t (r .used) (k .long) (n .variables) (same .variables ∙ rw (z .0, z .2));
+          same = same-tables same t (r .used) (k .long) (n .variables) (same .variables ∙ rw (z .0, z .2)) (λ i l. refl) (le-refl _);
         })
         (λ e. let yes : stringSet m name len .ok ≡ true = k .ok ∙ ap not (sym f ∙ e) in
         record {
           machine = withString n name b;
           is = rw (e, yes);
-          same = same-tables same t (r .used) (k .long) (withString n name b .variables) (rw (same .variables, k .held yes));
+          same = same-tables same t (r .used) (k .long) (withString n name b .variables) (rw (same .variables, k .held yes)) (λ i l. refl) (le-refl _);
         })
 
 -- ---- the turn: room for a new variable is tested last
 
-module _ {m : Machine} {input space room space′ : List ℕ} where
+module _ {m : State} {input space room space′ : List ℕ} where
   -- a machine with other tables is sound where they are
   pub sound-tables : {t : Tables} {used : ℕ} → Sound m input space room → Settled (withTables m t used) space′
       → Sound (withTables m t used) input space′ room
   sound-tables h s = record { settled = s; fitting = h .fitting; taken = h .taken; deep = h .deep }
 
   pub turns-stored : {text : List ℕ} {told : List Record → Type 0} {does : spec.Machine → step.Next} (here : Place) (u : Scanned)
-      (s : Stored) → Sound (s .machine) input space′ room → length space′ ≡ length space → s .machine .steps ≡ m .steps
-      → s .machine .printer ≡ m .printer → Positioned text (afterOf here u)
-      → Led text m input space room told does (s .machine) space′ room (storedMet (s .ok) (λ n. goesOn n (positionOf text (afterOf here u))))
+      (s : Storage) → Sound (s .state) input space′ room → length space′ ≡ length space → s .state .steps ≡ m .steps
+      → s .state .printer ≡ m .printer → Positioned text (afterOf here u)
+      → Led text m input space room told does (s .state) space′ room (storedMet (s .ok) (λ n. goesOn n (positionOf text (afterOf here u))))
       → Turns text m input space room told does (storedTurn s here u) space′ room
   turns-stored here u s h long steps printer p l =
       by-test (s .ok)
       (λ e. rw e (turns-on (leaves-unprinted h long steps printer) p (rw e at l)))
       (λ e. rw e (turns-fails (leaves-unprinted h long steps printer) (rw e at l)))
+
+-- what the code answers is that turn
+pub stored-turn : {r : Turned} (s : Stored) (here : Place) (u : Scanned) {S : Storage} {names words labels lengths : List ℕ} → r ≡ storedAs s here u
+    → storageOf s names words labels lengths ≡ S → turnOf r names words labels lengths ≡ storedTurn S here u
+stored-turn s here u e k = rw e (by-test (s .ok) (λ f. rw f) (λ f. rw f) ∙ ap (λ x. storedTurn x here u) k)

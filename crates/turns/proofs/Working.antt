@@ -1,32 +1,31 @@
 -- Working out a formula with the machine's tables, and what the definition then does.
 use mathlib.Core.Path.{sym, ap, subst}
 use mathlib.Core.List.{List}
-use Prim.Native.Nat.{ℕ, _+_, _≤_}
-use lib.ListN.{length, take, drop}
+use Prim.Native.Nat.{ℕ, _≤_}
+use lib.ListN.{take, drop}
 use Rattle.whole.specs.declared.errors.Error.the-variants.{TypeMismatch}
 use Rattle.whole.specs.Texts.{longestString}
 use Rattle.words.specs.declared.symbols.Scanned.{Scanned}
 use Rattle.grammar.specs.Trees.{Formula}
 use Rattle.variables.specs.Strings.{Value, whole, text, Outcome, value, fault}
 use Rattle.operators.specs.Values.{valueOf}
-use Rattle.variables.specs.bridge.Memory.{Agrees}
+use Rattle.variables.specs.bridge.Memory.{Agrees, Storable}
 use Rattle.formulas.specs.bridge.Memory.{Evaluated}
 use Rattle.variables.specs.declared.values.Worked.{Worked}
 use Rattle.variables.specs.declared.values.Worked.the-variants.{Whole, Text, Fault}
 use Rattle.variables.proofs.Holding.{held-looked}
 use Rattle.machine.specs.Machine as spec
 use Rattle.machine.specs.Machine.{roomOf, noting}
-use Rattle.machine.specs.bridge.Holding.{variablesOf, Settled, Same}
-use Rattle.machine.specs.declared.state.Machine.{Machine}
+use Rattle.machine.specs.bridge.Holding.{variablesOf, Settled, Same, State}
 use Rattle.machine.specs.declared.records.Record.{Record}
 use Rattle.turns.specs.Steps as step
 use Rattle.turns.specs.Steps.{fails, worked, wholeOnly, workedWhole}
 use Rattle.turns.specs.bridge.Turns.{Valued}
-use Rattle.turns.proofs.Keeping.{settled-kept, same-kept, same-noting, room-held}
+use Rattle.turns.proofs.Keeping.{same-kept, same-noting, room-held}
 use Rattle.turns.proofs.Leading.{Leads}
 
 -- the tables hold the machine's variables
-pub valued : {m : Machine} {f : Formula} {u : Scanned} {before after : List ℕ} {r : Worked} → Settled m before
+pub valued : {m : State} {f : Formula} {u : Scanned} {before after : List ℕ} {r : Worked} → Settled m before
     → Evaluated (m .tables .numbers .names) (m .tables .numbers .words) (m .tables .strings .names) (m .tables .strings .lengths) f u before (m .used) r after
     → Valued m f u before r after
 valued {m} {before = before} s e =
@@ -50,7 +49,7 @@ wholeMet (Whole w t) go = go w
 wholeMet (Text len t) go = fails TypeMismatch
 wholeMet (Fault e) go = fails e
 
-module _ {line : List ℕ} {rs : List Record} {m : Machine} {input space room : List ℕ} {n : spec.Machine}
+module _ {line : List ℕ} {rs : List Record} {m : State} {input space room : List ℕ} {n : spec.Machine}
     (same : Same line rs m input space room n) where
   pub leads-met : (r : Worked) (after : List ℕ) (used : ℕ) (x : Outcome) → Agrees r after used x → (go : Value → spec.Machine → step.Next)
       → Leads line rs m input space room (worked n x go) (met r after used go)
@@ -68,7 +67,7 @@ module _ {line : List ℕ} {rs : List Record} {m : Machine} {input space room : 
 
 -- ---- a formula
 
-module _ {line : List ℕ} {rs : List Record} {m : Machine} {f : Formula} {u : Scanned} {input space room space′ : List ℕ} {r : Worked}
+module _ {line : List ℕ} {rs : List Record} {m : State} {f : Formula} {u : Scanned} {input space room space′ : List ℕ} {r : Worked}
     (settled : Settled m space) (v : Valued m f u space r space′) {n : spec.Machine} (same : Same line rs m input space room n) where
   -- the answer agrees with the formula's value
   agreed : Agrees r space′ (m .used) (valueOf f (n .variables) (roomOf n))
@@ -93,6 +92,6 @@ module _ {line : List ℕ} {rs : List Record} {m : Machine} {f : Formula} {u : S
       by-answer (Fault e) l = l
 
 -- a text stands in the space
-pub text-fits : {m : Machine} {f : Formula} {u t : Scanned} {space space′ : List ℕ} {len : ℕ} → Settled m space
-    → Valued m f u space (Text len t) space′ → Settled m space′ × ((m .used + len ≤ length space′) × (len ≤ longestString))
-text-fits h v = (settled-kept (v .framed .long) h, (v .framed .fits, v .framed .short))
+pub text-fits : {m : State} {f : Formula} {u t : Scanned} {space space′ : List ℕ} {len : ℕ} → Settled m space
+    → Valued m f u space (Text len t) space′ → Storable (m .tables .strings .lengths) (m .used) space′ len × (len ≤ longestString)
+text-fits h v = (record { all = h .all; fits = v .framed .fits }, v .framed .short)

@@ -1,17 +1,17 @@
 // Assignment.
 ghost use mathlib.Core.Path.{_≡_};
 ghost use mathlib.Core.List.{List};
-ghost use Prim.Native.Nat.{ℕ, _+_, _≤_};
+ghost use Prim.Native.Nat.{ℕ, _≤_};
 ghost use lib.ListN.{length};
-ghost use Rattle.variables.specs.bridge.Memory.{spaceStored};
+ghost use Rattle.variables.specs.bridge.Memory.{stringsOf, spaceStored, Storable};
 ghost use Rattle.grammar.specs.Trees.{Formula, assign};
 ghost use Rattle.grammar.specs.Formulas.{good, formulaOf};
 ghost use Rattle.words.specs.declared.symbols.Word.the-variants as led;
 ghost use Rattle.statements.specs.Statements.{variableOf, byWord};
-ghost use Rattle.machine.specs.bridge.Holding.{positionOf, Positioned, Settled, Sound};
+ghost use Rattle.machine.specs.bridge.Holding.{stateOf, positionOf, Positioned, Settled, Sound};
 ghost use Rattle.turns.specs.Steps.{doStatement};
 ghost use Rattle.turns.specs.bridge.Doing.{Begins, Does};
-ghost use Rattle.turns.specs.bridge.Turns.{afterOf, Turns, anyRecords, Formed, numberSet, stringSet, storedTurn};
+ghost use Rattle.turns.specs.bridge.Turns.{turnOf, storageOf, afterOf, Turns, anyRecords, Formed, numberSet, stringSet, storedAs};
 ghost use Rattle.whole.specs.Texts.{longestString};
 ghost use Rattle.words.specs.Places.{longestLine};
 use crate::turning::fails;
@@ -35,53 +35,75 @@ use words::Telling;
 use words::Token;
 use words::telling_of;
 
-// The machine after an assignment, or no room for a new variable.
+// The machine after an assignment, and the variable's entry; or no room for a new variable.
 pub struct Stored {
     pub ok: bool,
+    pub slot: usize,
     pub machine: Machine,
 }
 
-pub fn with_number(machine: Machine, name: Telling, word: u16) -> Stored
-    ensures { λ r. ⌜ r ≡ numberSet machine name word ⌝ }
+pub fn with_number(
+    machine: Machine,
+    names: &mut [u8; 128],
+    words: &mut [u16; Tables::MOST],
+    name: Telling,
+    word: u16,
+) -> Stored
+    ensures { λ r. ⌜
+        ((labels lengths : List ℕ) → storageOf r (now (names .exit)) (now (words .exit)) labels lengths
+        ≡ numberSet (stateOf machine (now (names .entry)) (now (words .entry)) labels lengths) name word)
+        ⌝ }
 {
-    let tables = machine.tables;
-    let stored = store_number(tables.numbers, name, word);
-    let numbers = stored.numbers;
-    let strings = tables.strings;
-    let changed = Tables { numbers, strings };
+    let put = store_number(names, words, machine.numbers, name, word);
     let mut next = machine;
-    next.tables = changed;
+    next.numbers = put.count;
     Stored {
-        ok: stored.ok,
+        ok: put.ok,
+        slot: put.slot,
         machine: next,
     }
 }
 
 // The finished text of `len` bytes stands right after the variables' bytes.
-pub fn with_string(machine: Machine, name: Telling, space: &mut [u8], len: usize) -> Stored
-    requires { ⌜ Settled machine (now space) × ((machine .used + len ≤ length (now space)) × (len ≤ longestString)) ⌝ }
+pub fn with_string(
+    machine: Machine,
+    labels: &mut [u8; 128],
+    lengths: &mut [u8; Tables::MOST],
+    name: Telling,
+    space: &mut [u8],
+    len: usize,
+) -> Stored
+    requires { ⌜ Storable (now lengths) (machine .used .0) (now space) len × (len ≤ longestString) ⌝ }
     ensures { λ r. ⌜
-        (r ≡ stringSet machine name len)
-        × (now (space .exit) ≡ spaceStored (machine .tables .strings) (machine .used) name (now (space .entry)) len)
+        ((names words : List ℕ) → storageOf r names words (now (labels .exit)) (now (lengths .exit))
+        ≡ stringSet (stateOf machine names words (now (labels .entry)) (now (lengths .entry))) name len)
+        × (now (space .exit) ≡ spaceStored (stringsOf (now (labels .entry)) (now (lengths .entry)) (machine .strings)) (machine .used .0) name (now (space .entry)) len)
         ⌝ }
 {
-    let tables = machine.tables;
-    let stored = store_string(tables.strings, machine.used, name, space, len as u8);
-    let numbers = tables.numbers;
-    let strings = stored.strings;
-    let changed = Tables { numbers, strings };
+    let used = machine.used;
+    let put = store_string(
+        labels,
+        lengths,
+        machine.strings,
+        used,
+        name,
+        space,
+        len as u8,
+    );
+    let end = put.used;
     let mut next = machine;
-    next.tables = changed;
-    next.used = stored.used;
+    next.strings = put.count;
+    next.used = end;
     Stored {
-        ok: stored.ok,
+        ok: put.ok,
+        slot: 0,
         machine: next,
     }
 }
 
 // Room for a new variable is tested last.
 pub fn stored_or_full(stored: Stored, line: Place, ahead: Scanned) -> Turned
-    ensures { λ r. ⌜ r ≡ storedTurn stored line ahead ⌝ }
+    ensures { λ r. ⌜ r ≡ storedAs stored line ahead ⌝ }
 {
     if !stored.ok {
         return fails(stored.machine, Error::OutOfMemory);
@@ -96,37 +118,71 @@ fn assign(
     name: Name,
     first: Scanned,
     machine: Machine,
+    names: &mut [u8; 128],
+    words: &mut [u16; Tables::MOST],
+    labels: &mut [u8; 128],
+    lengths: &mut [u8; Tables::MOST],
     space: &mut [u8],
 ) -> Turned
-    requires { ⌜ Formed (now line) first × Settled machine (now space) ⌝ }
+    requires { ⌜
+        Formed (now line) first
+        × Settled (stateOf machine (now names) (now words) (now labels) (now lengths)) (now space)
+        ⌝ }
     ensures { λ r. ⌜
-        ((text input room : List ℕ) (at : ℕ) (f : Formula) (u : Scanned) → Sound machine input (now (space .entry)) room → Positioned text (afterOf here u)
+        ((text input room : List ℕ) (at : ℕ) (f : Formula) (u : Scanned)
+        → Sound (stateOf machine (now (names .entry)) (now (words .entry)) (now (labels .entry)) (now (lengths .entry))) input (now (space .entry)) room
+        → Positioned text (afterOf here u)
         → formulaOf (now (line .entry)) first ≡ good f u
-        → Turns text machine input (now (space .entry)) room anyRecords
-        (λ n. doStatement text at (assign (variableOf (now (line .entry)) name) f) n (positionOf text (afterOf here u))) r (now (space .exit)) room)
+        → Turns text (stateOf machine (now (names .entry)) (now (words .entry)) (now (labels .entry)) (now (lengths .entry))) input (now (space .entry)) room anyRecords
+        (λ n. doStatement text at (assign (variableOf (now (line .entry)) name) f) n (positionOf text (afterOf here u)))
+        (turnOf r (now (names .exit)) (now (words .exit)) (now (labels .exit)) (now (lengths .exit))) (now (space .exit)) room)
         ⌝ }
 {
     let telling = telling_of(line, name);
     let kind = name.kind;
-    match value(line, first, machine, space) {
+    match value(line, first, machine, names, words, labels, lengths, space) {
         Worked::Fault(error) => fails(machine, error),
         Worked::Whole(word, ahead) => match kind {
             Kind::Text => fails(machine, Error::TypeMismatch),
-            Kind::Whole => stored_or_full(with_number(machine, telling, word), here, ahead),
+            Kind::Whole => stored_or_full(
+                with_number(machine, names, words, telling, word),
+                here,
+                ahead,
+            ),
         },
         Worked::Text(len, ahead) => match kind {
             Kind::Whole => fails(machine, Error::TypeMismatch),
-            Kind::Text => stored_or_full(with_string(machine, telling, space, len), here, ahead),
+            Kind::Text => stored_or_full(
+                with_string(machine, labels, lengths, telling, space, len),
+                here,
+                ahead,
+            ),
         },
     }
 }
 
 // A name, the equals sign and a formula.
-pub fn set(line: &[u8], here: Place, target: Scanned, machine: Machine, space: &mut [u8]) -> Turned
-    requires { ⌜ Begins (byWord (now line) led.Let target) × ((length (now line) ≤ longestLine) × Settled machine (now space)) ⌝ }
+pub fn set(
+    line: &[u8],
+    here: Place,
+    target: Scanned,
+    machine: Machine,
+    names: &mut [u8; 128],
+    words: &mut [u16; Tables::MOST],
+    labels: &mut [u8; 128],
+    lengths: &mut [u8; Tables::MOST],
+    space: &mut [u8],
+) -> Turned
+    requires { ⌜
+        Begins (byWord (now line) led.Let target)
+        × ((length (now line) ≤ longestLine)
+        × Settled (stateOf machine (now names) (now words) (now labels) (now lengths)) (now space))
+        ⌝ }
     ensures { λ r. ⌜
-        ((text input room : List ℕ) (at : ℕ) (found : Found) (entry : Record) → Sound machine input (now (space .entry)) room
-        → Does text (now (line .entry)) here at machine found entry input (now (space .entry)) room r (now (space .exit)) room (byWord (now (line .entry)) led.Let target))
+        ((text input room : List ℕ) (at : ℕ) (found : Found) (entry : Record)
+        → Sound (stateOf machine (now (names .entry)) (now (words .entry)) (now (labels .entry)) (now (lengths .entry))) input (now (space .entry)) room
+        → Does text (now (line .entry)) here at (stateOf machine (now (names .entry)) (now (words .entry)) (now (labels .entry)) (now (lengths .entry))) found entry input (now (space .entry)) room
+        (turnOf r (now (names .exit)) (now (words .exit)) (now (labels .exit)) (now (lengths .exit))) (now (space .exit)) room (byWord (now (line .entry)) led.Let target))
         ⌝ }
 {
     let token = target.token;
@@ -138,6 +194,10 @@ pub fn set(line: &[u8], here: Place, target: Scanned, machine: Machine, space: &
             name,
             token_at(line, equals.next),
             machine,
+            names,
+            words,
+            labels,
+            lengths,
             space,
         ),
         _ => fails(machine, Error::Syntax),

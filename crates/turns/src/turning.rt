@@ -2,9 +2,9 @@
 ghost use mathlib.Core.Path.{_≡_};
 ghost use Rattle.grammar.specs.Trees.{Formula};
 ghost use Rattle.grammar.specs.Formulas.{good, formulaOf};
-ghost use Rattle.machine.specs.bridge.Holding.{Settled};
+ghost use Rattle.machine.specs.bridge.Holding.{stateOf, Settled};
 ghost use Rattle.machine.specs.declared.positions.Next.the-variants as next;
-ghost use Rattle.turns.specs.bridge.Turns.{turnedTo, afterOf, Formed, Valued};
+ghost use Rattle.turns.specs.bridge.Turns.{cameTo, afterOf, Formed, Valued};
 use formulas::work_out;
 use grammar::is_symbol;
 use machine::Machine;
@@ -12,6 +12,7 @@ use machine::Next;
 use machine::Position;
 use machine::Record;
 use machine::Turned;
+use variables::Tables;
 use variables::Worked;
 use whole::Error;
 use words::Place;
@@ -20,7 +21,7 @@ use words::Sign;
 
 // No record is written.
 pub fn turned_to(machine: Machine, next: Next) -> Turned
-    ensures { λ r. ⌜ r ≡ turnedTo machine next ⌝ }
+    ensures { λ r. ⌜ r ≡ cameTo machine next ⌝ }
 {
     Turned {
         machine,
@@ -31,7 +32,7 @@ pub fn turned_to(machine: Machine, next: Next) -> Turned
 }
 
 pub fn fails(machine: Machine, error: Error) -> Turned
-    ensures { λ r. ⌜ r ≡ turnedTo machine (next.Fails error) ⌝ }
+    ensures { λ r. ⌜ r ≡ cameTo machine (next.Fails error) ⌝ }
 {
     turned_to(machine, Next::Fails(error))
 }
@@ -51,33 +52,38 @@ pub fn after(line: Place, ahead: Scanned) -> Position
 }
 
 pub fn goes_on(machine: Machine, line: Place, ahead: Scanned) -> Turned
-    ensures { λ r. ⌜ r ≡ turnedTo machine (next.On (afterOf line ahead)) ⌝ }
+    ensures { λ r. ⌜ r ≡ cameTo machine (next.On (afterOf line ahead)) ⌝ }
 {
     turned_to(machine, Next::On(after(line, ahead)))
 }
 
-// The value of the formula that begins with a token.
-pub fn value(line: &[u8], ahead: Scanned, machine: Machine, space: &mut [u8]) -> Worked
-    requires { ⌜ Formed (now line) ahead × Settled machine (now space) ⌝ }
+// The value of the formula that begins with a token; the tables are the variables' of the machine.
+pub fn value(
+    line: &[u8],
+    ahead: Scanned,
+    machine: Machine,
+    names: &[u8; 128],
+    words: &[u16; Tables::MOST],
+    labels: &[u8; 128],
+    lengths: &[u8; Tables::MOST],
+    space: &mut [u8],
+) -> Worked
+    requires { ⌜
+        Formed (now line) ahead
+        × Settled (stateOf machine (now names) (now words) (now labels) (now lengths)) (now space)
+        ⌝ }
     ensures { λ r. ⌜
         ((f : Formula) (u : Scanned) → formulaOf (now (line .entry)) ahead ≡ good f u
-        → Valued machine f u (now (space .entry)) r (now (space .exit)))
+        → Valued (stateOf machine (now (names .entry)) (now (words .entry)) (now (labels .entry)) (now (lengths .entry))) f u (now (space .entry)) r (now (space .exit)))
         ⌝ }
 {
-    let tables = machine.tables;
-    let numbers = tables.numbers;
-    let strings = tables.strings;
-    let names = numbers.names;
-    let words = numbers.words;
-    let labels = strings.names;
-    let lengths = strings.lengths;
     work_out(
         line,
         ahead,
-        &names,
-        &words,
-        &labels,
-        &lengths,
+        names,
+        words,
+        labels,
+        lengths,
         space,
         machine.used,
     )

@@ -10,7 +10,7 @@ use Rattle.words.specs.Names.{alike}
 use Rattle.words.specs.declared.names.Telling.{Telling}
 use Rattle.space.specs.Moves.{cleared}
 use Rattle.variables.specs.Variables.{wordOf, bytesOf, stringBytes, joinedStrings, mostVariables}
-use Rattle.variables.specs.bridge.Memory.{stringsIn, Looked, numbersHeld, stringsHeld, TidyNumbers, TidyStrings}
+use Rattle.variables.specs.bridge.Memory.{stringsIn, Looked, numbersHeld, stringsHeld, empty, TidyNumbers, TidyStrings}
 use Rattle.variables.specs.Tables.{namesFrom, numbersIn, sumOf, emptyTables}
 use Rattle.variables.specs.declared.tables.Numbers.{Numbers}
 use Rattle.variables.specs.declared.tables.Strings.{Strings}
@@ -174,7 +174,8 @@ cleaned t space used y e = ap (λ k. take k space ++ replicate (length space - u
 -- ---- empty tables
 
 pub empty-numbers : TidyNumbers (emptyTables .numbers)
-empty-numbers = record { few = omega arith; named = refl; worded = refl; namesBlank = refl; wordsBlank = refl }
+unfolding namesFrom
+empty-numbers = record { few = omega arith; named = refl; worded = refl; namesBlank = refl; wordsBlank = refl; apart = empty }
 
 pub empty-strings : TidyStrings (emptyTables .strings)
 empty-strings = record { few = omega arith; named = refl; lengthy = refl; namesBlank = refl; lengthsBlank = refl }

@@ -5,6 +5,7 @@ pub mod Looking
 pub mod Ways
 pub mod Replacing
 pub mod Holding
+pub mod Names
 pub mod Naming
 pub mod StoredNumbers
 pub mod StoredStrings

@@ -11,16 +11,12 @@ use Rattle.words.proofs.Choices.{by-test}
 use Rattle.words.specs.Names.{alike}
 use Rattle.words.specs.declared.names.Telling.{Telling}
 use Rattle.variables.specs.Variables.{wordOf, bytesOf, stringBytes, mostVariables}
-use Rattle.variables.specs.bridge.Memory.{stringsIn}
+use Rattle.variables.specs.bridge.Memory.{stringsIn, nameAt}
 use Rattle.variables.specs.Tables.{namesFrom, namesIn, numbersIn, slotFrom, slotIn, sumOf}
 use Rattle.variables.specs.declared.tables.Slot.the-variants as slot
 use Rattle.whole.proofs.Never.{never}
 
 -- ---- the names of a table
-
--- the i-th name
-abbrev pub nameAt : List ℕ → ℕ → Telling
-nameAt names i = record { first = getD names (2 * i) 0; second = getD names (2 * i + 1) 0 }
 
 pub names-length : (n : ℕ) (names : List ℕ) → length (namesFrom n names) ≡ n
 unfolding namesFrom

@@ -1,13 +1,16 @@
 -- A name more in a table, and a value more beside it.
 use mathlib.Core.Path.{_≡_, refl, sym, ap, _∙_}
+use mathlib.Core.Bool.{true}
 use mathlib.Core.List.{List, [], _∷_, _++_}
 use Prim.Native.Nat.{ℕ, zero, suc, _+_, _-_, _*_, _<_}
 use native.Mathlib.Omega.{arith}
 use lib.ListN.{length, take, drop, getD, set, replicate, length-set}
 use lib.Seq.{getD-drop, getD-set-same, getD-set-other, take-set-le, drop-set-lt}
+use Rattle.words.specs.Names.{alike}
 use Rattle.words.specs.declared.names.Telling.{Telling}
-use Rattle.variables.specs.bridge.Memory.{withName}
+use Rattle.variables.specs.bridge.Memory.{nameAt, withName}
 use Rattle.variables.specs.Tables.{namesFrom}
+use Rattle.variables.proofs.Names.{alike-self}
 use Rattle.variables.proofs.Ways.{names-split}
 use Rattle.variables.proofs.Holding.{blank-after}
 
@@ -44,6 +47,20 @@ module _ (names : List ℕ) (count : ℕ) (name : Telling) (room : 2 * count + 1
   second-named =
       let l = length-set names (2 * count) (name .first) in
       getD-set-same (set names (2 * count) (name .first)) (2 * count + 1) (name .second) 0 (omega arith)
+
+  -- the entries before it keep their names, and it has its own
+  pub names-kept : (i : ℕ) → i < count → nameAt named i ≡ nameAt names i
+  names-kept i h =
+      let first : getD named (2 * i) 0 ≡ getD names (2 * i) 0 =
+      getD-set-other (set names (2 * count) (name .first)) (2 * count + 1) (2 * i) (name .second) 0 (λ e. omega arith)
+      ∙ getD-set-other names (2 * count) (2 * i) (name .first) 0 (λ e. omega arith) in
+      let second : getD named (2 * i + 1) 0 ≡ getD names (2 * i + 1) 0 =
+      getD-set-other (set names (2 * count) (name .first)) (2 * count + 1) (2 * i + 1) (name .second) 0 (λ e. omega arith)
+      ∙ getD-set-other names (2 * count) (2 * i + 1) (name .first) 0 (λ e. omega arith) in
+      rw (first, second)
+
+  pub name-put : alike (nameAt named count) name ≡ true
+  name-put = rw (first-named, second-named) (alike-self name)
 
   name-here : namesFrom 1 (drop (2 * count) named) ≡ name ∷ []
   unfolding namesFrom

@@ -7,9 +7,9 @@ use native.Mathlib.Numerals.{add-one}
 use lib.ListN.{length, take, drop, getD, set, length-drop, length-append}
 use lib.Seq.{length-take-le, take-suc, take-suc-set, take-append-add, getD-drop}
 use Rattle.space.specs.Moves.{overlaid, copied, moved}
-use Rattle.space.proofs.Frames.{copied-lies, copied-length, moved-lies, moved-length}
+use Rattle.space.proofs.Frames.{copied-lies, copied-length, moved-lies, moved-length, moved-nowhere}
 use Rattle.space.proofs.Overlaid.{overlaid-front, overlaid-before}
-use Rattle.variables.specs.bridge.Memory.{spaceReplaced}
+use Rattle.variables.specs.bridge.Memory.{bytesReplaced, spaceReplaced}
 use Rattle.variables.specs.Tables.{sumOf}
 use Rattle.variables.specs.Variables.{mostVariables}
 use Rattle.variables.proofs.Lookups.{sum-within}
@@ -32,21 +32,27 @@ kept-length bytes space from len h e =
 
 -- ---- the place of the string that goes
 
-module _ (ls : List ℕ) (i start old : ℕ) (h : i < mostVariables) (s : start ≡ sumOf (take (min i mostVariables) ls)) (o : old ≡ getD ls i 0) where
-  place-is : start ≡ sumOf (take i ls)
-  place-is = let e : min i mostVariables ≡ i = omega arith in rw e at s
+-- it ends where all do, or before
+pub place-within : (ls : List ℕ) (i start old used : ℕ) → i < mostVariables → start ≡ sumOf (take (min i mostVariables) ls) → old ≡ getD ls i 0
+    → sumOf ls ≡ used → start + old ≤ used
+place-within ls i start old used h s o a =
+    let e : min i mostVariables ≡ i = omega arith in let w = sum-within ls i in let p : start ≡ sumOf (take i ls) = rw e at s in omega arith
 
-  -- it ends where all do, or before
-  pub place-within : (used : ℕ) → sumOf ls ≡ used → start + old ≤ used
-  place-within used a = let w = sum-within ls i in omega (arith, place-is)
+-- the space after it, by its place
+pub place-replaced : (ls : List ℕ) (i start old used : ℕ) (space : List ℕ) (count len : ℕ) → i < mostVariables → start ≡ sumOf (take (min i mostVariables) ls)
+    → old ≡ getD ls i 0 → count ≡ len → bytesReplaced start old used space count ≡ spaceReplaced ls used i space len
+place-replaced ls i start old used space count len h s o c =
+    let e : min i mostVariables ≡ i = omega arith in let p : start ≡ sumOf (take i ls) = rw e at s in rw (p, o, c)
 
-  -- the space after both moves
-  pub space-replaced : (space between after kept : List ℕ) (used count len : ℕ) → count ≡ len
-      → between ≡ moved space (start + old) (start + count) (used - (start + old))
-      → take count kept ≡ take count (drop used space)
-      → after ≡ copied between start (take count kept)
-      → after ≡ spaceReplaced ls used i space len
-  space-replaced space between after kept used count len c m k a = a ∙ rw (k, m, c, o, place-is)
+-- ---- bytes of the same length
+
+pub same-long : (space : List ℕ) (start len used : ℕ) → start + len ≤ used → used + len ≤ length space
+    → moved space used start len ≡ bytesReplaced start len used space len
+same-long space start len used h k =
+    let l : length (take len (drop used space)) ≡ len = length-take-le len (drop used space) (simp length-drop (omega arith)) in
+    moved-lies space used start len k (omega arith)
+    ∙ sym (copied-lies space start (take len (drop used space)) (omega arith))
+    ∙ ap (λ s. copied s start (take len (drop used space))) (sym (moved-nowhere space (start + len) (used - (start + len))))
 
 -- ---- the space after it
 

@@ -7,17 +7,18 @@ use native.Mathlib.Omega.{arith}
 use borrow.Author.Tests.{le-leb, lt-leb}
 use lib.ListN.{length, getD, set, length-set}
 use lib.Seq.{getD-set-same, take-set-le}
+use Rattle.words.specs.Names.{alike}
 use Rattle.words.specs.declared.names.Telling.{Telling}
 use Rattle.space.proofs.Bounds.{by-bound}
 use Rattle.variables.specs.Variables.{setNumber, hasNumber, numbersFull, mostVariables}
-use Rattle.variables.specs.bridge.Memory.{numbersHeld, TidyNumbers, withName, numberReplaced, numberStored}
+use Rattle.variables.specs.bridge.Memory.{NumberStored, Absent, none, also, nameAt, numbersOf, numbersHeld, TidyNumbers, withName, numberReplaced, numberStored}
 use Rattle.variables.specs.Tables.{namesFrom, numbersIn}
 use Rattle.variables.specs.declared.tables.Numbers.{Numbers}
-use Rattle.variables.specs.declared.assigning.NumberStored.{NumberStored}
 use Rattle.variables.proofs.Lookups.{names-length, First, here, later}
-use Rattle.variables.proofs.Ways.{Absent, none, also, Way, old, new, way, number-old, number-new}
+use Rattle.variables.proofs.Names.{alike-self, apart-more, first-has, name-is, name-slot}
+use Rattle.variables.proofs.Ways.{Way, old, new, way, number-old, number-new}
 use Rattle.variables.proofs.Holding.{numbers-same, number-count}
-use Rattle.variables.proofs.Naming.{named-length, names-more, names-after, values-after, values-behind}
+use Rattle.variables.proofs.Naming.{named-length, names-kept, name-put, names-more, names-after, values-after, values-behind}
 
 -- ---- the variables
 
@@ -64,6 +65,10 @@ numbers-more (n ∷ ns) x (w ∷ ws) h = ap (λ vs. record { name = n; word = w 
 
 -- what is so after a number was stored
 pub record NumberKept (n : Numbers) (name : Telling) (w : ℕ) (r : NumberStored) : Type 0 where
+  -- the names that were there stay, and the variable's is at its entry
+  pub names : (i : ℕ) → i < n .count → nameAt (r .numbers .names) i ≡ nameAt (n .names) i
+  pub more : n .count ≤ r .numbers .count
+  pub slot : r .ok ≡ true → (r .slot < r .numbers .count) × (alike (nameAt (r .numbers .names) (r .slot)) name ≡ true)
   -- it is refused exactly when the table is full
   pub ok : r .ok ≡ not (numbersFull (numbersHeld n) name)
   -- otherwise the variable has it
@@ -80,7 +85,11 @@ module _ (n : Numbers) (name : Telling) (w : ℕ) (y : TidyNumbers n) where
 
   number-replaced : (i : ℕ) → i < n .count → First name numberNames i → NumberKept n name w (numberReplaced n i w)
   number-replaced i h f =
+      let l = names-length (n .count) (n .names) in
       record {
+        names = λ k g. refl;
+        more = omega arith;
+        slot = λ _. (h, rw (name-is (n .count) (n .names) i name h) at (first-has name f));
         ok = rw (first-number f (n .words) worded);
         held = λ _. sym (first-set f (n .words) w worded);
         refused = λ e. absurd (false≢true (sym e));
@@ -90,13 +99,17 @@ module _ (n : Numbers) (name : Telling) (w : ℕ) (y : TidyNumbers n) where
           worded = simp length-set (y .worded);
           namesBlank = y .namesBlank;
           wordsBlank = values-behind (n .words) mostVariables (n .count) w (y .wordsBlank) i h;
+          apart = y .apart;
         };
       }
 
-  number-full : mostVariables ≤ n .count → Absent name numberNames → NumberKept n name w (record { ok = false; numbers = n })
+  number-full : mostVariables ≤ n .count → Absent name numberNames → NumberKept n name w (record { ok = false; slot = n .count; numbers = n })
   number-full h a =
       let l : mostVariables ≤ length (numbersHeld n) = rw (number-count numberNames (n .words) worded, names-length) h in
       record {
+        names = λ k g. refl;
+        more = omega arith;
+        slot = λ e. absurd (false≢true e);
         ok = rw (absent-number a (n .words), le-leb mostVariables _ l);
         held = λ e. absurd (false≢true e);
         refused = λ _. refl;
@@ -107,13 +120,17 @@ module _ (n : Numbers) (name : Telling) (w : ℕ) (y : TidyNumbers n) where
       → NumberKept n name w
       (record {
         ok = true;
-        numbers = record { names = withName (n .names) (n .count) name; words = set (n .words) (n .count) w; count = n .count + 1 };
+        slot = n .count;
+        numbers = numbersOf (withName (n .names) (n .count) name) (set (n .words) (n .count) w) (n .count + 1);
       })
   number-more h a =
       let l : length (numbersHeld n) < mostVariables = rw (number-count numberNames (n .words) worded, names-length) h in
       let k : 2 * n .count + 1 < length (n .names) = omega (arith, y .named) in
       let c = names-length (n .count) (n .names) in
       record {
+        names = names-kept (n .names) (n .count) name k;
+        more = omega arith;
+        slot = λ _. (omega arith, name-put (n .names) (n .count) name k);
         ok = rw (absent-number a (n .words), lt-leb mostVariables _ l);
         held = λ _. rw (names-more (n .names) (n .count) name k)
             (numbers-more numberNames name (set (n .words) (n .count) w) (simp length-set (omega (arith, y .worded)))
@@ -129,6 +146,7 @@ module _ (n : Numbers) (name : Telling) (w : ℕ) (y : TidyNumbers n) where
           worded = simp length-set (y .worded);
           namesBlank = names-after (n .names) (n .count) name k 128 (y .namesBlank);
           wordsBlank = values-after (n .words) mostVariables (n .count) w (y .wordsBlank);
+          apart = rw (names-more (n .names) (n .count) name k) (apart-more numberNames name (y .apart) a);
         };
       }
 
@@ -140,3 +158,8 @@ module _ (n : Numbers) (name : Telling) (w : ℕ) (y : TidyNumbers n) where
 
   pub number-stored : NumberKept n name w (numberStored n name w)
   number-stored = number-way (way (n .names) (n .count) name (y .few))
+
+  -- a variable by its entry
+  pub number-at : (i : ℕ) → i < n .count → numberStored n (nameAt (n .names) i) w ≡ numberReplaced n i w
+  number-at i h =
+      number-old n (nameAt (n .names) i) w i (name-slot (n .names) (n .count) (y .few) (y .apart) i (nameAt (n .names) i) h (alike-self (nameAt (n .names) i))) h

@@ -10,12 +10,11 @@ use lib.Seq.{length-take-le, take-append-seam, drop-append-seam, take-at, drop-a
 use Rattle.words.specs.declared.names.Telling.{Telling}
 use Rattle.space.proofs.Bounds.{by-bound}
 use Rattle.variables.specs.Variables.{setString, hasString, stringsFull, mostVariables}
-use Rattle.variables.specs.bridge.Memory.{stringsIn, stringsHeld, TidyStrings, withName, stringReplaced, stringStored, spaceReplaced, spaceStored}
+use Rattle.variables.specs.bridge.Memory.{StringStored, Absent, none, also, stringsOf, stringsIn, stringsHeld, TidyStrings, withName, stringReplaced, stringStored, spaceReplaced, spaceStored}
 use Rattle.variables.specs.Tables.{namesFrom, sumOf}
 use Rattle.variables.specs.declared.tables.Strings.{Strings}
-use Rattle.variables.specs.declared.assigning.StringStored.{StringStored}
 use Rattle.variables.proofs.Lookups.{names-length, First, here, later, sum-within, strings-kept}
-use Rattle.variables.proofs.Ways.{Absent, none, also, Way, old, new, way, string-old, string-new, space-old, space-new}
+use Rattle.variables.proofs.Ways.{Way, old, new, way, string-old, string-new, space-old, space-new}
 use Rattle.variables.proofs.Holding.{strings-same, string-count, used-sum}
 use Rattle.variables.proofs.Naming.{named-length, names-more, names-after, values-after, values-behind}
 use Rattle.variables.proofs.Replacing.{bytes-length, replaced-front, replaced-length}
@@ -161,7 +160,7 @@ module _ (t : Strings) (used : ℕ) (name : Telling) (space : List ℕ) (len : �
       → StringKept t used name space len
       (record {
         ok = true;
-        strings = record { names = withName (t .names) (t .count) name; lengths = set (t .lengths) (t .count) len; count = t .count + 1 };
+        strings = stringsOf (withName (t .names) (t .count) name) (set (t .lengths) (t .count) len) (t .count + 1);
         used = used + len;
       })
       space

@@ -11,7 +11,7 @@ use Rattle.words.proofs.Choices.{by-test}
 use Rattle.words.specs.Names.{alike}
 use Rattle.words.specs.declared.names.Telling.{Telling}
 use Rattle.space.proofs.Bounds.{by-bound}
-use Rattle.variables.specs.bridge.Memory.{numberAppended, numberReplaced, numberStored, stringAppended, stringReplaced, stringStored, spaceReplaced, spaceStored}
+use Rattle.variables.specs.bridge.Memory.{Absent, none, also, numberAppended, numberReplaced, numberStored, stringAppended, stringReplaced, stringStored, spaceReplaced, spaceStored}
 use Rattle.variables.specs.Tables.{namesFrom, namesIn, slotFrom, slotIn}
 use Rattle.variables.specs.declared.tables.Numbers.{Numbers}
 use Rattle.variables.specs.declared.tables.Strings.{Strings}
@@ -22,10 +22,6 @@ use Rattle.variables.proofs.Lookups.{names-length, First, here, later, 
 use Rattle.whole.proofs.Never.{never}
 
 -- ---- names that are not among others
-
-pub data Absent (name : Telling) : List Telling → Type 0 where
-  none : Absent name []
-  also : {n : Telling} {ns : List Telling} → alike n name ≡ false → Absent name ns → Absent name (n ∷ ns)
 
 -- the first entry with a name is among the front ones
 first-within : {name : Telling} {i : ℕ} (a b : List Telling) → First name (a ++ b) i → i < length a → First name a i

@@ -1,14 +1,13 @@
-// Assignment to variables, old and new, and the space at the end of a run.
+// Assignment to variables, old and new, in tables that are lent, and the space at the end of a run.
 ghost use mathlib.Core.Path.{_≡_};
-ghost use Prim.Native.Nat.{_+_, _≤_, _<_};
+ghost use mathlib.Core.List.{List};
+ghost use Prim.Native.Nat.{ℕ, _+_, _≤_, _<_};
 ghost use lib.ListN.{length, take, drop};
 ghost use Rattle.space.specs.Moves.{cleared};
-ghost use Rattle.variables.specs.bridge.Memory.{numberAppended, numberStored, stringAppended, stringReplaced, stringStored, spaceReplaced, spaceStored, Storable};
+ghost use Rattle.variables.specs.bridge.Memory.{withName, numbersOf, stringsOf, numbersLeft, stringsLeft, numberAppended, numberStored, stringAppended, stringReplaced, stringStored, bytesReplaced, spaceReplaced, spaceStored, Storable};
 ghost use Rattle.variables.specs.Variables.{mostVariables};
 ghost use Rattle.whole.specs.Texts.{longestString};
-use crate::tables::Numbers;
 use crate::tables::Slot;
-use crate::tables::Strings;
 use crate::tables::Tables;
 use crate::tables::offset_of;
 use crate::tables::slot_of;
@@ -20,157 +19,202 @@ use space::move_bytes;
 use whole::Text;
 use words::Telling;
 
-// The table after an assignment, or no room for a new variable.
-pub struct NumberStored {
+// A number was stored, or there is no room for a new variable: its entry, and how many number variables there are then.
+pub struct NumberPut {
     pub ok: bool,
-    pub numbers: Numbers,
+    pub slot: usize,
+    pub count: usize,
 }
 
-// The same of a string, and how many bytes all strings have then.
-pub struct StringStored {
+// The same of a string: how many string variables there are then, and where all their bytes end.
+pub struct StringPut {
     pub ok: bool,
-    pub strings: Strings,
-    pub used: usize,
+    pub count: usize,
+    pub used: Offset,
+}
+
+fn put_name(names: &mut [u8; 128], slot: usize, name: Telling)
+    requires { ⌜ slot < mostVariables ⌝ }
+    ensures { λ _. ⌜ now (names .exit) ≡ withName (now (names .entry)) slot name ⌝ }
+{
+    let at = 2 * slot;
+    names[at] = name.first;
+    names[at + 1] = name.second;
 }
 
 // A new number variable after the others, if there is room.
-fn appended_number(numbers: Numbers, name: Telling, word: u16) -> NumberStored
-    ensures { λ r. ⌜ r ≡ numberAppended numbers name word ⌝ }
+fn append_number(
+    names: &mut [u8; 128],
+    words: &mut [u16; Tables::MOST],
+    count: usize,
+    name: Telling,
+    word: u16,
+) -> NumberPut
+    ensures { λ r. ⌜
+        numbersLeft r (now (names .exit)) (now (words .exit)) ≡ numberAppended (numbersOf (now (names .entry)) (now (words .entry)) count) name word
+        ⌝ }
 {
-    let slot = numbers.count;
-    if Tables::MOST <= slot {
-        return NumberStored { ok: false, numbers };
+    if Tables::MOST <= count {
+        return NumberPut {
+            ok: false,
+            slot: count,
+            count,
+        };
     }
-    let at = 2 * slot;
-    let mut next = numbers;
-    next.names[at] = name.first;
-    next.names[at + 1] = name.second;
-    next.words[slot] = word;
-    next.count = slot + 1;
-    NumberStored {
+    put_name(names, count, name);
+    words[count] = word;
+    NumberPut {
         ok: true,
-        numbers: next,
+        slot: count,
+        count: count + 1,
     }
 }
 
 // A number variable is set; a 65th has no room.
-pub fn store_number(numbers: Numbers, name: Telling, word: u16) -> NumberStored
-    ensures { λ r. ⌜ r ≡ numberStored numbers name word ⌝ }
+pub fn store_number(
+    names: &mut [u8; 128],
+    words: &mut [u16; Tables::MOST],
+    count: usize,
+    name: Telling,
+    word: u16,
+) -> NumberPut
+    ensures { λ r. ⌜
+        numbersLeft r (now (names .exit)) (now (words .exit)) ≡ numberStored (numbersOf (now (names .entry)) (now (words .entry)) count) name word
+        ⌝ }
 {
-    let names = numbers.names;
-    match slot_of(&names, name) {
-        Slot::None => appended_number(numbers, name, word),
+    match slot_of(names, name) {
+        Slot::None => append_number(names, words, count, name, word),
         Slot::At(slot) => {
-            if numbers.count <= slot {
-                return appended_number(numbers, name, word);
+            if count <= slot {
+                return append_number(names, words, count, name, word);
             }
-            let mut next = numbers;
-            next.words[slot] = word;
-            NumberStored {
+            words[slot] = word;
+            NumberPut {
                 ok: true,
-                numbers: next,
+                slot,
+                count,
             }
         }
     }
 }
 
 // The new bytes stand right after all strings' already.
-fn appended_string(strings: Strings, used: usize, name: Telling, len: u8) -> StringStored
-    requires { ⌜ used + len < 18446744073709551616 ⌝ }
-    ensures { λ r. ⌜ r ≡ stringAppended strings used name len ⌝ }
+fn append_string(
+    names: &mut [u8; 128],
+    lengths: &mut [u8; Tables::MOST],
+    count: usize,
+    used: Offset,
+    name: Telling,
+    len: u8,
+) -> StringPut
+    requires { ⌜ used .0 + len < 18446744073709551616 ⌝ }
+    ensures { λ r. ⌜
+        stringsLeft r (now (names .exit)) (now (lengths .exit)) ≡ stringAppended (stringsOf (now (names .entry)) (now (lengths .entry)) count) (used .0) name len
+        ⌝ }
 {
-    let slot = strings.count;
-    if Tables::MOST <= slot {
-        return StringStored {
+    if Tables::MOST <= count {
+        return StringPut {
             ok: false,
-            strings,
+            count,
             used,
         };
     }
-    let at = 2 * slot;
-    let mut next = strings;
-    next.names[at] = name.first;
-    next.names[at + 1] = name.second;
-    next.lengths[slot] = len;
-    next.count = slot + 1;
-    let all = used + wide(len);
-    StringStored {
+    put_name(names, count, name);
+    lengths[count] = len;
+    StringPut {
         ok: true,
-        strings: next,
-        used: all,
+        count: count + 1,
+        used: Offset(used.0 + wide(len)),
     }
 }
 
 // The new bytes, which stand right after all strings', as they are kept while the others move.
-fn kept_bytes(space: &[u8], from: usize, len: usize) -> [u8; Text::LONGEST]
-    requires { ⌜ (len ≤ longestString) × (from + len ≤ length (now space)) ⌝ }
-    ensures { λ r. ⌜ take len r ≡ take len (drop from (now (space .entry))) ⌝ }
+fn kept_bytes(space: &[u8], from: Offset, len: usize) -> [u8; Text::LONGEST]
+    requires { ⌜ (len ≤ longestString) × (from .0 + len ≤ length (now space)) ⌝ }
+    ensures { λ r. ⌜ take len r ≡ take len (drop (from .0) (now (space .entry))) ⌝ }
 {
     let mut bytes = [0; Text::LONGEST];
     let mut i = 0;
     while i < len {
-        bytes[i] = space[from + i];
+        bytes[i] = space[from.0 + i];
         i += 1;
     }
     bytes
 }
 
 // The new bytes take the old ones' place; the later strings' move up or down.
-fn replaced(strings: Strings, used: usize, slot: usize, space: &mut [u8], len: u8) -> StringStored
-    requires { ⌜ Storable strings used (now space) len × (slot < mostVariables) ⌝ }
+fn replace_bytes(space: &mut [u8], start: Offset, old: usize, used: Offset, len: usize)
+    requires { ⌜ (start .0 + old ≤ used .0) × ((used .0 + len ≤ length (now space)) × (len ≤ longestString)) ⌝ }
+    ensures { λ _. ⌜ now (space .exit) ≡ bytesReplaced (start .0) old (used .0) (now (space .entry)) len ⌝ }
+{
+    if old == len {
+        move_bytes(space, used, start, len);
+        return;
+    }
+    let later = start.0 + old;
+    let rest = used.0 - later;
+    let bytes = kept_bytes(space, used, len);
+    move_bytes(space, Offset(later), Offset(start.0 + len), rest);
+    copy_in(space, start, &bytes[..len]);
+}
+
+// An old string variable, by its entry.
+fn replace_string(
+    lengths: &mut [u8; Tables::MOST],
+    count: usize,
+    used: Offset,
+    slot: usize,
+    space: &mut [u8],
+    len: u8,
+) -> StringPut
+    requires { ⌜ Storable (now lengths) (used .0) (now space) len × (slot < mostVariables) ⌝ }
     ensures { λ r. ⌜
-        (r ≡ stringReplaced strings used slot len)
-        × (now (space .exit) ≡ spaceReplaced (strings .lengths) used slot (now (space .entry)) len)
+        ((names : List ℕ) → stringsLeft r names (now (lengths .exit)) ≡ stringReplaced (stringsOf names (now (lengths .entry)) count) (used .0) slot len)
+        × (now (space .exit) ≡ spaceReplaced (now (lengths .entry)) (used .0) slot (now (space .entry)) len)
         ⌝ }
 {
-    let lengths = strings.lengths;
-    let count = wide(len);
-    let start = offset_of(&lengths, slot);
     let old = wide(lengths[slot]);
-    let later = start + old;
-    let bytes = kept_bytes(space, used, count);
-    let target = start + count;
-    let rest = used - later;
-    move_bytes(space, Offset(later), Offset(target), rest);
-    copy_in(space, Offset(start), &bytes[..count]);
-    let mut next = strings;
-    next.lengths[slot] = len;
-    let all = used - old + count;
-    StringStored {
+    let start = offset_of(lengths, slot);
+    let long = wide(len);
+    replace_bytes(space, start, old, used, long);
+    lengths[slot] = len;
+    StringPut {
         ok: true,
-        strings: next,
-        used: all,
+        count,
+        used: Offset(used.0 - old + long),
     }
 }
 
 // A string variable is given the finished text of `len` bytes that stands right after all strings'; a 65th has no room.
 pub fn store_string(
-    strings: Strings,
-    used: usize,
+    names: &mut [u8; 128],
+    lengths: &mut [u8; Tables::MOST],
+    count: usize,
+    used: Offset,
     name: Telling,
     space: &mut [u8],
     len: u8,
-) -> StringStored
-    requires { ⌜ Storable strings used (now space) len ⌝ }
+) -> StringPut
+    requires { ⌜ Storable (now lengths) (used .0) (now space) len ⌝ }
     ensures { λ r. ⌜
-        (r ≡ stringStored strings used name len) × (now (space .exit) ≡ spaceStored strings used name (now (space .entry)) len)
+        (stringsLeft r (now (names .exit)) (now (lengths .exit)) ≡ stringStored (stringsOf (now (names .entry)) (now (lengths .entry)) count) (used .0) name len)
+        × (now (space .exit) ≡ spaceStored (stringsOf (now (names .entry)) (now (lengths .entry)) count) (used .0) name (now (space .entry)) len)
         ⌝ }
 {
-    let names = strings.names;
-    match slot_of(&names, name) {
-        Slot::None => appended_string(strings, used, name, len),
+    match slot_of(names, name) {
+        Slot::None => append_string(names, lengths, count, used, name, len),
         Slot::At(slot) => {
-            if strings.count <= slot {
-                return appended_string(strings, used, name, len);
+            if count <= slot {
+                return append_string(names, lengths, count, used, name, len);
             }
-            replaced(strings, used, slot, space, len)
+            replace_string(lengths, count, used, slot, space, len)
         }
     }
 }
 
 // Zeros after the strings' bytes.
-pub fn clean_up(space: &mut [u8], used: usize)
-    ensures { λ _. ⌜ now (space .exit) ≡ cleared (now (space .entry)) used ⌝ }
+pub fn clean_up(space: &mut [u8], used: Offset)
+    ensures { λ _. ⌜ now (space .exit) ≡ cleared (now (space .entry)) (used .0) ⌝ }
 {
-    clear_from(space, Offset(used));
+    clear_from(space, used);
 }

@@ -3,8 +3,8 @@ mod assigning;
 mod tables;
 mod values;
 
-pub use assigning::NumberStored;
-pub use assigning::StringStored;
+pub use assigning::NumberPut;
+pub use assigning::StringPut;
 pub use assigning::clean_up;
 pub use assigning::store_number;
 pub use assigning::store_string;

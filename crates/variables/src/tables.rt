@@ -4,6 +4,7 @@ ghost use Prim.Native.Nat.{_<_, min};
 ghost use lib.ListN.{take};
 ghost use Rattle.variables.specs.Tables.{slotIn, sumOf, emptyTables};
 ghost use Rattle.variables.specs.Variables.{mostVariables};
+use space::Offset;
 use words::Telling;
 
 // The number variables: two bytes of name each, and a word.
@@ -77,9 +78,9 @@ pub fn wide(byte: u8) -> usize
     byte as usize
 }
 
-// How many bytes the strings before an entry have together.
-pub fn offset_of(lengths: &[u8; Tables::MOST], slot: usize) -> usize
-    ensures { λ r. ⌜ r ≡ sumOf (take (min slot mostVariables) (now (lengths .entry))) ⌝ }
+// Where the string of an entry begins: as far in as those before it have bytes together.
+pub fn offset_of(lengths: &[u8; Tables::MOST], slot: usize) -> Offset
+    ensures { λ r. ⌜ r .0 ≡ sumOf (take (min slot mostVariables) (now (lengths .entry))) ⌝ }
 {
     let mut sum = 0;
     let mut i = 0;
@@ -87,5 +88,5 @@ pub fn offset_of(lengths: &[u8; Tables::MOST], slot: usize) -> usize
         sum += wide(lengths[i]);
         i += 1;
     }
-    sum
+    Offset(sum)
 }

@@ -4,6 +4,7 @@ ghost use Prim.Native.Nat.{_+_};
 ghost use lib.Dec.{leb};
 ghost use lib.ListN.{length};
 ghost use Rattle.variables.specs.bridge.Memory.{answeredAs, mismatchOf, textLength};
+use space::Offset;
 use space::fits;
 use whole::Answer;
 use whole::Error;
@@ -49,8 +50,8 @@ pub fn text_length(worked: Worked) -> usize
 }
 
 // Whether so many bytes can be asked for while others are live: 14 exactly when they exceed the space.
-pub fn has_room(space: &[u8], live: usize, asked: usize) -> bool
-    ensures { λ r. ⌜ r ≡ leb (live + asked) (length (now (space .entry))) ⌝ }
+pub fn has_room(space: &[u8], live: Offset, asked: usize) -> bool
+    ensures { λ r. ⌜ r ≡ leb (live .0 + asked) (length (now (space .entry))) ⌝ }
 {
     fits(space.len(), live, asked)
 }

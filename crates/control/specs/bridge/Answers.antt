@@ -1,11 +1,11 @@
 -- Bridge: what the code of jumps, IF, FOR and NEXT is asked, and what it answers.
 -- The contracts of functions inside this crate cite it; no demand and no promise of run, check_recipe or ask rests on it.
 use mathlib.Core.Path.{_≡_}
-use mathlib.Core.Bool.{true, false, cond}
+use mathlib.Core.Bool.{Bool, true, false, cond}
 use mathlib.Core.List.{List}
 use Prim.Native.Nat.{ℕ, _+_, _≤_}
-use lib.Dec.{leb}
-use lib.ListN.{length}
+use lib.Dec.{leb, ltb}
+use lib.ListN.{length, getD, set}
 use Rattle.whole.specs.declared.errors.Error.the-variants.{OutOfMemory}
 use Rattle.words.specs.declared.names.Name.{Name}
 use Rattle.words.specs.Places.{place, longestLine}
@@ -24,41 +24,62 @@ use Rattle.reader.specs.declared.branches.Start.{Start}
 use Rattle.reader.specs.declared.branches.Start.the-variants as branch
 use Rattle.formulas.specs.bridge.Memory.{Scans}
 use Rattle.machine.specs.Machine.{mostRecords}
-use Rattle.machine.specs.bridge.Holding.{loopRecord}
-use Rattle.machine.specs.declared.state.Machine.{Machine}
+use Rattle.machine.specs.Machine as spec
+use Rattle.machine.specs.bridge.Holding.{loopRecord, State}
 use Rattle.machine.specs.declared.positions.Position.{Position}
-use Rattle.machine.specs.declared.positions.Turned.{Turned}
 use Rattle.machine.specs.declared.positions.Next.{Next}
 use Rattle.machine.specs.declared.positions.Next.the-variants as next
 use Rattle.machine.specs.declared.records.Record.{Record}
 use Rattle.machine.specs.declared.records.Found.{Found}
 use Rattle.machine.specs.declared.records.Found.the-variants as found
-use Rattle.turns.specs.bridge.Turns.{turnedTo, withDepth, numberSet}
+use Rattle.variables.specs.Variables.{mostVariables}
+use Rattle.variables.specs.bridge.Memory.{numbersOf}
+use Rattle.turns.specs.bridge.Turns.{Turn, turnedTo, withTables, withDepth, numberSet}
 
 -- a record more, written above the others, if there is room
-abbrev pub pushedTurn : Machine → Record → Next → Turned
+abbrev pub pushedTurn : State → Record → Next → Turn
 pushedTurn m held n =
     cond (leb mostRecords (m .depth)) (turnedTo m (next.Fails OutOfMemory))
-    (record { machine = withDepth m (m .depth + 1); next = n; slot = m .depth; held = held })
+    (record { state = withDepth m (m .depth + 1); next = n; slot = m .depth; held = held })
 
 -- a part of the line is entered, or the line is over
-abbrev pub takenTurn : Machine → Place → Start → Turned
+abbrev pub takenTurn : State → Place → Start → Turn
 takenTurn m line (branch.At at) = turnedTo m (next.On (record { line = line; at = at; over = false }))
 takenTurn m line branch.None = turnedTo m (next.On (record { line = line; at = place 0; over = true }))
 
 -- ---- FOR
 
 -- an older loop of the variable is dropped with all above it
-abbrev pub droppedTo : Machine → Found → Machine
+abbrev pub droppedTo : State → Found → State
 droppedTo m (found.At i) = withDepth m i
 droppedTo m found.None = m
 
 -- the variable is set, an older loop of it is dropped, then a record is made
-abbrev pub loopTurn : Machine → Telling → ℕ → ℕ → ℕ → Position → Found → Turned
+abbrev pub loopTurn : State → Telling → ℕ → ℕ → ℕ → Position → Found → Turn
 loopTurn m name from limit step back f =
-    cond (numberSet m name from .ok)
-    (pushedTurn (droppedTo (numberSet m name from .machine) f) (loopRecord name limit step back) (next.On back))
-    (turnedTo (numberSet m name from .machine) (next.Fails OutOfMemory))
+    let set = numberSet m name from in
+    cond (set .ok)
+    (pushedTurn (droppedTo (set .state) f) (loopRecord (set .slot) limit step back) (next.On back))
+    (turnedTo (set .state) (next.Fails OutOfMemory))
+
+-- ---- NEXT
+
+-- the number at an entry of the table
+abbrev pub wordIn : List ℕ → ℕ → ℕ
+wordIn words slot = cond (ltb slot mostVariables) (getD words slot 0) 0
+
+-- and another there, where it is the entry of one of so many variables
+abbrev pub wordsSet : ℕ → List ℕ → ℕ → ℕ → List ℕ
+wordsSet numbers words slot w = cond (ltb slot numbers) (cond (ltb slot mostVariables) (set words slot w) words) words
+
+abbrev pub wordSet : State → ℕ → ℕ → State
+wordSet m slot w =
+    let n = m .tables .numbers in
+    withTables m (record { numbers = numbersOf (n .names) (wordsSet (n .count) (n .words) slot w) (n .count); strings = m .tables .strings }) (m .used)
+
+-- a test that no GOSUB's record passes
+abbrev pub LoopsOnly : (spec.Record → Bool) → Type 0
+LoopsOnly test = (p : spec.Position) → test (spec.call p) ≡ false
 
 -- the step of a FOR, from STEP on, if it stands; it is 1 if left out
 abbrev pub stepOf : List ℕ → Scanned → Reading

@@ -13,6 +13,8 @@ use Rattle.variables.specs.Strings.{make}
 use Rattle.formulas.specs.bridge.Memory.{Scans}
 use Rattle.machine.specs.Machine as spec
 use Rattle.machine.specs.Machine.{roomOf}
+use Rattle.machine.specs.declared.state.Machine.{Machine}
+use Rattle.variables.specs.Tables.{sumOf}
 use Rattle.turns.specs.Steps as step
 use Rattle.turns.specs.Steps.{goesOn, worked, filled, inputLine}
 
@@ -32,3 +34,8 @@ pub record Asks (line : List ℕ) (first : Scanned) : Type 0 where
   pub target : Variable
   pub end : Scanned
   pub is : inputAt line first ≡ done (tree.lineInput prompt target) end
+
+-- the strings' bytes stand at the front of the space, and end where the machine says
+pub record Laid (m : Machine) (lengths space : List ℕ) : Type 0 where
+  pub all : sumOf lengths ≡ m .used .0
+  pub within : m .used .0 ≤ length space

@@ -25,16 +25,14 @@ use Rattle.variables.specs.declared.values.Worked.{Worked}
 use Rattle.variables.specs.declared.values.Worked.the-variants as worked
 use Rattle.machine.specs.Machine as spec
 use Rattle.machine.specs.Machine.{roomOf, commaBlanks}
-use Rattle.machine.specs.bridge.Holding.{printedAs, Fitting, Same}
-use Rattle.machine.specs.declared.state.Machine.{Machine}
+use Rattle.machine.specs.bridge.Holding.{State, printedAs, Fitting, Same}
 use Rattle.machine.specs.declared.state.Printer.{Printer}
-use Rattle.machine.specs.declared.positions.Turned.{Turned}
 use Rattle.machine.specs.declared.positions.Next.the-variants as next
 use Rattle.machine.specs.declared.printing.Printed.{Printed}
 use Rattle.machine.specs.declared.records.Record.{Record}
 use Rattle.turns.specs.Steps as step
 use Rattle.turns.specs.Steps.{fails, written, shownValue}
-use Rattle.turns.specs.bridge.Turns.{turnedTo, afterOf, Leads, withPrinter}
+use Rattle.turns.specs.bridge.Turns.{Turn, turnedTo, afterOf, Leads, withPrinter}
 use Rattle.dialogue.specs.declared.outputting.Shown.{Shown}
 use Rattle.dialogue.specs.declared.outputting.Shown.the-variants as answer
 
@@ -92,7 +90,7 @@ Onward (answer.On p t) u = t ≡ u
 Onward (answer.Fault e) u = Unit {0}
 
 -- the memory and the machine after it
-pub record Shows (m : Machine) (i : Item) (u : Scanned) (space room : List ℕ) (r : Shown) (space′ room′ : List ℕ) : Type 0 where
+pub record Shows (m : State) (i : Item) (u : Scanned) (space room : List ℕ) (r : Shown) (space′ room′ : List ℕ) : Type 0 where
   pub spaceLong : length space′ ≡ length space
   pub roomLong : length room′ ≡ length room
   pub fitting : Fitting (printerOf (m .printer) r) room′
@@ -108,12 +106,12 @@ pub record Shows (m : Machine) (i : Item) (u : Scanned) (space room : List ℕ) 
 abbrev pub lineEnd : List ℕ
 lineEnd = 13 ∷ 10 ∷ []
 
-abbrev pub endWritten : Machine → Printed → Place → Scanned → Turned
+abbrev pub endWritten : State → Printed → Place → Scanned → Turn
 endWritten m p here t =
     cond (p .ok) (turnedTo (withPrinter m (p .printer)) (next.On (afterOf here t))) (turnedTo m (next.Fails OutputFull))
 
 -- without a final `,` or `;` it is written
-abbrev pub endedTurn : Machine → Bool → ℕ → Place → Scanned → Turned
+abbrev pub endedTurn : State → Bool → ℕ → Place → Scanned → Turn
 endedTurn m quiet long here t =
     cond quiet (turnedTo m (next.On (afterOf here t))) (endWritten m (printedAs (m .printer) long lineEnd) here t)
 

@@ -7,14 +7,14 @@ use Prim.Native.Nat.{ℕ, zero, suc, _+_, _≤_, _<_}
 use lib.Dec.{leb, eqb}
 use lib.ListN.{length, getD, take, drop}
 use Rattle.words.specs.Places.{place}
-use Rattle.words.specs.declared.names.Telling.{Telling}
 use Rattle.words.specs.declared.symbols.Scanned.{Scanned}
 use Rattle.loader.specs.Lines.{Line, linesFrom, linesOf, afterNumber}
 use Rattle.grammar.specs.Trees.{Part}
 use Rattle.statements.specs.Statements.{PartReading, badPart, goodPart, partOf}
 use Rattle.variables.specs.Variables.{Variables}
-use Rattle.variables.specs.bridge.Memory.{numbersHeld, stringsHeld, TidyNumbers, TidyStrings}
-use Rattle.variables.specs.Tables.{sumOf, emptyTables}
+use Rattle.variables.specs.bridge.Memory.{nameAt, numbersOf, stringsOf, numbersHeld, stringsHeld, TidyNumbers, TidyStrings}
+use Rattle.variables.specs.Tables.{sumOf}
+use Rattle.variables.specs.declared.tables.Tables.{Tables}
 use Rattle.variables.specs.Strings.{longestSpace}
 use Rattle.machine.specs.Machine as spec
 use Rattle.machine.specs.Machine.{loop, call, mostRecords, columnAfter}
@@ -77,11 +77,8 @@ pub record Positioned (text : List ℕ) (q : Position) : Type 0 where
 
 -- ---- records
 
-abbrev pub noName : Telling
-noName = record { first = 0; second = 0 }
-
 abbrev pub blankRecord : Record
-blankRecord = record { kind = 0; name = noName; limit = 0; step = 0; line = place 0; at = place 0; over = 0 }
+blankRecord = record { kind = 0; over = 0; limit = 0; step = 0; slot = 0; line = place 0; at = place 0 }
 
 abbrev callKind : ℕ
 callKind = 1
@@ -102,20 +99,21 @@ overNumber over = cond over 1 0
 
 abbrev pub callRecord : Position → Record
 callRecord back =
-    record { kind = callKind; name = noName; limit = 0; step = 0; line = back .line; at = back .at; over = overNumber (back .over) }
+    record { kind = callKind; over = overNumber (back .over); limit = 0; step = 0; slot = 0; line = back .line; at = back .at }
 
-abbrev pub loopRecord : Telling → ℕ → ℕ → Position → Record
-loopRecord name limit step back =
-    record { kind = countKind; name = name; limit = limit; step = step; line = back .line; at = back .at; over = overNumber (back .over) }
+abbrev pub loopRecord : ℕ → ℕ → ℕ → Position → Record
+loopRecord slot limit step back =
+    record { kind = countKind; over = overNumber (back .over); limit = limit; step = step; slot = slot; line = back .line; at = back .at }
 
-abbrev pub recordOf : List ℕ → Record → spec.Record
-recordOf text e =
-    cond (counts e) (loop (e .name) (e .limit) (e .step) (positionOf text (backOf e))) (call (positionOf text (backOf e)))
+-- a loop's variable is the one whose name stands at the entry
+abbrev pub recordOf : List ℕ → List ℕ → Record → spec.Record
+recordOf text names e =
+    cond (counts e) (loop (nameAt names (e .slot)) (e .limit) (e .step) (positionOf text (backOf e))) (call (positionOf text (backOf e)))
 
 -- the first so many of some, the topmost first
-unfoldable pub recordsIn : List ℕ → List Record → ℕ → List spec.Record
-recordsIn text rs zero = []
-recordsIn text rs (suc d) = recordOf text (getD rs d blankRecord) ∷ recordsIn text rs d
+unfoldable pub recordsIn : List ℕ → List ℕ → List Record → ℕ → List spec.Record
+recordsIn text names rs zero = []
+recordsIn text names rs (suc d) = recordOf text names (getD rs d blankRecord) ∷ recordsIn text names rs d
 
 -- ---- printing
 
@@ -129,20 +127,41 @@ printedAs p long bytes =
 
 abbrev pub freshMachine : Machine
 freshMachine = record {
-  tables = emptyTables;
-  used = 0;
+  numbers = 0;
+  strings = 0;
+  used = record { 0 = 0 };
   printer = record { column = 0; written = 0 };
-  taken = 0;
+  taken = place 0;
   steps = 0;
   depth = 0;
 }
 
-abbrev pub variablesOf : Machine → List ℕ → Variables
+-- the machine with the tables that are lent beside it
+pub record State : Type 0 where
+  pub tables : Tables
+  pub used : ℕ
+  pub printer : Printer
+  pub taken : ℕ
+  pub steps : ℕ
+  pub depth : ℕ
+
+-- number variables' names and words, string variables' names and lengths
+abbrev pub stateOf : Machine → List ℕ → List ℕ → List ℕ → List ℕ → State
+stateOf m names words labels lengths = record {
+  tables = record { numbers = numbersOf names words (m .numbers); strings = stringsOf labels lengths (m .strings) };
+  used = m .used .0;
+  printer = m .printer;
+  taken = m .taken .0;
+  steps = m .steps;
+  depth = m .depth;
+}
+
+abbrev pub variablesOf : State → List ℕ → Variables
 variablesOf m space =
     record { numbers = numbersHeld (m .tables .numbers); strings = stringsHeld (m .tables .strings) space }
 
 -- what holds of its tables and the space
-pub record Settled (m : Machine) (space : List ℕ) : Type 0 where
+pub record Settled (m : State) (space : List ℕ) : Type 0 where
   pub numbers : TidyNumbers (m .tables .numbers)
   pub strings : TidyStrings (m .tables .strings)
   pub all : sumOf (m .tables .strings .lengths) ≡ m .used
@@ -155,16 +174,21 @@ pub record Fitting (p : Printer) (room : List ℕ) : Type 0 where
   pub within : p .written ≤ length room
 
 -- and of all of it, at every statement
-pub record Sound (m : Machine) (input space room : List ℕ) : Type 0 where
+pub record Sound (m : State) (input space room : List ℕ) : Type 0 where
   pub settled : Settled m space
   pub fitting : Fitting (m .printer) room
   pub taken : m .taken ≤ length input
   pub deep : m .depth ≤ mostRecords
 
+-- a record comes back to a place where a statement stands, and a loop's variable is one of so many
+pub record Placed (text : List ℕ) (numbers : ℕ) (e : Record) : Type 0 where
+  pub back : Positioned text (backOf e)
+  pub known : counts e ≡ true → e .slot < numbers
+
 -- the definition's machine that it holds; only the highest number of unfinished strings is the definition's alone
-pub record Same (text : List ℕ) (rs : List Record) (m : Machine) (input space room : List ℕ) (n : spec.Machine) : Type 0 where
+pub record Same (text : List ℕ) (rs : List Record) (m : State) (input space room : List ℕ) (n : spec.Machine) : Type 0 where
   pub variables : n .variables ≡ variablesOf m space
-  pub records : n .records ≡ recordsIn text rs (m .depth)
+  pub records : n .records ≡ recordsIn text (m .tables .numbers .names) rs (m .depth)
   pub column : n .column ≡ m .printer .column
   pub output : n .output ≡ take (m .printer .written) room
   pub outputRoom : n .outputRoom ≡ length room
@@ -172,5 +196,4 @@ pub record Same (text : List ℕ) (rs : List Record) (m : Machine) (input space 
   pub taken : n .taken ≡ m .taken
   pub steps : n .steps ≡ m .steps
   pub limit : n .space ≡ length space
-  -- every record comes back to a place where a statement stands
-  pub placed : (i : ℕ) → i < m .depth → Positioned text (backOf (getD rs i blankRecord))
+  pub placed : (i : ℕ) → i < m .depth → Placed text (m .tables .numbers .count) (getD rs i blankRecord)

@@ -1,39 +1,75 @@
--- Bridge: the record that a statement asks the code for.
+-- Bridge: the record that a statement asks for: the definition's test, and what the code looks for.
 -- The contracts of functions that crates use among themselves cite it; no demand and no promise of run, check_recipe or ask rests on it.
 use mathlib.Core.Path.{_≡_}
+use mathlib.Core.Bool.{Bool, false, cond}
 use mathlib.Core.List.{List}
 use Prim.Native.Nat.{ℕ}
+use lib.Dec.{ltb}
+use Rattle.words.specs.declared.names.Telling.{Telling}
 use Rattle.words.specs.declared.symbols.Scanned.{Scanned}
 use Rattle.grammar.specs.Tests.{onName}
 use Rattle.grammar.specs.Trees as tree
 use Rattle.grammar.specs.Trees.{Statement}
 use Rattle.statements.specs.Statements.{Begun, bad, done, choice, variableOf}
+use Rattle.variables.specs.Tables.{slotIn}
+use Rattle.variables.specs.declared.tables.Slot.{Slot}
+use Rattle.variables.specs.declared.tables.Slot.the-variants as slot
+use Rattle.machine.specs.Machine as spec
+use Rattle.machine.specs.Machine.{isCall, isLoop, isLoopOf}
 use Rattle.machine.specs.declared.records.Sought.{Sought}
 use Rattle.machine.specs.bridge.Wanted as sought
 
-abbrev pub soughtBy : Statement → Sought
-soughtBy tree.empty = sought.Nothing
-soughtBy (tree.assign v f) = sought.Nothing
-soughtBy (tree.print is) = sought.Nothing
-soughtBy (tree.ifThen c p) = sought.Nothing
-soughtBy (tree.ifElse c p q) = sought.Nothing
-soughtBy (tree.goto l) = sought.Nothing
-soughtBy (tree.gosub l) = sought.Nothing
-soughtBy tree.return = sought.Call
-soughtBy (tree.for v from to by) = sought.LoopOf (v .telling)
-soughtBy tree.next = sought.Loop
-soughtBy (tree.nextOf v) = sought.LoopOf (v .telling)
-soughtBy (tree.lineInput t v) = sought.Nothing
-soughtBy tree.end = sought.Nothing
-soughtBy tree.stop = sought.Nothing
-soughtBy tree.remark = sought.Nothing
+-- what a statement may ask for
+pub data Wish : Type 0 where
+  nothing : Wish
+  call : Wish
+  loop : Wish
+  loopOf : Telling → Wish
 
--- the record that is asked for is the one that is looked up
-abbrev pub Seeks : Sought → Begun → Type 0
-Seeks k bad = Unit {0}
-Seeks k (done x u) = k ≡ soughtBy x
-Seeks k (choice c u) = k ≡ sought.Nothing
+abbrev pub wishOf : Statement → Wish
+wishOf tree.empty = nothing
+wishOf (tree.assign v f) = nothing
+wishOf (tree.print is) = nothing
+wishOf (tree.ifThen c p) = nothing
+wishOf (tree.ifElse c p q) = nothing
+wishOf (tree.goto l) = nothing
+wishOf (tree.gosub l) = nothing
+wishOf tree.return = call
+wishOf (tree.for v from to by) = loopOf (v .telling)
+wishOf tree.next = loop
+wishOf (tree.nextOf v) = loopOf (v .telling)
+wishOf (tree.lineInput t v) = nothing
+wishOf tree.end = nothing
+wishOf tree.stop = nothing
+wishOf tree.remark = nothing
+
+-- the test that the definition makes
+abbrev pub testOf : Wish → spec.Record → Bool
+testOf nothing r = false
+testOf call r = isCall r
+testOf loop r = isLoop r
+testOf (loopOf name) r = isLoopOf name r
+
+-- what the code looks for: a variable that was never assigned has no loop
+abbrev pub bySlot : ℕ → Slot → Sought
+bySlot numbers slot.None = sought.Nothing
+bySlot numbers (slot.At i) = cond (ltb i numbers) (sought.LoopOf i) sought.Nothing
+
+abbrev pub loopSought : List ℕ → ℕ → Telling → Sought
+loopSought names numbers name = bySlot numbers (slotIn names name)
+
+abbrev pub soughtFor : List ℕ → ℕ → Wish → Sought
+soughtFor names numbers nothing = sought.Nothing
+soughtFor names numbers call = sought.Call
+soughtFor names numbers loop = sought.Loop
+soughtFor names numbers (loopOf name) = loopSought names numbers name
+
+-- the record that is looked up is the one that is asked for
+abbrev pub Seeks : List ℕ → ℕ → Sought → Begun → Type 0
+Seeks names numbers k bad = Unit {0}
+Seeks names numbers k (done x u) = k ≡ soughtFor names numbers (wishOf x)
+Seeks names numbers k (choice c u) = k ≡ sought.Nothing
 
 -- the loop's record that a FOR or a NEXT asks for
-abbrev pub soughtLoop : List ℕ → Scanned → Sought
-soughtLoop s t = onName (t .token) (λ v. sought.LoopOf (variableOf s v .telling)) sought.Loop
+abbrev pub soughtLoop : List ℕ → ℕ → List ℕ → Scanned → Sought
+soughtLoop names numbers s t = onName (t .token) (λ v. loopSought names numbers (variableOf s v .telling)) sought.Loop

@@ -13,10 +13,9 @@ use Rattle.rows.specs.bridge.Rows.{countOf, spanIn, Tabled}
 use Rattle.rows.specs.declared.cells.Row.{Row}
 use Rattle.machine.specs.Machine.{mostRecords}
 use Rattle.machine.specs.Machine as spec
-use Rattle.machine.specs.bridge.Holding.{linesAt, blankRecord, Sound, Same}
+use Rattle.machine.specs.bridge.Holding.{linesAt, blankRecord, State, Sound, Same}
 use Rattle.machine.specs.bridge.Seeking.{Seeks}
 use Rattle.machine.specs.bridge.Wanted.{foundIn, entryAt}
-use Rattle.machine.specs.declared.state.Machine.{Machine}
 use Rattle.machine.specs.declared.positions.Next.the-variants as next
 use Rattle.machine.specs.declared.records.Record.{Record}
 use Rattle.machine.specs.declared.records.Found.{Found}
@@ -27,7 +26,6 @@ use Rattle.runner.specs.Run as run
 use Rattle.runner.specs.bridge.Standings.{lineIn, Stood, StandsAs, Rowed}
 use Rattle.runner.specs.declared.going.Acted.{Acted}
 use Rattle.runner.specs.declared.going.Asked.{Asked}
-use Rattle.runner.specs.declared.going.Going.{Going}
 use Rattle.runner.specs.declared.going.Lookup.{Lookup}
 use Rattle.runner.specs.declared.standing.Standing.{Standing}
 use Rattle.runner.specs.declared.standing.Standing.the-variants as standing
@@ -53,13 +51,13 @@ pub record StandsAt (text rows : List ℕ) (s : Standing) : Type 0 where
   pub is : s ≡ standing.At row at
   pub here : At text rows (row .0) at
 
--- how it is led, and the record that it asks for
-pub record Asks (line : List ℕ) (at : Place) (asked : Asked) : Type 0 where
+-- how it is led, and the record that it asks for; the names are those of so many number variables
+pub record Asks (names : List ℕ) (numbers : ℕ) (line : List ℕ) (at : Place) (asked : Asked) : Type 0 where
   pub led : asked .lead ≡ leadOf line true (tokenAt line at)
-  pub seeks : Seeks (asked .sought) (begunBy line (asked .lead))
+  pub seeks : Seeks names numbers (asked .sought) (begunBy line (asked .lead))
 
-pub record AsksAt (text rows : List ℕ) (s : Standing) (asked : Asked) : Type 0 where
-  pub asks : (row : Row) (at : Place) → s ≡ standing.At row at → Asks (lineIn text (spanIn rows (row .0))) at asked
+pub record AsksAt (text rows names : List ℕ) (numbers : ℕ) (s : Standing) (asked : Asked) : Type 0 where
+  pub asks : (row : Row) (at : Place) → s ≡ standing.At row at → Asks names numbers (lineIn text (spanIn rows (row .0))) at asked
 
 abbrev pub seeksOne : Asked → Bool
 seeksOne asked = not (eqb (asked .sought .kind) 0)
@@ -81,33 +79,33 @@ pub record LooksUp (sought : Sought) (depth : ℕ) (rs : List Record) (lookup : 
 -- ---- the statement is done
 
 -- the machine that it begins with
-abbrev pub stepped : Machine → Machine
+abbrev pub stepped : State → State
 stepped m =
     record { tables = m .tables; used = m .used; printer = m .printer; taken = m .taken; steps = m .steps + 1; depth = m .depth }
 
 -- what it needs
-pub record Ready (m : Machine) (lookup : Lookup) (input space room : List ℕ) : Type 0 where
+pub record Ready (m : State) (lookup : Lookup) (input space room : List ℕ) : Type 0 where
   pub below : FoundBelow (m .depth) (lookup .found)
   pub sound : Sound m input space room
   pub few : m .steps < 4294967295
 
 -- where it leads: the definition's turn was made
-pub record Went (text rows : List ℕ) (rs : List Record) (input space room : List ℕ) (r : Acted) (s : run.Standing) : Type 0 where
+pub record Went (text rows : List ℕ) (rs : List Record) (m : State) (input space room : List ℕ) (r : Acted) (s : run.Standing) : Type 0 where
   pub machine : spec.Machine
-  pub same : Same text (set rs (r .slot) (r .held)) (r .going .machine) input space room machine
+  pub same : Same text (set rs (r .slot) (r .held)) m input space room machine
   pub stands : StandsAs text rows (r .going .standing) machine s
 
 -- and what it leaves, whatever records there are in which it was looked up
-pub record Acts (text rows : List ℕ) (row : ℕ) (at : Place) (m : Machine) (asked : Asked) (lookup : Lookup) (input space room : List ℕ) (r : Acted) (space′ room′ : List ℕ) : Type 0 where
-  pub leaves : Leaves (stepped m) input space room (turnedTo (r .going .machine) next.Ends) space′ room′
+pub record Acts (text rows : List ℕ) (row : ℕ) (at : Place) (m : State) (asked : Asked) (lookup : Lookup) (input space room : List ℕ) (r : Acted) (m′ : State) (space′ room′ : List ℕ) : Type 0 where
+  pub leaves : Leaves (stepped m) input space room (turnedTo m′ next.Ends) space′ room′
   pub rowed : Rowed rows (r .going .standing)
   pub went : (w : Stood text (spanIn rows row) at) (rs : List Record) → length rs ≡ mostRecords → LooksUp (asked .sought) (m .depth) rs lookup
       → (n : spec.Machine) → Same text rs m input space room n
-      → Went text rows rs input space′ room′ r (run.turn text n (linesAt text (spanIn rows row .place .0)) (w .reads .of))
+      → Went text rows rs m′ input space′ room′ r (run.turn text n (linesAt text (spanIn rows row .place .0)) (w .reads .of))
 
-pub record ActsAt (text rows : List ℕ) (g : Going) (asked : Asked) (lookup : Lookup) (input space room : List ℕ) (r : Acted) (space′ room′ : List ℕ) : Type 0 where
-  pub acts : (row : Row) (at : Place) → g .standing ≡ standing.At row at
-      → Acts text rows (row .0) at (g .machine) asked lookup input space room r space′ room′
+pub record ActsAt (text rows : List ℕ) (s : Standing) (m : State) (asked : Asked) (lookup : Lookup) (input space room : List ℕ) (r : Acted) (m′ : State) (space′ room′ : List ℕ) : Type 0 where
+  pub acts : (row : Row) (at : Place) → s ≡ standing.At row at
+      → Acts text rows (row .0) at m asked lookup input space room r m′ space′ room′
 
 -- whether a record is written
 abbrev pub leavesOne : Acted → Bool

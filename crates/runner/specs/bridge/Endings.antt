@@ -16,7 +16,12 @@ use Rattle.rows.specs.bridge.Rows.{spanIn}
 use Rattle.variables.specs.Strings.{longestSpace}
 use Rattle.variables.specs.declared.tables.Tables.{Tables}
 use Rattle.machine.specs.Machine as spec
+use Rattle.machine.specs.bridge.Holding.{State}
 use Rattle.machine.specs.declared.state.Machine.{Machine}
+use Rattle.variables.specs.Variables.{mostVariables}
+use Rattle.variables.specs.bridge.Memory.{numbersOf, stringsOf}
+use lib.ListN.{replicate}
+use Rattle.runner.specs.declared.running.Done.{Done}
 use Rattle.runner.specs.Run as run
 use Rattle.runner.specs.Run.{entering, running, answerOf, spaceAfter, roomAfter}
 use Rattle.runner.specs.declared.running.Before.{Before}
@@ -35,9 +40,30 @@ abbrev pub outcomeOf : List ℕ → Standing → Outcome
 outcomeOf rows (standing.Over o) = o
 outcomeOf rows (standing.At row at) = Out (spanIn rows (row .0) .number)
 
-abbrev pub endedAs : Outcome → Machine → Ran
+-- what the loop answers, and with the tables what the run does
+abbrev pub doneAs : Outcome → Machine → Done
+doneAs o m =
+    record { outcome = o; steps = m .steps; written = m .printer .written; taken = m .taken .0; numbers = m .numbers; strings = m .strings }
+
+abbrev pub ranOf : Done → List ℕ → List ℕ → List ℕ → List ℕ → Ran
+ranOf d names words labels lengths = record {
+  outcome = d .outcome;
+  steps = d .steps;
+  written = d .written;
+  taken = d .taken;
+  tables = record { numbers = numbersOf names words (d .numbers); strings = stringsOf labels lengths (d .strings) };
+}
+
+abbrev pub endedAs : Outcome → State → Ran
 endedAs o m =
     record { outcome = o; steps = m .steps; written = m .printer .written; taken = m .taken; tables = m .tables }
+
+-- the tables that a run begins with
+pub record Blank (names words labels lengths : List ℕ) : Type 0 where
+  pub noNames : names ≡ replicate 128 0
+  pub noWords : words ≡ replicate mostVariables 0
+  pub noLabels : labels ≡ replicate 128 0
+  pub noLengths : lengths ≡ replicate mostVariables 0
 
 -- the memory and the answer are those of a run that was not refused
 pub record RanAs (ran : run.Ran) (space room : List ℕ) (r : Ran) (space′ room′ : List ℕ) : Type 0 where

@@ -8,10 +8,10 @@ use Rattle.words.specs.declared.places.Place.{Place}
 use Rattle.words.specs.declared.symbols.Scanned.{Scanned}
 use Rattle.scanner.specs.Tokens.{tokenAt}
 use Rattle.skimming.specs.bridge.Steps.{stepOf}
-use Rattle.skimming.specs.declared.steps.Phase.{Phase}
-use Rattle.skimming.specs.declared.steps.Phase.the-variants as phase
-use Rattle.skimming.specs.declared.steps.Step.{Step}
-use Rattle.skimming.specs.declared.steps.Step.the-variants.{Refused, Ends, Wants, Has, Opens, Renews, Closes}
+use Rattle.skimming.specs.declared.stepping.Phase.{Phase}
+use Rattle.skimming.specs.declared.stepping.Phase.the-variants as phase
+use Rattle.skimming.specs.declared.stepping.Step.{Step}
+use Rattle.skimming.specs.declared.stepping.Step.the-variants.{Refused, Ends, Wants, Has, Opens, Renews, Closes}
 
 -- where the reader stands: a mark for each parenthesis that is open, the one opened last in front, and the next token; or it is over
 pub data Standing : Type 0 where

@@ -17,10 +17,10 @@ use Rattle.grammar.specs.Formulas.{notLevel, tightest, rightLevel, minusStands,
 use Rattle.grammar.specs.declared.tests.OperatorFound.{OperatorFound}
 use Rattle.grammar.specs.declared.tests.OperatorFound.the-variants.{Is, None}
 use Rattle.skimming.specs.bridge.Marks.{functionMark}
-use Rattle.skimming.specs.declared.steps.Phase.{Phase}
-use Rattle.skimming.specs.declared.steps.Phase.the-variants as phase
-use Rattle.skimming.specs.declared.steps.Step.{Step}
-use Rattle.skimming.specs.declared.steps.Step.the-variants.{Refused, Ends, Wants, Has, Opens, Renews, Closes}
+use Rattle.skimming.specs.declared.stepping.Phase.{Phase}
+use Rattle.skimming.specs.declared.stepping.Phase.the-variants as phase
+use Rattle.skimming.specs.declared.stepping.Step.{Step}
+use Rattle.skimming.specs.declared.stepping.Step.the-variants.{Refused, Ends, Wants, Has, Opens, Renews, Closes}
 
 abbrev pub callStep : List ℕ → Function → Scanned → Step
 callStep s f t = cond (isSymbol sign.Open (t .token)) (Opens (after s t) (functionMark f)) Refused

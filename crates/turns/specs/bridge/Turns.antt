@@ -1,7 +1,7 @@
 -- Bridge: what the code of a statement is asked, and what it leaves, beside what the definition says.
 -- The contracts of functions that crates use among themselves cite it; no demand and no promise of run, check_recipe or ask rests on it.
 use mathlib.Core.Path.{_≡_}
-use mathlib.Core.Bool.{cond, not}
+use mathlib.Core.Bool.{Bool, cond, not}
 use mathlib.Core.List.{List}
 use Prim.Native.Nat.{ℕ, _≤_, _<_}
 use lib.ListN.{length, set, drop}
@@ -18,15 +18,12 @@ use Rattle.expressions.specs.Types.{deepestNesting}
 use Rattle.variables.specs.Strings.{Room}
 use Rattle.operators.specs.Values.{valueOf}
 use Rattle.formulas.specs.bridge.Memory.{Scans, Reads}
-use Rattle.variables.specs.bridge.Memory.{Held, Agrees, Framed, GoesOn, numberStored, stringStored}
+use Rattle.variables.specs.bridge.Memory.{Held, Agrees, Framed, GoesOn, NumberStored, StringStored, numberStored, stringStored}
 use Rattle.variables.specs.declared.tables.Tables.{Tables}
-use Rattle.variables.specs.declared.assigning.NumberStored.{NumberStored}
-use Rattle.variables.specs.declared.assigning.StringStored.{StringStored}
 use Rattle.variables.specs.declared.values.Worked.{Worked}
 use Rattle.machine.specs.Machine as spec
 use Rattle.machine.specs.Machine.{mostRecords}
-use Rattle.machine.specs.bridge.Holding.{linesAt, bodyOf, Begins, Positioned, positionOf, blankRecord, variablesOf, Sound, Same}
-use Rattle.machine.specs.bridge.Wanted.{foundIn, entryAt}
+use Rattle.machine.specs.bridge.Holding.{linesAt, bodyOf, Begins, Positioned, positionOf, blankRecord, State, stateOf, variablesOf, Sound, Same}
 use Rattle.machine.specs.declared.state.Machine.{Machine}
 use Rattle.machine.specs.declared.state.Printer.{Printer}
 use Rattle.machine.specs.declared.positions.Position.{Position}
@@ -36,15 +33,30 @@ use Rattle.machine.specs.declared.positions.Next.the-variants as next
 use Rattle.machine.specs.declared.records.Record.{Record}
 use Rattle.machine.specs.declared.records.Found.{Found}
 use Rattle.machine.specs.declared.records.Found.the-variants as found
-use Rattle.machine.specs.declared.records.Sought.{Sought}
 use Rattle.machine.specs.Machine.{mostRecords}
 use Rattle.turns.specs.Steps as step
 use Rattle.turns.specs.declared.setting.Stored.{Stored}
 use Rattle.turns.specs.Steps.{goesOn, enters, ends, stops, fails}
 
--- a statement that writes no record
-abbrev pub turnedTo : Machine → Next → Turned
-turnedTo m n = record { machine = m; next = n; slot = mostRecords; held = blankRecord }
+-- ---- a turn of the code's machine, with the tables that are lent beside it
+
+-- what a statement leaves: the machine and the tables, where the run goes on, and the record that it writes
+pub record Turn : Type 0 where
+  pub state : State
+  pub next : Next
+  pub slot : ℕ
+  pub held : Record
+
+abbrev pub turnOf : Turned → List ℕ → List ℕ → List ℕ → List ℕ → Turn
+turnOf r names words labels lengths =
+    record { state = stateOf (r .machine) names words labels lengths; next = r .next; slot = r .slot; held = r .held }
+
+-- a statement that writes no record: what the code answers, and the turn
+abbrev pub cameTo : Machine → Next → Turned
+cameTo m n = record { machine = m; next = n; slot = mostRecords; held = blankRecord }
+
+abbrev pub turnedTo : State → Next → Turn
+turnedTo m n = record { state = m; next = n; slot = mostRecords; held = blankRecord }
 
 -- where the run goes on after a statement of a line that this token follows
 abbrev pub afterOf : Place → Scanned → Position
@@ -79,26 +91,26 @@ Comes text (next.Fails e) (stops n) same = ⊥
 Comes text (next.Fails e) (fails f n) same = (e ≡ f) × same n
 
 -- a step of the definition that comes to what is done next with a machine that the code's holds
-pub record Leads (text : List ℕ) (rs : List Record) (m : Machine) (input space room : List ℕ) (x : step.Next) (go : spec.Machine → step.Next) : Type 0 where
+pub record Leads (text : List ℕ) (rs : List Record) (m : State) (input space room : List ℕ) (x : step.Next) (go : spec.Machine → step.Next) : Type 0 where
   pub machine : spec.Machine
   pub is : x ≡ go machine
   pub same : Same text rs m input space room machine
 
 -- the memory that is lent, after a statement
-pub record Leaves (m : Machine) (input space room : List ℕ) (r : Turned) (space′ room′ : List ℕ) : Type 0 where
-  pub sound : Sound (r .machine) input space′ room′
+pub record Leaves (m : State) (input space room : List ℕ) (r : Turn) (space′ room′ : List ℕ) : Type 0 where
+  pub sound : Sound (r .state) input space′ room′
   pub spaceLong : length space′ ≡ length space
   pub roomLong : length room′ ≡ length room
-  pub steps : r .machine .steps ≡ m .steps
-  pub more : m .printer .written ≤ r .machine .printer .written
+  pub steps : r .state .steps ≡ m .steps
+  pub more : m .printer .written ≤ r .state .printer .written
   -- output beyond the bytes written is unchanged
-  pub beyond : drop (r .machine .printer .written) room′ ≡ drop (r .machine .printer .written) room
+  pub beyond : drop (r .state .printer .written) room′ ≡ drop (r .state .printer .written) room
 
 -- it does what the definition does, whatever records there are that meet what it was told of them
-pub record Turns (text : List ℕ) (m : Machine) (input space room : List ℕ) (told : List Record → Type 0) (does : spec.Machine → step.Next) (r : Turned) (space′ room′ : List ℕ) : Type 0 where
+pub record Turns (text : List ℕ) (m : State) (input space room : List ℕ) (told : List Record → Type 0) (does : spec.Machine → step.Next) (r : Turn) (space′ room′ : List ℕ) : Type 0 where
   pub leaves : Leaves m input space room r space′ room′
   pub comes : (rs : List Record) → length rs ≡ mostRecords → told rs → (n : spec.Machine) → Same text rs m input space room n
-      → Comes text (r .next) (does n) (Same text (set rs (r .slot) (r .held)) (r .machine) input space′ room′)
+      → Comes text (r .next) (does n) (Same text (set rs (r .slot) (r .held)) (r .state) input space′ room′)
 
 -- nothing is told of the records
 abbrev pub anyRecords : List Record → Type 0
@@ -111,7 +123,7 @@ pub record Formed (line : List ℕ) (first : Scanned) : Type 0 where
   pub reads : Reads deepestNesting (formulaOf line first)
 
 -- what working out a formula with the machine's tables leaves
-pub record Valued (m : Machine) (f : Formula) (u : Scanned) (before : List ℕ) (r : Worked) (after : List ℕ) : Type 0 where
+pub record Valued (m : State) (f : Formula) (u : Scanned) (before : List ℕ) (r : Worked) (after : List ℕ) : Type 0 where
   pub framed : Framed before (m .used) r after
   pub agrees : (room : Room) → Held room before (m .used) → Agrees r after (m .used) (valueOf f (variablesOf m before) room)
   pub goes : GoesOn r u
@@ -122,49 +134,58 @@ pub record Standing (text line : List ℕ) (here : Place) : Type 0 where
   pub begins : Begins text (here .0)
   pub is : line ≡ bodyOf (linesAt text (here .0))
 
--- what a statement was told of the records: the one that it asks for was looked up
-pub record Told (k : Sought) (depth : ℕ) (slot : Found) (entry : Record) (rs : List Record) : Type 0 where
-  pub at : slot ≡ foundIn k rs depth
-  pub is : entry ≡ entryAt slot rs
-
 -- a record that was found is one of so many
 abbrev pub FoundBelow : ℕ → Found → Type 0
 FoundBelow depth (found.At i) = i < depth
 FoundBelow depth found.None = Unit {0}
 
--- ---- one part of the code's machine anew
+-- ---- one part of the machine anew
 
-abbrev pub withTables : Machine → Tables → ℕ → Machine
+abbrev pub withTables : State → Tables → ℕ → State
 withTables m t used =
     record { tables = t; used = used; printer = m .printer; taken = m .taken; steps = m .steps; depth = m .depth }
 
-abbrev pub withPrinter : Machine → Printer → Machine
+abbrev pub withPrinter : State → Printer → State
 withPrinter m p =
     record { tables = m .tables; used = m .used; printer = p; taken = m .taken; steps = m .steps; depth = m .depth }
 
-abbrev pub withTaken : Machine → ℕ → Machine
+abbrev pub withTaken : State → ℕ → State
 withTaken m n =
     record { tables = m .tables; used = m .used; printer = m .printer; taken = n; steps = m .steps; depth = m .depth }
 
-abbrev pub withDepth : Machine → ℕ → Machine
+abbrev pub withDepth : State → ℕ → State
 withDepth m d =
     record { tables = m .tables; used = m .used; printer = m .printer; taken = m .taken; steps = m .steps; depth = d }
 
--- a variable is set, or there is no room for it
-abbrev pub numberKept : Machine → NumberStored → Stored
-numberKept m s =
-    record { ok = s .ok; machine = withTables m (record { numbers = s .numbers; strings = m .tables .strings }) (m .used) }
+-- a variable is set, at an entry, or there is no room for it
+pub record Storage : Type 0 where
+  pub ok : Bool
+  pub slot : ℕ
+  pub state : State
 
-abbrev pub numberSet : Machine → Telling → ℕ → Stored
+abbrev pub storageOf : Stored → List ℕ → List ℕ → List ℕ → List ℕ → Storage
+storageOf s names words labels lengths =
+    record { ok = s .ok; slot = s .slot; state = stateOf (s .machine) names words labels lengths }
+
+abbrev pub numberKept : State → NumberStored → Storage
+numberKept m s =
+    record { ok = s .ok; slot = s .slot; state = withTables m (record { numbers = s .numbers; strings = m .tables .strings }) (m .used) }
+
+abbrev pub numberSet : State → Telling → ℕ → Storage
 numberSet m name w = numberKept m (numberStored (m .tables .numbers) name w)
 
-abbrev pub stringKept : Machine → StringStored → Stored
+abbrev pub stringKept : State → StringStored → Storage
 stringKept m s =
-    record { ok = s .ok; machine = withTables m (record { numbers = m .tables .numbers; strings = s .strings }) (s .used) }
+    record { ok = s .ok; slot = 0; state = withTables m (record { numbers = m .tables .numbers; strings = s .strings }) (s .used) }
 
-abbrev pub stringSet : Machine → Telling → ℕ → Stored
+abbrev pub stringSet : State → Telling → ℕ → Storage
 stringSet m name len = stringKept m (stringStored (m .tables .strings) (m .used) name len)
 
-abbrev pub storedTurn : Stored → Place → Scanned → Turned
+-- room for a new variable is tested last: what the code answers, and the turn
+abbrev pub storedAs : Stored → Place → Scanned → Turned
+storedAs s line ahead =
+    cond (s .ok) (cameTo (s .machine) (next.On (afterOf line ahead))) (cameTo (s .machine) (next.Fails OutOfMemory))
+
+abbrev pub storedTurn : Storage → Place → Scanned → Turn
 storedTurn s line ahead =
-    cond (s .ok) (turnedTo (s .machine) (next.On (afterOf line ahead))) (turnedTo (s .machine) (next.Fails OutOfMemory))
+    cond (s .ok) (turnedTo (s .state) (next.On (afterOf line ahead))) (turnedTo (s .state) (next.Fails OutOfMemory))

@@ -1,11 +1,12 @@
 -- Bridge: how the code's tables and the lent space hold variables and values.
 -- The contracts of functions that crates use among themselves cite it; no demand and no promise of run, check_recipe or ask rests on it.
 use mathlib.Core.Path.{_≡_}
-use mathlib.Core.Bool.{true, false, cond}
+use mathlib.Core.Bool.{Bool, true, false, cond}
 use mathlib.Core.List.{List, [], _∷_}
 use Prim.Native.Nat.{ℕ, _+_, _-_, _*_, _≤_, _<_}
 use lib.Dec.{leb}
 use lib.ListN.{length, getD, set, take, drop, replicate}
+use Rattle.words.specs.Names.{alike}
 use Rattle.words.specs.declared.names.Telling.{Telling}
 use Rattle.variables.specs.Strings.{whole, text, Room, Outcome, value, fault}
 use Rattle.variables.specs.Tables.{namesFrom, namesIn, numbersIn, slotIn, sumOf}
@@ -19,8 +20,8 @@ use Rattle.words.specs.declared.symbols.Scanned.{Scanned}
 use Rattle.space.specs.Moves.{copied, moved}
 use Rattle.variables.specs.declared.tables.Numbers.{Numbers}
 use Rattle.variables.specs.declared.tables.Strings.{Strings}
-use Rattle.variables.specs.declared.assigning.NumberStored.{NumberStored}
-use Rattle.variables.specs.declared.assigning.StringStored.{StringStored}
+use Rattle.variables.specs.declared.assigning.NumberPut.{NumberPut}
+use Rattle.variables.specs.declared.assigning.StringPut.{StringPut}
 use Rattle.variables.specs.declared.tables.Slot.{Slot}
 use Rattle.variables.specs.declared.tables.Slot.the-variants as slot
 use Rattle.variables.specs.declared.values.Worked.{Worked}
@@ -119,6 +120,16 @@ numbersHeld n = numbersIn (namesFrom (n .count) (n .names)) (n .words)
 abbrev pub stringsHeld : Strings → List ℕ → List StringVariable
 stringsHeld t space = stringsIn (namesFrom (t .count) (t .names)) (t .lengths) space
 
+-- none of some names is one variable's with a name
+pub data Absent (name : Telling) : List Telling → Type 0 where
+  none : Absent name []
+  also : {n : Telling} {ns : List Telling} → alike n name ≡ false → Absent name ns → Absent name (n ∷ ns)
+
+-- no two of them are one variable's
+pub data Apart : List Telling → Type 0 where
+  empty : Apart []
+  joining : {n : Telling} {ns : List Telling} → Absent n ns → Apart ns → Apart (n ∷ ns)
+
 -- unused entries are zeros
 pub record TidyNumbers (n : Numbers) : Type 0 where
   pub few : n .count ≤ mostVariables
@@ -126,6 +137,7 @@ pub record TidyNumbers (n : Numbers) : Type 0 where
   pub worded : length (n .words) ≡ mostVariables
   pub namesBlank : drop (2 * n .count) (n .names) ≡ replicate (128 - 2 * n .count) 0
   pub wordsBlank : drop (n .count) (n .words) ≡ replicate (mostVariables - n .count) 0
+  pub apart : Apart (namesFrom (n .count) (n .names))
 
 pub record TidyStrings (t : Strings) : Type 0 where
   pub few : t .count ≤ mostVariables
@@ -134,17 +146,37 @@ pub record TidyStrings (t : Strings) : Type 0 where
   pub namesBlank : drop (2 * t .count) (t .names) ≡ replicate (128 - 2 * t .count) 0
   pub lengthsBlank : drop (t .count) (t .lengths) ≡ replicate (mostVariables - t .count) 0
 
+-- the i-th name of a table
+abbrev pub nameAt : List ℕ → ℕ → Telling
+nameAt names i = record { first = getD names (2 * i) 0; second = getD names (2 * i + 1) 0 }
+
 -- a name in a table
 abbrev pub withName : List ℕ → ℕ → Telling → List ℕ
 withName names i name = set (set names (2 * i) (name .first)) (2 * i + 1) (name .second)
 
+-- the lent arrays and a count, as a table
+abbrev pub numbersOf : List ℕ → List ℕ → ℕ → Numbers
+numbersOf names words count = record { names = names; words = words; count = count }
+
+abbrev pub stringsOf : List ℕ → List ℕ → ℕ → Strings
+stringsOf names lengths count = record { names = names; lengths = lengths; count = count }
+
+-- what storing a number leaves: whether there was room for it, its entry, and the table
+pub record NumberStored : Type 0 where
+  pub ok : Bool
+  pub slot : ℕ
+  pub numbers : Numbers
+
+abbrev pub numbersLeft : NumberPut → List ℕ → List ℕ → NumberStored
+numbersLeft r names words = record { ok = r .ok; slot = r .slot; numbers = numbersOf names words (r .count) }
+
 abbrev pub numberAppended : Numbers → Telling → ℕ → NumberStored
 numberAppended n name w =
-    cond (leb mostVariables (n .count)) (record { ok = false; numbers = n })
-    (record { ok = true; numbers = record { names = withName (n .names) (n .count) name; words = set (n .words) (n .count) w; count = n .count + 1 } })
+    cond (leb mostVariables (n .count)) (record { ok = false; slot = n .count; numbers = n })
+    (record { ok = true; slot = n .count; numbers = numbersOf (withName (n .names) (n .count) name) (set (n .words) (n .count) w) (n .count + 1) })
 
 abbrev pub numberReplaced : Numbers → ℕ → ℕ → NumberStored
-numberReplaced n i w = record { ok = true; numbers = record { names = n .names; words = set (n .words) i w; count = n .count } }
+numberReplaced n i w = record { ok = true; slot = i; numbers = numbersOf (n .names) (set (n .words) i w) (n .count) }
 
 abbrev pub numberInto : Slot → Numbers → Telling → ℕ → NumberStored
 numberInto slot.None n name w = numberAppended n name w
@@ -153,14 +185,23 @@ numberInto (slot.At i) n name w = cond (leb (n .count) i) (numberAppended n name
 abbrev pub numberStored : Numbers → Telling → ℕ → NumberStored
 numberStored n name w = numberInto (slotIn (n .names) name) n name w
 
+-- and a string: the table, and where all strings' bytes end
+pub record StringStored : Type 0 where
+  pub ok : Bool
+  pub strings : Strings
+  pub used : ℕ
+
+abbrev pub stringsLeft : StringPut → List ℕ → List ℕ → StringStored
+stringsLeft r names lengths = record { ok = r .ok; strings = stringsOf names lengths (r .count); used = r .used .0 }
+
 abbrev pub stringAppended : Strings → ℕ → Telling → ℕ → StringStored
 stringAppended t used name len =
     cond (leb mostVariables (t .count)) (record { ok = false; strings = t; used = used })
-    (record { ok = true; strings = record { names = withName (t .names) (t .count) name; lengths = set (t .lengths) (t .count) len; count = t .count + 1 }; used = used + len })
+    (record { ok = true; strings = stringsOf (withName (t .names) (t .count) name) (set (t .lengths) (t .count) len) (t .count + 1); used = used + len })
 
 abbrev pub stringReplaced : Strings → ℕ → ℕ → ℕ → StringStored
 stringReplaced t used i len =
-    record { ok = true; strings = record { names = t .names; lengths = set (t .lengths) i len; count = t .count }; used = used - getD (t .lengths) i 0 + len }
+    record { ok = true; strings = stringsOf (t .names) (set (t .lengths) i len) (t .count); used = used - getD (t .lengths) i 0 + len }
 
 abbrev pub stringInto : Slot → Strings → ℕ → Telling → ℕ → StringStored
 stringInto slot.None t used name len = stringAppended t used name len
@@ -170,11 +211,12 @@ abbrev pub stringStored : Strings → ℕ → Telling → ℕ → StringStored
 stringStored t used name len = stringInto (slotIn (t .names) name) t used name len
 
 -- the space then: the new bytes take the old ones' place, and the later strings' bytes move
+abbrev pub bytesReplaced : ℕ → ℕ → ℕ → List ℕ → ℕ → List ℕ
+bytesReplaced start old used space len =
+    copied (moved space (start + old) (start + len) (used - (start + old))) start (take len (drop used space))
+
 abbrev pub spaceReplaced : List ℕ → ℕ → ℕ → List ℕ → ℕ → List ℕ
-spaceReplaced lengths used i space len =
-    let start = sumOf (take i lengths) in
-    let later = start + getD lengths i 0 in
-    copied (moved space later (start + len) (used - later)) start (take len (drop used space))
+spaceReplaced lengths used i space len = bytesReplaced (sumOf (take i lengths)) (getD lengths i 0) used space len
 
 abbrev pub spaceInto : Slot → Strings → ℕ → List ℕ → ℕ → List ℕ
 spaceInto slot.None t used space len = space
@@ -184,6 +226,6 @@ abbrev pub spaceStored : Strings → ℕ → Telling → List ℕ → ℕ → Li
 spaceStored t used name space len = spaceInto (slotIn (t .names) name) t used space len
 
 -- what storing begins with
-pub record Storable (t : Strings) (used : ℕ) (space : List ℕ) (len : ℕ) : Type 0 where
-  pub all : sumOf (t .lengths) ≡ used
+pub record Storable (lengths : List ℕ) (used : ℕ) (space : List ℕ) (len : ℕ) : Type 0 where
+  pub all : sumOf lengths ≡ used
   pub fits : used + len ≤ length space

@@ -1,16 +1,14 @@
--- By whether there is room.
-use borrow.Author.Needs.{needs}
 use borrow.Author.Tests.{le-leb, lt-leb}
 use Rattle.machine.specs.Machine.{mostRecords}
+use borrow.Author.Needs.{needs}
 use Rattle.control.proofs.jumping.push.Statement.{statement}
 use Rattle.control.proofs.jumping.push.Tie as tie
-use Rattle.machine.specs.Machine.{mostRecords}
+
+returns : tie.Need-returns
+returns c = λ names words labels lengths. rw (c .fails .ensures, le-leb mostRecords _ (c .before .if1 .taken))
+
+returns-2 : tie.Need-returns-2
+returns-2 c = λ names words labels lengths. rw (lt-leb mostRecords _ (c .if1 .left))
 
 pub push-spec : {M : Type 1} → statement M
-push-spec =
-    tie.close
-    (tie.spec
-    (λ c κs. search needs)
-    (λ c. rw (c .fails .ensures, le-leb mostRecords _ (c .before .if1 .taken)))
-    (λ c. search needs)
-    (λ c. rw (lt-leb mostRecords _ (c .if1 .left))))
+push-spec = tie.close (tie.spec (λ c κs. search needs) returns (λ c. search needs) returns-2)

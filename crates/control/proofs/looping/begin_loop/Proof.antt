@@ -1,27 +1,27 @@
--- By whether there was room for the variable.
-use mathlib.Core.Path.{_∙_}
-use borrow.Author.Needs.{needs}
 use borrow.Author.Tests.{not-true, not-false}
+use Rattle.machine.specs.bridge.Holding.{stateOf}
 use Rattle.turns.specs.bridge.Turns.{afterOf}
 use Rattle.control.proofs.Fors.{loop-full, loop-made}
+use borrow.Author.Needs.{needs}
 use Rattle.control.proofs.looping.begin_loop.Statement.{statement}
 use Rattle.control.proofs.looping.begin_loop.Tie as tie
 
 returns : tie.Need-returns
 returns c =
-    let a = c .before .before .before .before .before .args in
-    let s = c .before .before .before .before .with-number in
-    c .fails .ensures
-    ∙ loop-full (a .machine) (a .name) (a .from) (a .limit) (a .step) (afterOf (a .here) (a .ahead)) (a .found) (s .ensures)
-    (not-true (s .result .ok) (c .before .if1 .taken))
+    λ labels lengths.
+    let a = c .before .before .before .before .before .before .before .args in
+    let m = stateOf (a .machine) (a .names .now) (a .words .now) labels lengths in
+    rw (c .fails .ensures)
+    (loop-full m (a .name) (a .from) (a .limit) (a .step) (afterOf (a .here) (a .ahead)) (a .found) (c .before .before .before .before .with-number .ensures labels lengths)
+    (not-true (c .before .before .before .before .with-number .result .ok) (c .before .if1 .taken)))
 
 returns-2 : tie.Need-returns-2
 returns-2 c =
-    let s = c .before .before .before .before .before .before .before in
-    let a = s .before .args in
-    rw (c .push .ensures, c .before .dropped-to .ensures, c .before .before .counts .ensures, c .before .before .before .after .ensures)
-    (loop-made (a .machine) (a .name) (a .from) (a .limit) (a .step) (afterOf (a .here) (a .ahead)) (a .found) (s .with-number .ensures)
-    (not-false (s .with-number .result .ok) (c .before .before .before .before .if1 .left)))
+    λ labels lengths.
+    let a = c .before .before .before .before .before .before .before .before .before .before .args in
+    let m = stateOf (a .machine) (a .names .now) (a .words .now) labels lengths in
+    loop-made m (a .name) (a .from) (a .limit) (a .step) (afterOf (a .here) (a .ahead)) (a .found) (c .before .before .before .before .before .before .before .with-number .ensures labels lengths)
+    (not-false (c .before .before .before .before .before .before .before .with-number .result .ok) (c .before .before .before .before .if1 .left)) (c .before .before .before .after .ensures) (c .before .dropped-to .ensures _ _ labels lengths) (c .before .before .counts .ensures) (c .push .ensures _ _ labels lengths)
 
 pub begin-loop-spec : {M : Type 1} → statement M
 begin-loop-spec =

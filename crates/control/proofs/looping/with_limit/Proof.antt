@@ -1,37 +1,30 @@
--- By the formula's answer.
-use borrow.Author.Needs.{needs}
 use Rattle.machine.specs.bridge.Holding.{positionOf}
-use Rattle.turns.specs.bridge.Turns.{afterOf}
 use Rattle.turns.specs.Steps.{fromStep}
+use Rattle.turns.specs.bridge.Turns.{afterOf}
 use Rattle.turns.proofs.Keeping.{settled-kept, sound-kept}
-use Rattle.turns.proofs.Wholes.{turns-fault, turns-whole, turns-text}
+use Rattle.turns.proofs.Wholes.{turns-none, turns-whole}
+use borrow.Author.Needs.{needs}
 use Rattle.control.proofs.looping.with_limit.Statement.{statement}
 use Rattle.control.proofs.looping.with_limit.Tie as tie
 
+returns : tie.Need-returns
+returns c =
+    λ text input room to by t u sound p e s entry.
+    let a = c .before .before .before .before .before .before .before .before .before .before .before .args in
+    rw (c .fails .ensures, c .before .mismatch .ensures)
+    (turns-none (λ w n. fromStep (a .name) (positionOf text (afterOf (a .here) u)) by (a .from) w n) sound (c .before .before .before .before .before .value .result) (c .before .before .match .keys2) (c .before .before .before .before .before .value .ensures to t e))
+
 with-step-requires : tie.Need-with-step-requires
 with-step-requires c κs =
-    let k = c .before .before .before .before .before .before .before .before .before .before .pre in
-    let v = rw (c .before .before .limit .given .1) at (c .before .before .before .before .before .before .value .ensures (k .0 .limit) (k .0 .at) (k .0 .reads)) in
+    let k = c .before .before .before .before .before .before .before .before .before .before .before .before .before .before .pre in
+    let v = rw (c .before .before .before .before .worked .given .1) at (c .before .before .before .before .before .before .before .before .value .ensures (k .0 .limit) (k .0 .at) (k .0 .reads)) in
     (rw (v .goes) (k .0 .steps), (settled-kept (v .framed .long) (k .1 .0), k .1 .1))
 
-returns : tie.Need-returns
-returns c text input room to by t u sound p e s entry =
-    let a = c .before .before .before .before .before .before .before .before .before .before .args in
-    rw (c .fails .ensures)
-    (turns-fault (λ w n. fromStep (a .name) (positionOf text (afterOf (a .here) u)) by (a .from) w n) sound
-    (rw (c .before .before .error .given .1) at (c .before .before .before .before .before .before .value .ensures to t e)))
-
 returns-2 : tie.Need-returns-2
-returns-2 c text input room to by t u sound p e s entry =
-    let a = c .before .before .before .before .before .before .before .before .before .args in
-    rw (c .fails2 .ensures)
-    (turns-text (λ w n. fromStep (a .name) (positionOf text (afterOf (a .here) u)) by (a .from) w n) sound
-    (rw (c .before .enum-told .given .1) at (c .before .before .before .before .before .value .ensures to t e)))
-
-returns-3 : tie.Need-returns-3
-returns-3 c text input room to by t u sound p e s entry =
-    let a = c .before .before .before .before .before .before .before .before .before .before .before .before .before .args in
-    let v = rw (c .before .before .before .before .before .limit .given .1) at (c .before .before .before .before .before .before .before .before .before .value .ensures to t e) in
+returns-2 c =
+    λ text input room to by t u sound p e s entry.
+    let a = c .before .before .before .before .before .before .before .before .before .before .before .before .before .before .before .before .before .args in
+    let v = rw (c .before .before .before .before .before .before .before .worked .given .1) at (c .before .before .before .before .before .before .before .before .before .before .before .value .ensures to t e) in
     turns-whole (λ w n. fromStep (a .name) (positionOf text (afterOf (a .here) u)) by (a .from) w n) sound v
     (c .before .before .with-step .ensures text input room by u (sound-kept (v .framed .long) sound) p (rw (v .goes) s) entry)
 
@@ -42,13 +35,9 @@ with-limit-spec =
     (λ c κs. search needs)
     (λ c. search needs)
     (λ c κs. search needs)
-    (λ c. search needs)
     (λ c κs. search needs)
     (λ c. search needs)
+    returns
     with-step-requires
     (λ c. search needs)
-    returns
-    (λ c. search needs)
-    returns-2
-    (λ c. search needs)
-    returns-3)
+    returns-2)

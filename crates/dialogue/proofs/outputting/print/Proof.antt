@@ -12,15 +12,17 @@ use Rattle.statements.specs.bridge.Answers.{itemsOf}
 use Rattle.skimming.specs.bridge.Remaining.{weight}
 use Rattle.dialogue.proofs.Items.{Advances, formed-item, advances}
 use Rattle.dialogue.proofs.Prints.{Prints, items-end, prints-begin, prints-on, prints-fails, prints-ends}
+use Rattle.machine.specs.bridge.Holding.{stateOf}
 use Rattle.dialogue.proofs.outputting.print.Statement.{statement}
 use Rattle.dialogue.proofs.outputting.print.Tie as tie
 
 abbrev Inv-loop : tie.InvT-loop
-Inv-loop line here space₀ room₀ m₀ item₀ quiet₀ space room m item quiet =
-    (all : List Item) (end : Scanned) → itemsOf line item₀ ≡ items all end → Prints line all end m₀ space₀ room₀ m item quiet space room
+Inv-loop line here names words labels lengths space₀ room₀ m₀ item₀ quiet₀ space room m item quiet =
+    (all : List Item) (end : Scanned) → itemsOf line item₀ ≡ items all end
+    → Prints line all end (stateOf m₀ names words labels lengths) space₀ room₀ (stateOf m names words labels lengths) item quiet space room
 
 abbrev μ-loop : tie.MeasureT-loop
-μ-loop line here space₀ room₀ m₀ item₀ quiet₀ space room m item quiet = weight line item
+μ-loop line here names words labels lengths space₀ room₀ m₀ item₀ quiet₀ space room m item quiet = weight line item
 
 -- ---- no item is left
 
@@ -42,8 +44,9 @@ same-length-2 c =
 returns : tie.Need-returns Inv-loop μ-loop
 returns c =
     let p = c .before .before in let t = p .before .before in let l = t .before .before in
+    let a = l .before .before .before .before .args in
     λ text input at is u sound placed e.
-    rw (p .print-end .ensures .0, p .print-end .ensures .1)
+    rw (p .print-end .ensures .0 (a .names .now) (a .words .now) (a .labels .now) (a .lengths .now), p .print-end .ensures .1)
     (prints-ends (l .loop .inv is u e) (sym (t .before .ends-items .ensures) ∙ t .if1 .taken) text input
     (l .before .before .before .before .args .here) at sound placed)
 
@@ -104,7 +107,8 @@ loop-again c =
     let p = c .before .before .before .before .before .before .before .before in let k = p .before .before .before .before in
     λ all end e.
     let a = next-item k e in
-    rw (c .with-printer .ensures, p .before .before .before .separates .ensures)
+    let r = k .before .before .before .before .before .before .args in
+    rw (c .with-printer .ensures (r .names .now) (r .words .now) (r .labels .now) (r .lengths .now), p .before .before .before .separates .ensures)
     (prints-on (k .before .before .loop .inv all end e) a
     (rw (c .before .before .printer .given .1) at (p .print-item .ensures (a .first) (a .next) (a .at))))
 

@@ -77,8 +77,8 @@ operand-below t = and 6 operand-kinds.ps (falls 6 operand-kinds.ps _<_ μ-operan
 abbrev arguments-Inv-loop : arguments-lts.InvT-loop
 arguments-Inv-loop line function room names words labels lengths space₀ used three given₀ here₀ space given here =
     (w : ℕ) (before : List ℕ) (f : Formula) (u : Scanned)
-    → Listing line names words labels lengths function three used w f u before given₀ here₀ space₀
-    → Listing line names words labels lengths function three used w f u before given here space
+    → Listing line names words labels lengths function three (used .0) w f u before given₀ here₀ space₀
+    → Listing line names words labels lengths function three (used .0) w f u before given here space
 
 abbrev arguments-μ-loop : arguments-lts.MeasureT-loop
 arguments-μ-loop line function room names words labels lengths space₀ used three given₀ here₀ space given here = weight line here
@@ -104,61 +104,61 @@ arguments-had : (t : ℕ) (c : arguments-lts.At-loop (arguments-claims t) (argum
     (f : Formula) (u : Scanned)
     → let p = c .before .before .before .before .args in
     argumentsOf (p .line .now) (p .function) none (formulaIn (p .line .now) 0 (p .ahead)) ≡ good f u
-    → Listing (p .line .now) (p .names .now) (p .words .now) (p .labels .now) (p .lengths .now) (p .function) (c .before .is-of-three .result) (p .used)
+    → Listing (p .line .now) (p .names .now) (p .words .now) (p .labels .now) (p .lengths .now) (p .function) (c .before .is-of-three .result) (p .used .0)
     (weight (p .line .now) (p .ahead)) f u (p .space .now) (c .loop .given) (c .loop .here) (c .loop .space)
 arguments-had t c f u e =
     let k = c .before .before .before .before in
     let p = k .args in
     c .loop .inv (weight (p .line .now) (p .ahead)) (p .space .now) f u
-    (listing-begins (p .line .now) (p .names .now) (p .words .now) (p .labels .now) (p .lengths .now) (p .function) (c .before .is-of-three .result) (p .used)
+    (listing-begins (p .line .now) (p .names .now) (p .words .now) (p .labels .now) (p .lengths .now) (p .function) (c .before .is-of-three .result) (p .used .0)
     (p .ahead) f u (p .space .now) e (k .pre .1 .1 .0) (k .pre .1 .0) (c .before .is-of-three .ensures))
 
 -- of the call that is worked out
 arguments-here : (t : ℕ) (c : arguments-lts.At-loop (arguments-claims t) (arguments-at t) arguments.Post arguments-Inv-loop arguments-μ-loop)
     → let p = c .before .before .before .before .args in
     let r = c .before .before .before .before .pre .1 .1 .1 in
-    Listing (p .line .now) (p .names .now) (p .words .now) (p .labels .now) (p .lengths .now) (p .function) (c .before .is-of-three .result) (p .used)
+    Listing (p .line .now) (p .names .now) (p .words .now) (p .labels .now) (p .lengths .now) (p .function) (c .before .is-of-three .result) (p .used .0)
     (weight (p .line .now) (p .ahead)) (r .of) (r .next) (p .space .now) (c .loop .given) (c .loop .here) (c .loop .space)
 arguments-here t c = let r = c .before .before .before .before .pre .1 .1 .1 in arguments-had t c (r .of) (r .next) (r .is)
 
 arguments-formula-requires : (t : ℕ) → arguments-lts.Need-formula-requires (arguments-claims t) (arguments-at t) arguments.Post arguments-Inv-loop arguments-μ-loop
 arguments-formula-requires t c κs =
-    let here = arguments-here t (c .before .before) in
-    let k = c .before .before .before .before .before .before in
-    (omega (arith, here .lighter, k .pre .0), next-asks here (c .given-length .ensures) (k .args .room) (k .pre .1 .1 .1 .shallow))
+    let here = arguments-here t (c .before .before .before) in
+    let k = c .before .before .before .before .before .before .before in
+    (omega (arith, here .lighter, k .pre .0), next-asks here (c .before .given-length .ensures) (k .args .room) (k .pre .1 .1 .1 .shallow))
 
 arguments-same-length : (t : ℕ) → arguments-lts.Need-same-length (arguments-claims t) (arguments-at t) arguments.Post arguments-Inv-loop arguments-μ-loop
 arguments-same-length t c =
-    listing-long (arguments-here t (c .before .before .before .before .before .before .before .before .before)) (c .before .before .before .before .before .before .before .given-length .ensures) (c .before .before .before .before .before .before .formula .result) (c .before .before .before .before .before .before .formula .ensures)
+    listing-long (arguments-here t (c .before .before .before .before .before .before .before .before .before .before)) (c .before .before .before .before .before .before .before .before .given-length .ensures) (c .before .before .before .before .before .before .formula .result) (c .before .before .before .before .before .before .formula .ensures)
 
 arguments-returns : (t : ℕ) → arguments-lts.Need-returns (arguments-claims t) (arguments-at t) arguments.Post arguments-Inv-loop arguments-μ-loop
 arguments-returns t c f u e =
-    listing-fault (arguments-had t (c .before .before .before .before .before .before .before .before .before) f u e) (c .before .before .before .before .before .before .before .given-length .ensures) (c .before .before .before .before .before .before .formula .result) (c .before .before .before .before .before .before .formula .ensures)
+    listing-fault (arguments-had t (c .before .before .before .before .before .before .before .before .before .before) f u e) (c .before .before .before .before .before .before .before .before .given-length .ensures) (c .before .before .before .before .before .before .formula .result) (c .before .before .before .before .before .before .formula .ensures)
     (c .before .before .before .take-argument .ensures) (c .before .error .given .1)
 
 arguments-called-requires : (t : ℕ) → arguments-lts.Need-called-requires (arguments-claims t) (arguments-at t) arguments.Post arguments-Inv-loop arguments-μ-loop
 arguments-called-requires t c κs =
-    all-placed (arguments-here t (c .before .before .before .before .before .before .before .before .before .before .before)) (c .before .before .before .before .before .before .before .before .before .given-length .ensures) (c .before .before .before .before .before .before .before .before .formula .result) (c .before .before .before .before .before .before .before .before .formula .ensures)
+    all-placed (arguments-here t (c .before .before .before .before .before .before .before .before .before .before .before .before)) (c .before .before .before .before .before .before .before .before .before .before .given-length .ensures) (c .before .before .before .before .before .before .before .before .formula .result) (c .before .before .before .before .before .before .before .before .formula .ensures)
     (c .before .before .before .before .before .take-argument .ensures) (c .before .before .before .all .given .1)
 
 arguments-same-length-2 : (t : ℕ) → arguments-lts.Need-same-length-2 (arguments-claims t) (arguments-at t) arguments.Post arguments-Inv-loop arguments-μ-loop
 arguments-same-length-2 t c =
     c .before .before .called .ensures .framed .long
-    ∙ listing-long (arguments-here t (c .before .before .before .before .before .before .before .before .before .before .before .before .before .before)) (c .before .before .before .before .before .before .before .before .before .before .before .before .given-length .ensures) (c .before .before .before .before .before .before .before .before .before .before .before .formula .result) (c .before .before .before .before .before .before .before .before .before .before .before .formula .ensures)
+    ∙ listing-long (arguments-here t (c .before .before .before .before .before .before .before .before .before .before .before .before .before .before .before)) (c .before .before .before .before .before .before .before .before .before .before .before .before .before .given-length .ensures) (c .before .before .before .before .before .before .before .before .before .before .before .formula .result) (c .before .before .before .before .before .before .before .before .before .before .before .formula .ensures)
 
 arguments-returns-2 : (t : ℕ) → arguments-lts.Need-returns-2 (arguments-claims t) (arguments-at t) arguments.Post arguments-Inv-loop arguments-μ-loop
 arguments-returns-2 t c f u e =
-    listing-ends (arguments-had t (c .before .before .before .before .before .before .before .before .before .before .before .before .before .before) f u e) (c .before .before .before .before .before .before .before .before .before .before .before .before .given-length .ensures) (c .before .before .before .before .before .before .before .before .before .before .before .formula .result) (c .before .before .before .before .before .before .before .before .before .before .before .formula .ensures)
+    listing-ends (arguments-had t (c .before .before .before .before .before .before .before .before .before .before .before .before .before .before .before) f u e) (c .before .before .before .before .before .before .before .before .before .before .before .before .before .given-length .ensures) (c .before .before .before .before .before .before .before .before .before .before .before .formula .result) (c .before .before .before .before .before .before .before .before .before .before .before .formula .ensures)
     (c .before .before .before .before .before .before .before .before .take-argument .ensures) (c .before .before .before .before .before .before .all .given .1) (c .before .before .before .before .token-at .ensures) (c .before .before .called .result) (c .before .before .called .ensures)
 
 arguments-loop-less : (t : ℕ) → arguments-lts.Need-loop-less (arguments-claims t) (arguments-at t) arguments.Post arguments-Inv-loop arguments-μ-loop
 arguments-loop-less t c =
-    listing-lightens (arguments-here t (c .before .before .before .before .before .before .before .before .before .before)) (c .before .before .before .before .before .before .before .before .given-length .ensures) (c .before .before .before .before .before .before .before .formula .result) (c .before .before .before .before .before .before .before .formula .ensures)
+    listing-lightens (arguments-here t (c .before .before .before .before .before .before .before .before .before .before .before)) (c .before .before .before .before .before .before .before .before .before .given-length .ensures) (c .before .before .before .before .before .before .before .formula .result) (c .before .before .before .before .before .before .before .formula .ensures)
     (c .before .before .before .before .take-argument .ensures) (c .before .before .all2 .given .1) (c .token-at2 .ensures)
 
 arguments-loop-again : (t : ℕ) → arguments-lts.Need-loop-again (arguments-claims t) (arguments-at t) arguments.Post arguments-Inv-loop arguments-μ-loop
 arguments-loop-again t c w before f u l =
-    listing-goes (c .before .before .before .before .before .before .before .before .before .before .loop .inv w before f u l) (c .before .before .before .before .before .before .before .before .given-length .ensures) (c .before .before .before .before .before .before .before .formula .result) (c .before .before .before .before .before .before .before .formula .ensures)
+    listing-goes (c .before .before .before .before .before .before .before .before .before .before .before .loop .inv w before f u l) (c .before .before .before .before .before .before .before .before .before .given-length .ensures) (c .before .before .before .before .before .before .before .formula .result) (c .before .before .before .before .before .before .before .formula .ensures)
     (c .before .before .before .before .take-argument .ensures) (c .before .before .all2 .given .1) (c .token-at2 .ensures)
 
 -- ---- a formula
@@ -166,8 +166,8 @@ arguments-loop-again t c w before f u l =
 abbrev formula-Inv-loop : formula-lts.InvT-loop
 formula-Inv-loop line level room names words labels lengths space₀ used left₀ space left =
     (w : ℕ) (before : List ℕ) (f : Formula) (u : Scanned)
-    → Climbing line names words labels lengths level used w f u before left₀ space₀
-    → Climbing line names words labels lengths level used w f u before left space
+    → Climbing line names words labels lengths level (used .0) w f u before left₀ space₀
+    → Climbing line names words labels lengths level (used .0) w f u before left space
 
 abbrev formula-μ-loop : formula-lts.MeasureT-loop
 formula-μ-loop line level room names words labels lengths space₀ used left₀ space left = heft line left
@@ -195,19 +195,19 @@ formula-left : (t : ℕ) (c : formula-lts.At-loop (formula-claims t) (formula-at
     (f : Formula) (u : Scanned)
     → let p = c .before .before .before .before .before .before .before .args in
     formulaIn (p .line .now) (p .level) (p .ahead) ≡ good f u
-    → Climbing (p .line .now) (p .names .now) (p .words .now) (p .labels .now) (p .lengths .now) (p .level) (p .used)
+    → Climbing (p .line .now) (p .names .now) (p .words .now) (p .labels .now) (p .lengths .now) (p .level) (p .used .0)
     (weight (p .line .now) (p .ahead)) f u (p .space .now) (c .loop .left) (c .loop .space)
 formula-left t c f u e =
     let p = c .before .before .before .before .before .before .before .args in
     c .loop .inv (weight (p .line .now) (p .ahead)) (p .space .now) f u
-    (climbing-begins (p .line .now) (p .names .now) (p .words .now) (p .labels .now) (p .lengths .now) (p .level) (p .used)
+    (climbing-begins (p .line .now) (p .names .now) (p .words .now) (p .labels .now) (p .lengths .now) (p .level) (p .used .0)
     (p .ahead) f u (c .before .before .before .before .before .before .before .pre .1 .0) e (c .before .before .before .operand .ensures))
 
 -- of the formula that is worked out
 formula-here : (t : ℕ) (c : formula-lts.At-loop (formula-claims t) (formula-at t) formula.Post formula-Inv-loop formula-μ-loop)
     → let p = c .before .before .before .before .before .before .before .args in
     let r = c .before .before .before .before .before .before .before .pre .1 .1 .1 in
-    Climbing (p .line .now) (p .names .now) (p .words .now) (p .labels .now) (p .lengths .now) (p .level) (p .used)
+    Climbing (p .line .now) (p .names .now) (p .words .now) (p .labels .now) (p .lengths .now) (p .level) (p .used .0)
     (weight (p .line .now) (p .ahead)) (r .of) (r .next) (p .space .now) (c .loop .left) (c .loop .space)
 formula-here t c = let r = c .before .before .before .before .before .before .before .pre .1 .1 .1 in formula-left t c (r .of) (r .next) (r .is)
 
@@ -217,36 +217,36 @@ formula-operand-requires t c κs =
     let r = k .pre .1 in
     (omega (arith, k .pre .0), (r .0, (r .1 .0, formula-operand (k .args .room) (k .args .line .now) (k .args .level) (k .args .ahead) (r .1 .1))))
 
-formula-add-formula : (t : ℕ) → formula-lts.Need-add-formula (formula-claims t) (formula-at t) formula.Post formula-Inv-loop formula-μ-loop
-formula-add-formula t c =
-    let r = right-ready (formula-here t (c .before .before .before .before .before .before .before .before)) (c .before .before .before .before .before .before .before .turn-of .ensures) (c .before .before .before .before .before .operator .given .1) (c .before .before .before .token-at .ensures)
-    (c .before .before .right-level .ensures) (c .text-length .ensures) in
+formula-add-t24 : (t : ℕ) → formula-lts.Need-add-t24 (formula-claims t) (formula-at t) formula.Post formula-Inv-loop formula-μ-loop
+formula-add-t24 t c =
+    let r = right-ready (formula-here t (c .before .before .before .before .before .before .before .before .before)) (c .before .before .before .before .before .before .before .before .turn-of .ensures) (c .before .before .before .before .before .before .operator .given .1) (c .before .before .before .before .token-at .ensures)
+    (c .before .before .before .right-level .ensures) (c .before .text-length .ensures) in
     omega (arith, r .within, r .small)
 
 formula-formula-requires : (t : ℕ) → formula-lts.Need-formula-requires (formula-claims t) (formula-at t) formula.Post formula-Inv-loop formula-μ-loop
 formula-formula-requires t c κs =
-    let here = formula-here t (c .before .before .before .before .before .before .before .before) in
-    let h = c .before .before .before .before .before .before .before .turn-of .ensures in
-    let e = c .before .before .before .before .before .operator .given .1 in
-    let b = c .before .before .before .token-at .ensures in
-    let k = c .before .before .before .before .before .before .before .before .before .before .before .before .before .before .before in
-    (omega (arith, right-lighter here h e b, k .pre .0), right-asks here h e b (c .before .before .right-level .ensures) (c .text-length .ensures) (k .args .room) (k .pre .1 .1 .1 .shallow))
+    let here = formula-here t (c .before .before .before .before .before .before .before .before .before) in
+    let h = c .before .before .before .before .before .before .before .before .turn-of .ensures in
+    let e = c .before .before .before .before .before .before .operator .given .1 in
+    let b = c .before .before .before .before .token-at .ensures in
+    let k = c .before .before .before .before .before .before .before .before .before .before .before .before .before .before .before .before in
+    (omega (arith, right-lighter here h e b, k .pre .0), right-asks here h e b (c .before .before .before .right-level .ensures) (c .before .text-length .ensures) (k .args .room) (k .pre .1 .1 .1 .shallow))
 
 formula-joined-requires : (t : ℕ) → formula-lts.Need-joined-requires (formula-claims t) (formula-at t) formula.Post formula-Inv-loop formula-μ-loop
 formula-joined-requires t c κs =
-    right-fits (formula-here t (c .before .before .before .before .before .before .before .before .before .before .before .before)) (c .before .before .before .before .before .before .before .before .before .before .before .turn-of .ensures) (c .before .before .before .before .before .before .before .before .before .operator .given .1) (c .before .before .before .before .before .before .before .token-at .ensures)
-    (c .before .before .before .before .before .before .right-level .ensures) (c .before .before .before .before .text-length .ensures) (c .before .before .before .formula .result) (c .before .before .before .formula .ensures)
+    right-fits (formula-here t (c .before .before .before .before .before .before .before .before .before .before .before .before .before)) (c .before .before .before .before .before .before .before .before .before .before .before .before .turn-of .ensures) (c .before .before .before .before .before .before .before .before .before .before .operator .given .1) (c .before .before .before .before .before .before .before .before .token-at .ensures)
+    (c .before .before .before .before .before .before .before .right-level .ensures) (c .before .before .before .before .before .text-length .ensures) (c .before .before .before .formula .result) (c .before .before .before .formula .ensures)
 
 formula-loop-less : (t : ℕ) → formula-lts.Need-loop-less (formula-claims t) (formula-at t) formula.Post formula-Inv-loop formula-μ-loop
 formula-loop-less t c =
-    climbing-lightens (formula-here t (c .before .before .before .before .before .before .before .before .before .before .before .before .before)) (c .before .before .before .before .before .before .before .before .before .before .before .before .turn-of .ensures) (c .before .before .before .before .before .before .before .before .before .before .operator .given .1) (c .before .before .before .before .before .before .before .before .token-at .ensures)
-    (c .before .before .before .before .before .before .before .right-level .ensures) (c .before .before .before .before .before .text-length .ensures) (c .before .before .before .before .formula .result) (c .before .before .before .before .formula .ensures)
+    climbing-lightens (formula-here t (c .before .before .before .before .before .before .before .before .before .before .before .before .before .before)) (c .before .before .before .before .before .before .before .before .before .before .before .before .before .turn-of .ensures) (c .before .before .before .before .before .before .before .before .before .before .before .operator .given .1) (c .before .before .before .before .before .before .before .before .before .token-at .ensures)
+    (c .before .before .before .before .before .before .before .before .right-level .ensures) (c .before .before .before .before .before .before .text-length .ensures) (c .before .before .before .before .formula .result) (c .before .before .before .before .formula .ensures)
     (c .joined .result) (c .joined .ensures)
 
 formula-loop-again : (t : ℕ) → formula-lts.Need-loop-again (formula-claims t) (formula-at t) formula.Post formula-Inv-loop formula-μ-loop
 formula-loop-again t c w before f u l =
-    climbing-goes (c .before .before .before .before .before .before .before .before .before .before .before .before .before .loop .inv w before f u l) (c .before .before .before .before .before .before .before .before .before .before .before .before .turn-of .ensures) (c .before .before .before .before .before .before .before .before .before .before .operator .given .1) (c .before .before .before .before .before .before .before .before .token-at .ensures)
-    (c .before .before .before .before .before .before .before .right-level .ensures) (c .before .before .before .before .before .text-length .ensures) (c .before .before .before .before .formula .result) (c .before .before .before .before .formula .ensures)
+    climbing-goes (c .before .before .before .before .before .before .before .before .before .before .before .before .before .before .loop .inv w before f u l) (c .before .before .before .before .before .before .before .before .before .before .before .before .before .turn-of .ensures) (c .before .before .before .before .before .before .before .before .before .before .before .operator .given .1) (c .before .before .before .before .before .before .before .before .before .token-at .ensures)
+    (c .before .before .before .before .before .before .before .before .right-level .ensures) (c .before .before .before .before .before .before .text-length .ensures) (c .before .before .before .before .formula .result) (c .before .before .before .before .formula .ensures)
     (c .joined .result) (c .joined .ensures)
 
 -- ---- an operand
@@ -414,7 +414,7 @@ pub +arguments+formula+operand-spec : {M : Type 1} → statement M
     (λ c κs. search needs)
     (λ c w before f u l. l)
     (λ c κs. let r = next-ready (arguments-here t (c .before)) refl in omega (arith, r .within, r .small))
-    (λ c. let r = next-ready (arguments-here t (c .before .before)) (c .given-length .ensures) in omega (arith, r .within, r .small))
+    (λ c. let r = next-ready (arguments-here t (c .before .before .before)) (c .before .given-length .ensures) in omega (arith, r .within, r .small))
     (arguments-formula-requires t)
     (λ c κs. search needs)
     (λ c. search needs)
@@ -447,7 +447,7 @@ pub +arguments+formula+operand-spec : {M : Type 1} → statement M
     (λ c κs. search needs)
     (λ c κs. search needs)
     (λ c κs. search needs)
-    (formula-add-formula t)
+    (formula-add-t24 t)
     (formula-formula-requires t)
     (formula-joined-requires t)
     (formula-loop-less t)

@@ -11,7 +11,7 @@ returns c =
     let p = s .args in
     let m = c .before .before .before .before .before .before .slot .given in
     rw (m .1)
-    (variable-refused (p .lengths .now) (p .space .now) (p .used) (p .ahead) (m .0 .0) (c .before .before .before .wide .ensures .0)
+    (variable-refused (p .lengths .now) (p .space .now) (p .used .0) (p .ahead) (m .0 .0) (c .before .before .before .wide .ensures .0)
     (s .pre .1 .0) (s .pre .1 .1) (past (c .before .has-room .ensures) (c .if1 .taken)))
 
 returns-3 : tie.Need-returns-3
@@ -21,7 +21,7 @@ returns-3 c =
     let m = c .before .before .before .before .before .before .before .before .before .before .before .slot .given in
     let w = c .before .before .before .before .before .before .before .before .wide .ensures in
     rw (m .1)
-    (variable-made (p .lengths .now) (p .space .now) (p .used) (p .ahead) (m .0 .0) (w .0)
+    (variable-made (p .lengths .now) (p .space .now) (p .used .0) (p .ahead) (m .0 .0) (w .0)
     (s .pre .1 .0) (s .pre .1 .1) (w .1) (rw (m .1) at (s .pre .0))
     (within (c .before .before .before .before .before .before .has-room .ensures) (c .before .before .before .before .before .if1 .left))
     (rw (c .before .before .before .before .offset-of .ensures) at (c .before .before .move-bytes .ensures)))

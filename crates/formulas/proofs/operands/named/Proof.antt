@@ -20,7 +20,7 @@ returns c vars l =
     let p = s .args in
     let n = tellingOf (nameBytes (p .line .now) (p .name)) in
     rw (c .before .before .enum-told .given .1)
-    (number-made (p .space .now) (p .used) (p .ahead) (s .pre .within)
+    (number-made (p .space .now) (p .used .0) (p .ahead) (s .pre .within)
     (rw (c .number-in .ensures, c .before .slot-of .ensures, c .before .before .before .before .telling-of .ensures) (looked-word l n)))
 
 returns-2 : tie.Need-returns-2

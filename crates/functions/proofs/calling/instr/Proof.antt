@@ -14,14 +14,14 @@ place-of-requires c κs =
 returns : tie.Need-returns
 returns c ahead =
     let t = c .before in let l = t .before .before in let f = l .before in let s = f .before .before in let p = s .args in
-    two-made (p .space .now) (p .used) (p .given) (s .pre) ahead (f .first-length .ensures) (l .second-length .ensures)
+    two-made (p .space .now) (p .used .0) (p .given) (s .pre) ahead (f .first-length .ensures) (l .second-length .ensures)
     (told-no (t .before .are-three .ensures) (t .if1 .taken)) (c .place-of .ensures)
 
 returns-2 : tie.Need-returns-2
 returns-2 c ahead =
     let w = c .before .before in let t = w .before in
     let l = t .before .before in let f = l .before in let s = f .before .before in let p = s .args in
-    three-refused (p .space .now) (p .used) (p .given) (s .pre) ahead (f .first-length .ensures) (l .second-length .ensures)
+    three-refused (p .space .now) (p .used .0) (p .given) (s .pre) ahead (f .first-length .ensures) (l .second-length .ensures)
     (told-yes (t .before .are-three .ensures) (t .if1 .left)) (w .first-word .ensures) (told-no (c .before .in-range .ensures) (c .if2 .taken))
 
 place-of-requires-2 : tie.Need-place-of-requires-2
@@ -36,7 +36,7 @@ returns-3 : tie.Need-returns-3
 returns-3 c ahead =
     let h = c .before in let u = h .before in let w = u .before .before in let t = w .before in
     let l = t .before .before in let f = l .before in let s = f .before .before in let p = s .args in
-    three-made (p .space .now) (p .used) (p .given) (s .pre) ahead (f .first-length .ensures) (l .second-length .ensures)
+    three-made (p .space .now) (p .used .0) (p .given) (s .pre) ahead (f .first-length .ensures) (l .second-length .ensures)
     (told-yes (t .before .are-three .ensures) (t .if1 .left)) (w .first-word .ensures)
     (told-yes (u .before .in-range .ensures) (u .if2 .left)) (h .third-length .ensures) (c .place-of2 .ensures)
 

@@ -9,7 +9,7 @@ use Rattle.functions.proofs.calling.val_of.Tie as tie
 returns : tie.Need-returns
 returns c =
     let p = c .before .before .before .args in
-    let e : p .used + p .len - p .used ≡ p .len = omega arith in
+    let e : p .used .0 + p .len - p .used .0 ≡ p .len = omega arith in
     rw (c .val .ensures, e)
 
 pub val-of-spec : {M : Type 1} → statement M

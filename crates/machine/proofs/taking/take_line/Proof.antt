@@ -10,7 +10,7 @@ use Rattle.machine.proofs.taking.take_line.Statement.{statement}
 use Rattle.machine.proofs.taking.take_line.Tie as tie
 
 -- after a line was walked, some bytes were left
-some : (c : tie.After-extent-at) → let a = c .before .before .before .args in a .from < length (a .input .now)
+some : (c : tie.After-extent-at) → let a = c .before .before .before .args in a .from .0 < length (a .input .now)
 some c = omega (arith, c .before .if1 .left)
 
 pub take-line-spec : {M : Type 1} → statement M

@@ -14,9 +14,9 @@ use Rattle.operators.proofs.applying.beside_text.Tie as tie
 returns : tie.Need-returns
 returns c =
     let p = c .before .before .before .args in
-    let left = text (take (p .first) (drop (p .used) (p .space .now))) in
+    let left = text (take (p .first) (drop (p .used .0) (p .space .now))) in
     rw (c .mismatch .ensures)
-    (no-text (λ x. RightMet (p .operator) left (p .used + p .first) x (p .space .now) (p .used) (worked.Fault (mismatchOf x)))
+    (no-text (λ x. RightMet (p .operator) left (p .used .0 + p .first) x (p .space .now) (p .used .0) (worked.Fault (mismatchOf x)))
     (λ e. refl) (λ w t. (λ room h. refl, tt)) (p .right) (c .before .match .keys2))
 
 pub beside-text-spec : {M : Type 1} → statement M

@@ -9,13 +9,13 @@ use Rattle.operators.proofs.applying.joined.Tie as tie
 returns-2 : tie.Need-returns-2
 returns-2 c =
     let p = c .before .before .before .args in
-    no-value (λ x. SidesMet (p .operator) x (p .right) (p .space .now) (p .used) x) (λ e. refl) (p .left) (c .before .match .keys2)
+    no-value (λ x. SidesMet (p .operator) x (p .right) (p .space .now) (p .used .0) x) (λ e. refl) (p .left) (c .before .match .keys2)
     (c .match2 .keys2)
 
 returns-3 : tie.Need-returns-3
 returns-3 c =
     let l = c .before .before in let p = l .before .before .before .before .args in
-    rw (l .left2 .given .1) (c .beside-whole .ensures (p .space .now) (p .used))
+    rw (l .left2 .given .1) (c .beside-whole .ensures (p .space .now) (p .used .0))
 
 pub joined-spec : {M : Type 1} → statement M
 joined-spec =

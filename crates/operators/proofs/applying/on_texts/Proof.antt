@@ -10,18 +10,18 @@ use Rattle.operators.proofs.applying.on_texts.Tie as tie
 returns : tie.Need-returns
 returns c =
     let s = c .before .before .before in let p = s .args in
-    texts-refused (p .operator) (take (p .first) (drop (p .used) (p .space .now))) (take (p .second) (drop (p .used + p .first) (p .space .now)))
-    (p .ahead) (p .space .now) (p .used) (p .used + p .first + p .second) (sym (c .before .wants-whole .ensures) ∙ c .if1 .taken)
+    texts-refused (p .operator) (take (p .first) (drop (p .used .0) (p .space .now))) (take (p .second) (drop (p .used .0 + p .first) (p .space .now)))
+    (p .ahead) (p .space .now) (p .used .0) (p .used .0 + p .first + p .second) (sym (c .before .wants-whole .ensures) ∙ c .if1 .taken)
 
 returns-2 : tie.Need-returns-2
 returns-2 c =
     let s = c .before .before .before .before .before .before in let p = s .args in
-    rw (c .before .enum-told .given .1, c .join .ensures) (beside-joined (p .space .now) (p .used) (p .first) (p .second) (s .pre) (p .ahead))
+    rw (c .before .enum-told .given .1, c .join .ensures) (beside-joined (p .space .now) (p .used .0) (p .first) (p .second) (s .pre) (p .ahead))
 
 returns-3 : tie.Need-returns-3
 returns-3 c =
     let k = c .before .before .before .before in let i = k .before in let s = i .before .before .before in let p = s .args in
-    beside-compared (p .space .now) (p .used) (p .first) (p .second) (s .pre) (p .ahead) (p .operator)
+    beside-compared (p .space .now) (p .used .0) (p .first) (p .second) (s .pre) (p .ahead) (p .operator)
     (sym (i .before .wants-whole .ensures) ∙ i .if1 .left) (k .match .keys2)
     (c .answered .ensures) (c .before .truth .ensures) (c .before .before .holds .ensures) (c .before .before .before .compare .ensures)
 

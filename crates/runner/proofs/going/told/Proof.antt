@@ -10,4 +10,4 @@ told-spec =
     (λ c κs. search needs)
     (λ c κs. search needs)
     (λ c. search needs)
-    (λ c. (rw (c .before .before .before .before .before .before .outcome-of .ensures), c .before .before .before .before .clean-up .ensures)))
+    (λ c. (rw (c .before .before .before .before .before .before .before .outcome-of .ensures), c .before .before .before .before .clean-up .ensures)))

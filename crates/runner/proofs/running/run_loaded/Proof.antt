@@ -6,7 +6,9 @@ use Prim.Native.Nat.{_-_}
 use native.Mathlib.Omega.{arith}
 use lib.ListN.{set}
 use Rattle.rows.proofs.Ordering.{ordered}
+use Rattle.machine.specs.bridge.Holding.{stateOf}
 use Rattle.runner.specs.bridge.Acting.{goesOf, LooksUp}
+use Rattle.runner.specs.bridge.Endings.{ranOf}
 use Rattle.runner.specs.declared.going.Acted.{Acted}
 use Rattle.runner.proofs.Turning.{looked-none, left-none}
 use Rattle.runner.proofs.Looping.{Kept, kept-fresh, kept-out, kept-at, kept-ready, kept-less, kept-again}
@@ -15,11 +17,12 @@ use Rattle.runner.proofs.running.run_loaded.Statement.{statement}
 use Rattle.runner.proofs.running.run_loaded.Tie as tie
 
 abbrev Inv-loop : tie.InvT-loop
-Inv-loop text rows input space₀ room₀ budget stack₀ going₀ space room stack going =
-    Kept text rows input space₀ room₀ budget space room going (stack .records)
+Inv-loop text rows names₀ words₀ labels₀ lengths₀ input space₀ room₀ budget stack₀ going₀ names words labels lengths space room stack going =
+    Kept text rows input space₀ room₀ budget space room (stateOf (going .machine) names words labels lengths) (going .standing) (stack .records)
 
 abbrev μ-loop : tie.MeasureT-loop
-μ-loop text rows input space₀ room₀ budget stack₀ going₀ space room stack going = budget - going .machine .steps
+μ-loop text rows names₀ words₀ labels₀ lengths₀ input space₀ room₀ budget stack₀ going₀ names words labels lengths space room stack going =
+    budget - going .machine .steps
 
 -- in a turn, from where the run goes on
 module _ (t : tie.Then1 Inv-loop μ-loop) where
@@ -31,7 +34,7 @@ module _ (t : tie.Then1 Inv-loop μ-loop) where
 
 -- the record that was asked for was looked up, or none was asked for
 looked : (c : tie.Joined2 Inv-loop μ-loop)
-    → let a = c .before .before .before in let l = a .before .before .before .loop in
+    → let a = c .before .before .before in let l = a .before .before .before .before .loop in
     LooksUp (a .asks .result .sought) (l .going .machine .depth) (l .stack .records) (c .if2 .lookup)
 looked c =
     let n = c .before .before in
@@ -45,7 +48,7 @@ module _ (c : tie.Joined3 Inv-loop μ-loop) where
   acted = c .before .before .before .before .before .before .act .result
 
   abbrev loop : tie.At-loop Inv-loop μ-loop
-  loop = c .before .before .before .before .before .before .before .before .before .before .before .before .before .before .before
+  loop = c .before .before .before .before .before .before .before .before .before .before .before .before .before .before .before .before .before .before .before .before
 
   stored : c .if3 .stack .records ≡ set (loop .loop .stack .records) (acted .slot) (acted .held)
   stored =
@@ -56,20 +59,25 @@ module _ (c : tie.Joined3 Inv-loop μ-loop) where
 
 act-requires : tie.Need-act-requires Inv-loop μ-loop
 act-requires c κs =
-    let j = c .before .before in let a = j .before .before .before in let t = a .before in (
+    let j = c .before .before .before .before .before .before in let a = j .before .before .before in let t = a .before .before in (
       kept-at (start t .pre .0) (t .before .before .loop .inv) (goes-on t),
       (a .asks .ensures, kept-ready (start t .pre .0) (t .before .before .loop .inv) (goes-on t) (omega (arith, start t .fits)) (looked j)),
     )
 
 loop-less : tie.Need-loop-less Inv-loop μ-loop
 loop-less c =
-    let a = c .before .before .before .before .before .before .before in let t = a .before .before .before .before .before .before .before in
+    let a = c .before .before .before .before .before .before .before in let t = a .before .before .before .before .before .before .before .before .before .before .before .before in
     kept-less (start t .pre .0) (t .before .before .loop .inv) (goes-on t) (a .act .ensures)
 
 loop-again : tie.Need-loop-again Inv-loop μ-loop
 loop-again c =
-    let a = c .before .before .before .before .before .before .before in let j = a .before .before .before in let t = j .before .before .before .before in
+    let a = c .before .before .before .before .before .before .before in let j = a .before .before .before .before .before .before .before in let t = a .before .before .before .before .before .before .before .before .before .before .before .before in
     kept-again (start t .pre .0) (t .before .before .loop .inv) (goes-on t) (a .act .ensures) (looked j) (stored (c .before))
+
+returns : tie.Need-returns Inv-loop μ-loop
+returns c =
+    let k = c .before .before .before .before .before .before .before .before .before .before .before .before .before .pre in let l = c .before .before .before .before .before .before in let t = c .before .before .told .ensures in
+    kept-out (k .0) (l .loop .inv) (sym (c .before .before .before .before .before .goes .ensures) ∙ c .before .before .before .before .if1 .left) (ap (λ d. ranOf d (l .loop .names) (l .loop .words) (l .loop .labels) (l .loop .lengths)) (t .0)) (t .1)
 
 pub run-loaded-spec : {M : Type 1} → statement M
 run-loaded-spec =
@@ -79,12 +87,12 @@ run-loaded-spec =
     μ-loop
     (λ c κs. search needs)
     (λ c κs. ordered (c .before .before .before .before .before .pre .0))
-    (λ c. kept-fresh _ _ _ _ (c .before .before .before .before .before .before .pre .1) _ (c .before .before .before .before .before .before .pre .0) (c .before .empty .ensures) (c .begins .ensures))
+    (λ c. let k = c .before .before .before .before .before .before .pre in kept-fresh _ _ _ _ (k .1 .0) _ (k .0) (k .1 .1) (c .before .empty .ensures) (c .begins .ensures))
     (λ c κs. search needs)
-    (λ c κs. kept-at (c .before .before .before .before .before .before .before .before .before .pre .0) (c .before .before .loop .inv) (sym (c .before .goes .ensures) ∙ c .if1 .taken))
+    (λ c κs. kept-at (c .before .before .before .before .before .before .before .before .before .before .pre .0) (c .before .before .before .loop .inv) (sym (c .before .before .goes .ensures) ∙ c .before .if1 .taken))
     (λ c κs. search needs)
     (λ c κs. search needs)
-    (λ c κs. c .before .before .before .before .before .before .before .before .loop .inv .sound .deep)
+    (λ c κs. c .before .before .before .before .before .before .before .before .before .loop .inv .sound .deep)
     act-requires
     (λ c κs. search needs)
     (λ c κs. search needs)
@@ -93,4 +101,4 @@ run-loaded-spec =
     (λ c κs. (ordered (c .before .before .before .before .before .before .before .before .before .before .pre .0), c .before .before .before .loop .inv .rowed))
     (λ c. search needs)
     (λ c. search needs)
-    (λ c. kept-out (c .before .before .before .before .before .before .before .before .before .before .before .before .before .pre .0) (c .before .before .before .before .before .before .loop .inv) (sym (c .before .before .before .before .before .goes .ensures) ∙ c .before .before .before .before .if1 .left) (c .before .before .told .ensures .0) (c .before .before .told .ensures .1)))
+    returns)

@@ -14,11 +14,11 @@ use Rattle.skimming.specs.bridge.Marks.{First, topOf}
 use Rattle.skimming.specs.bridge.Remaining.{weight}
 use Rattle.skimming.proofs.Holding.{first-small, top-open, Held, apart-light, step-told, held-first, held-refused, held-ends, held-wants, held-has, held-closes, held-renews, held-opens, held-inner-bad, held-inner}
 use Rattle.skimming.specs.bridge.Steps.{stepOf}
-use Rattle.skimming.specs.declared.steps.Step.{Step}
+use Rattle.skimming.specs.declared.stepping.Step.{Step}
 use Rattle.skimming.proofs.Lightness.{Lightens, step-lightens}
 use Rattle.skimming.proofs.skims.first_depth.Reads as first-depth-reads
 use Rattle.skimming.proofs.skims.top_of.Reads as top-of-reads
-use Rattle.skimming.proofs.steps.next_step.Reads as next-step-reads
+use Rattle.skimming.proofs.stepping.next_step.Reads as next-step-reads
 use Rattle.skimming.proofs.skims.skim_from.Reads as skim-from
 use Rattle.skimming.proofs.skims.skim_from.Kinds as skim-from-kinds
 use Rattle.skimming.proofs.skims.+skim_from.Lts-skim_from as skim-from-lts

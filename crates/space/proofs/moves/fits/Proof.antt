@@ -11,5 +11,5 @@ pub fits-spec : {M : Type 1} → statement M
 fits-spec =
     tie.close
     (tie.spec
-    (λ c. let a = c .before .args in sym (lt-leb (a .at + a .count) (a .len) (omega arith)))
-    (λ c. let a = c .before .args in less-room (a .at) (a .count) (a .len) (c .if1 .left)))
+    (λ c. let a = c .before .args in sym (lt-leb (a .at .0 + a .count) (a .len) (omega arith)))
+    (λ c. let a = c .before .before .args in less-room (a .at .0) (a .count) (a .len) (c .before .if1 .left)))

@@ -25,14 +25,14 @@ slice-aggregate-copy-in c =
 returns : tie.Need-returns
 returns c l e ahead =
     let s = c .before .before .before in let p = s .before .before .args in
-    no-room-built (p .space .now) (p .used) (p .given) (s .before .before .pre) ahead (p .text) (short s) l e
+    no-room-built (p .space .now) (p .used .0) (p .given) (s .before .before .pre) ahead (p .text) (short s) l e
     (leb-false _ _ (sym (c .before .grants .ensures) ∙ not-true _ (c .if1 .taken)))
 
 returns-2 : tie.Need-returns-2
 returns-2 c l e ahead =
     let t = c .before .before .before .before .before .before in
     let s = t .before .before .before in let p = s .before .before .args in
-    built-made (p .space .now) (p .used) (p .given) (s .before .before .pre) ahead (p .text) (short s) l e
+    built-made (p .space .now) (p .used .0) (p .given) (s .before .before .pre) ahead (p .text) (short s) l e
     (leb-true _ _ (sym (t .before .grants .ensures) ∙ not-false _ (t .if1 .left)))
     (c .before .before .copy-in .ensures)
 

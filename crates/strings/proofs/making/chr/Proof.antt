@@ -8,14 +8,14 @@ use Rattle.strings.proofs.making.chr.Tie as tie
 returns : tie.Need-returns
 returns c ahead =
     let w = c .before .before in let s = w .before .before in let p = s .args in
-    chr-refused (p .space .now) (p .used) (p .given) (s .pre) ahead (w .first-word .ensures)
+    chr-refused (p .space .now) (p .used .0) (p .given) (s .pre) ahead (w .first-word .ensures)
     (told-no (c .before .in-range .ensures) (c .if1 .taken))
 
 returns-2 : tie.Need-returns-2
 returns-2 c ahead =
     let t = c .before .before .before .before in
     let w = t .before .before in let s = w .before .before in let p = s .args in
-    chr-made (p .space .now) (p .used) (p .given) (s .pre) ahead (w .first-word .ensures)
+    chr-made (p .space .now) (p .used .0) (p .given) (s .pre) ahead (w .first-word .ensures)
     (told-yes (t .before .in-range .ensures) (t .if1 .left)) (c .before .before .filled .ensures ahead)
 
 pub chr-spec : {M : Type 1} → statement M

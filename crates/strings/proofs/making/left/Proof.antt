@@ -7,7 +7,7 @@ use Rattle.strings.proofs.making.left.Tie as tie
 returns : tie.Need-returns
 returns c ahead =
     let w = c .before .before in let s = w .before .before in let p = s .args in
-    left-refused (p .space .now) (p .used) (p .given) (s .pre) ahead (w .second-word .ensures)
+    left-refused (p .space .now) (p .used .0) (p .given) (s .pre) ahead (w .second-word .ensures)
     (told-no (c .before .in-range .ensures) (c .if1 .taken))
 
 part-requires : tie.Need-part-requires
@@ -19,7 +19,7 @@ returns-2 : tie.Need-returns-2
 returns-2 c ahead =
     let t = c .before .before .before .before in
     let w = t .before .before in let s = w .before .before in let p = s .args in
-    left-made (p .space .now) (p .used) (p .given) (s .pre) ahead (w .second-word .ensures)
+    left-made (p .space .now) (p .used .0) (p .given) (s .pre) ahead (w .second-word .ensures)
     (told-yes (t .before .in-range .ensures) (t .if1 .left)) (c .before .before .part .ensures ahead)
 
 pub left-spec : {M : Type 1} → statement M

@@ -7,14 +7,14 @@ use Rattle.strings.proofs.making.mid.Tie as tie
 returns : tie.Need-returns
 returns c ahead =
     let w = c .before .before in let s = w .before .before in let p = s .args in
-    mid-refused (p .space .now) (p .used) (p .given) (s .pre) ahead (w .second-word .ensures)
+    mid-refused (p .space .now) (p .used .0) (p .given) (s .pre) ahead (w .second-word .ensures)
     (told-no (c .before .in-range .ensures) (c .if1 .taken))
 
 returns-2 : tie.Need-returns-2
 returns-2 c ahead =
     let m = c .before .before in let t = m .before in
     let w = t .before .before in let s = w .before .before in let p = s .args in
-    mid-refused-length (p .space .now) (p .used) (p .given) (s .pre) ahead (w .second-word .ensures) (m .mid-length .ensures)
+    mid-refused-length (p .space .now) (p .used .0) (p .given) (s .pre) ahead (w .second-word .ensures) (m .mid-length .ensures)
     (told-yes (t .before .in-range .ensures) (t .if1 .left)) (told-no (c .before .in-range2 .ensures) (c .if2 .taken))
 
 sub-part : tie.Need-sub-part
@@ -32,7 +32,7 @@ returns-3 : tie.Need-returns-3
 returns-3 c ahead =
     let u = c .before .before .before .before in let m = u .before .before in let t = m .before in
     let w = t .before .before in let s = w .before .before in let p = s .args in
-    mid-made (p .space .now) (p .used) (p .given) (s .pre) ahead (w .second-word .ensures) (m .mid-length .ensures)
+    mid-made (p .space .now) (p .used .0) (p .given) (s .pre) ahead (w .second-word .ensures) (m .mid-length .ensures)
     (told-yes (t .before .in-range .ensures) (t .if1 .left)) (told-yes (u .before .in-range2 .ensures) (u .if2 .left))
     (c .before .before .part .ensures ahead)
 

@@ -19,14 +19,14 @@ kept c = c .least2 .ensures ∙ rw (c .before .before .first-length .ensures)
 returns : tie.Need-returns
 returns c ahead =
     let s = c .before .before .before in let i = s .before .before .before .before in let p = i .args in
-    no-room-part (p .space .now) (p .used) (p .given) (i .pre .0) ahead (p .from) (p .most) _ _ (i .pre .1) (start (s .before)) (kept s)
+    no-room-part (p .space .now) (p .used .0) (p .given) (i .pre .0) ahead (p .from) (p .most) _ _ (i .pre .1) (start (s .before)) (kept s)
     (leb-false _ _ (sym (c .before .grants .ensures) ∙ not-true _ (c .if1 .taken)))
 
 returns-2 : tie.Need-returns-2
 returns-2 c ahead =
     let t = c .before .before .before .before in
     let s = t .before .before .before in let i = s .before .before .before .before in let p = i .args in
-    part-made (p .space .now) (p .used) (p .given) (i .pre .0) ahead (p .from) (p .most) _ _ (i .pre .1) (start (s .before)) (kept s)
+    part-made (p .space .now) (p .used .0) (p .given) (i .pre .0) ahead (p .from) (p .most) _ _ (i .pre .1) (start (s .before)) (kept s)
     (leb-true _ _ (sym (t .before .grants .ensures) ∙ not-false _ (t .if1 .left)))
     (c .before .before .move-bytes .ensures)
 

@@ -8,7 +8,7 @@ use Rattle.strings.proofs.making.right.Tie as tie
 returns : tie.Need-returns
 returns c ahead =
     let w = c .before .before in let s = w .before .before in let p = s .args in
-    right-refused (p .space .now) (p .used) (p .given) (s .pre) ahead (w .second-word .ensures)
+    right-refused (p .space .now) (p .used .0) (p .given) (s .pre) ahead (w .second-word .ensures)
     (told-no (c .before .in-range .ensures) (c .if1 .taken))
 
 part-requires : tie.Need-part-requires
@@ -20,7 +20,7 @@ returns-2 : tie.Need-returns-2
 returns-2 c ahead =
     let k = c .before .before .before .before in let l = k .before in
     let t = l .before in let w = t .before .before in let s = w .before .before in let p = s .args in
-    right-made (p .space .now) (p .used) (p .given) (s .pre) ahead (w .second-word .ensures)
+    right-made (p .space .now) (p .used .0) (p .given) (s .pre) ahead (w .second-word .ensures)
     (l .first-length .result - k .least .result)
     (told-yes (t .before .in-range .ensures) (t .if1 .left)) (rw (k .least .ensures, l .first-length .ensures)) (c .before .before .part .ensures ahead)
 

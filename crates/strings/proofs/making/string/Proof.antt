@@ -18,13 +18,13 @@ long c = sym (c .before .before .second-of .ensures) ∙ c .second2 .given .1
 returns : tie.Need-returns
 returns c ahead =
     let k = c .before .before .before in let w = k .before .before .before in let s = w .before .before in let p = s .args in
-    code-refused (p .space .now) (p .used) (p .given) (s .pre) ahead (w .first-word .ensures) _ (code k)
+    code-refused (p .space .now) (p .used .0) (p .given) (s .pre) ahead (w .first-word .ensures) _ (code k)
     (told-no (c .before .in-range .ensures) (c .if1 .taken))
 
 returns-2 : tie.Need-returns-2
 returns-2 c ahead =
     let k = c .before .before in let w = k .before .before .before in let s = w .before .before in let p = s .args in
-    text-refused (p .space .now) (p .used) (p .given) (s .pre) ahead (w .first-word .ensures) _ (long k) (c .if2 .taken)
+    text-refused (p .space .now) (p .used .0) (p .given) (s .pre) ahead (w .first-word .ensures) _ (long k) (c .if2 .taken)
 
 slice-read-byte : tie.Need-slice-read-byte
 slice-read-byte c =
@@ -35,7 +35,7 @@ returns-3 : tie.Need-returns-3
 returns-3 c ahead =
     let t = c .before .before .before .before in
     let k = t .before .before .before in let w = k .before .before .before in let s = w .before .before in let p = s .args in
-    code-made (p .space .now) (p .used) (p .given) (s .pre) ahead (w .first-word .ensures) _ (code k)
+    code-made (p .space .now) (p .used .0) (p .given) (s .pre) ahead (w .first-word .ensures) _ (code k)
     (told-yes (t .before .in-range .ensures) (t .if1 .left)) (c .before .before .filled .ensures ahead)
 
 returns-4 : tie.Need-returns-4
@@ -43,7 +43,7 @@ returns-4 c ahead =
     let l = c .before .before .before .before .before in
     let t = l .before in
     let k = t .before .before in let w = k .before .before .before in let s = w .before .before in let p = s .args in
-    text-made (p .space .now) (p .used) (p .given) (s .pre) ahead (w .first-word .ensures) _ (long k)
+    text-made (p .space .now) (p .used .0) (p .given) (s .pre) ahead (w .first-word .ensures) _ (long k)
     (omega (arith, t .if2 .left)) (rw (l .first-length .ensures) at (c .before .before .filled2 .ensures ahead))
 
 pub string-spec : {M : Type 1} → statement M

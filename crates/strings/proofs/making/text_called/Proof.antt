@@ -12,14 +12,14 @@ returns-5 : tie.Need-returns-5
 returns-5 c ahead =
     let k = c .before .before .before .before in let w = k .before .before in let s = w .before .before in let p = s .args in
     rw (k .enum-told5 .given .1)
-    (space-made (p .space .now) (p .used) (p .given) (s .pre .0) ahead (w .first-word .ensures) (c .before .before .filled .ensures ahead))
+    (space-made (p .space .now) (p .used .0) (p .given) (s .pre .0) ahead (w .first-word .ensures) (c .before .before .filled .ensures ahead))
 
 -- STR$
 returns-7 : tie.Need-returns-7
 returns-7 c ahead =
     let k = c .before .before .before .before .before in let w = k .before .before in let s = w .before .before in let p = s .args in
     rw (k .enum-told7 .given .1)
-    (str-made (p .space .now) (p .used) (p .given) (s .pre .0) ahead (w .first-word .ensures)
+    (str-made (p .space .now) (p .used .0) (p .given) (s .pre .0) ahead (w .first-word .ensures)
     (c .before .before .built .ensures (signedNumeral (w .first-word .result)) (c .before .before .before .str-text .ensures) ahead))
 
 -- HEX$
@@ -28,7 +28,7 @@ returns-8 c ahead =
     let k = c .before .before .before .before .before in let w = k .before in let s = w .before .before in let p = s .args in
     let e : p .function ≡ Hex = last-text (p .function) (s .pre .1) (k .match .keys8) in
     rw e
-    (hex-made (p .space .now) (p .used) (p .given) (s .pre .0) ahead (w .first-word .ensures)
+    (hex-made (p .space .now) (p .used .0) (p .given) (s .pre .0) ahead (w .first-word .ensures)
     (c .before .before .built2 .ensures (hexadecimal (w .first-word .result)) (c .before .before .before .hex-text .ensures) ahead))
 
 pub text-called-spec : {M : Type 1} → statement M
