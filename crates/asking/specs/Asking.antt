@@ -13,6 +13,8 @@ use Rattle.words.specs.declared.names.Name.{Name}
 use Rattle.words.specs.declared.names.Telling.{Telling}
 use Rattle.words.specs.declared.symbols.Scanned.{Scanned}
 use Rattle.scanner.specs.Tokens.{tokenAt}
+use Rattle.loader.specs.Refusals.{refusalNumber}
+use Rattle.loader.specs.declared.refusals.Refusal.the-variants.{NoVariable}
 use Rattle.grammar.specs.Tests.{onName}
 use Rattle.variables.specs.Variables.{wordOf}
 use Rattle.variables.specs.Tables.{namesIn, numbersIn, slotIn, sumOf}
@@ -43,3 +45,9 @@ unfoldable pub askOf : Tables → ℕ → List ℕ → Asked
 askOf tables space given =
     let t = tokenAt given (place 0) in
     onName (t .token) (λ v. cond (isWholeName given t v) (asked (v .kind) (tellingOf (nameBytes given v)) tables space) Refused) Refused
+
+-- the number of an answer: 0, or that of a refusal
+abbrev pub askedNumber : Asked → ℕ
+askedNumber (Whole w) = 0
+askedNumber (Text start n) = 0
+askedNumber Refused = refusalNumber NoVariable

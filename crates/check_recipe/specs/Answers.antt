@@ -2,13 +2,15 @@
 use mathlib.Core.List.{List, [], _∷_}
 use Prim.Native.Nat.{ℕ}
 use Rattle.whole.specs.Bytes.{bytes}
-use Rattle.whole.specs.Errors.{errorNumber}
-use Rattle.loader.specs.Refusals.{refusalNumber}
 use Rattle.console.specs.Lines.{line}
+use Rattle.checker.specs.Check.{verdictNumber, verdictLine, verdictPlace}
 use Rattle.checker.specs.declared.checking.Verdict.{Verdict}
 use Rattle.checker.specs.declared.checking.Verdict.the-variants.{Passed, Refused, Faulty}
 
+abbrev pub refusedLine : Verdict → ℕ → List ℕ
+refusedLine v standing = line (bytes "refused") (verdictNumber v ∷ standing ∷ [])
+
 abbrev pub lineOf : Verdict → List ℕ
 lineOf Passed = line (bytes "passed") []
-lineOf (Refused r p) = line (bytes "refused") (refusalNumber r ∷ p .0 ∷ [])
-lineOf (Faulty e l) = line (bytes "refused") (errorNumber e ∷ l .0 ∷ [])
+lineOf (Refused r p) = refusedLine (Refused r p) (verdictPlace (Refused r p))
+lineOf (Faulty e l) = refusedLine (Faulty e l) (verdictLine (Faulty e l))

@@ -5,11 +5,13 @@ use mathlib.Core.Bool.{Bool, false, cond, not, _||_}
 use mathlib.Core.List.{List, [], _∷_}
 use Prim.Native.Nat.{ℕ}
 use Rattle.whole.specs.Digits.{leadingValue}
+use Rattle.whole.specs.Errors.{errorNumber}
 use Rattle.whole.specs.declared.errors.Error.the-variants.{Syntax, FormulaTooComplex, TypeMismatch, UndefinedLine}
 use Rattle.words.specs.Places.{lineNumber}
 use Rattle.words.specs.declared.places.LineNumber.{LineNumber}
 use Rattle.loader.specs.Lines.{Line, linesOf, numberOf, has, afterNumber}
 use Rattle.loader.specs.Loading.{loadOf}
+use Rattle.loader.specs.Refusals.{refusalNumber}
 use Rattle.loader.specs.declared.loading.Loaded.{Loaded}
 use Rattle.loader.specs.declared.loading.Loaded.the-variants as loaded
 use Rattle.grammar.specs.Trees.{Statement}
@@ -64,3 +66,20 @@ ifLoaded (loaded.Refused refusal p) check = Refused refusal p
 
 unfoldable pub checkOf : List ℕ → Verdict
 checkOf text = ifLoaded (loadOf text) (λ _. firstFault (linesOf text) (linesOf text))
+
+-- ---- what is answered: number, line and place; what does not apply is 0
+
+abbrev pub verdictNumber : Verdict → ℕ
+verdictNumber Passed = 0
+verdictNumber (Refused r p) = refusalNumber r
+verdictNumber (Faulty e l) = errorNumber e
+
+abbrev pub verdictLine : Verdict → ℕ
+verdictLine Passed = 0
+verdictLine (Refused r p) = 0
+verdictLine (Faulty e l) = l .0
+
+abbrev pub verdictPlace : Verdict → ℕ
+verdictPlace Passed = 0
+verdictPlace (Refused r p) = p .0
+verdictPlace (Faulty e l) = 0

@@ -1,21 +1,35 @@
 -- The demands hold.
-use mathlib.Core.Path.{_≡_, refl, sym, ap, _∙_}
+use mathlib.Core.Path.{_≡_, refl, sym, ap, subst, _∙_}
 use mathlib.Core.Bool.{Bool, true, false, cond}
 use mathlib.Core.List.{List, [], _∷_, _++_}
 use mathlib.Core.Logic.{_↔_}
 use Prim.Native.Nat.{ℕ, _-_, _≤_}
 use native.Mathlib.Omega.{arith}
+use Rattle.whole.specs.declared.errors.Error.{Error}
+use Rattle.whole.specs.declared.errors.Error.the-variants.{OutOfStringSpace}
+use Rattle.words.specs.Places.{place, lineNumber}
+use Rattle.words.specs.declared.places.LineNumber.{LineNumber}
+use Rattle.words.specs.declared.places.Place.{Place}
+use Rattle.loader.specs.Lines.{linesOf}
+use Rattle.loader.specs.Loading.{loadOf}
+use Rattle.loader.specs.declared.loading.Loaded.the-variants as loaded
+use Rattle.loader.specs.declared.refusals.Refusal.{Refusal}
 use lib.ListN.{length, replicate, length-append, length-drop, length-replicate}
 use Rattle.variables.specs.Variables.{StringVariable, stringBytes, joinedStrings}
 use Rattle.machine.specs.Machine.{Lent}
 use Rattle.checker.specs.Check.{checkOf}
+use Rattle.checker.specs.declared.checking.Verdict.{Verdict}
+use Rattle.checker.specs.declared.checking.Verdict.the-variants as verdict
 use Rattle.runner.specs.Run as run
 use Rattle.runner.specs.Run.{isRefused, answerOf}
+use Rattle.runner.specs.declared.running.Outcome.{Outcome}
 use Rattle.runner.specs.declared.running.Ran.{Ran}
-use Rattle.promises.specs.Calls.{RunCall, textOf, inputOf, spaceBefore, spaceAfter, roomBefore, roomAfter, lentOf, budgetOf, tablesBefore, recipeOf, tablesHanded, spaceHanded, nameAsked}
+use Rattle.promises.specs.Calls.{RunCall, CheckCall, textOf, inputOf, spaceBefore, spaceAfter, roomBefore, roomAfter, lentOf, budgetOf, tablesBefore, recipeOf, tablesHanded, spaceHanded, nameAsked}
 use Rattle.promises.proofs.Waiting.Runs.{few-unfinished}
-use Rattle.promises.specs.Demands.{ranOf, answersAlways, stopsWithinBudget, refusesExactly, refusalsChangeNothing, staysWithinMemory, askedPartsLieInside, runsAsDefined, madeExactly, fourteenExactly, checksExactly, passedRecipesEndWell, fewAtOnce}
+use Rattle.promises.specs.Demands.{RefusedFor, WasRefused, Tells, firstRefusal, ChecksExactly, ranOf, answersAlways, stopsWithinBudget, refusesExactly, refusalsChangeNothing, staysWithinMemory, askedPartsLieInside, runsAsDefined, madeExactly, fourteenExactly, checksExactly, passedRecipesEndWell, fewAtOnce}
+use Rattle.promises.specs.Faults.{AllFaultless, FirstFault}
 use Rattle.promises.specs.Passing.{endsWell}
+use Rattle.promises.proofs.Numbers.{failed-told, refused-told, fault-low, Unloads, faulty-told, passed-told}
 use Rattle.promises.proofs.Limits.Bounds.{steps-within, output-within, input-within, strings-within}
 use Rattle.promises.proofs.Fourteen.Formulas.{make-over, make-refused}
 use Rattle.promises.proofs.Fourteen.Runs as fourteen
@@ -77,11 +91,14 @@ stops-within-budget c =
     omega (arith, e, of steps-within c)
 
 pub refuses-exactly : refusesExactly
-refuses-exactly c r p = told-exactly (outcome-told c) (of refusals.refused-exactly c r p)
+refuses-exactly c number at =
+    subst (λ (o : Outcome). WasRefused o number at ↔ RefusedFor (textOf c) (lentOf c) number at) (sym (outcome-told c))
+    (of refusals.refused-numbered c number at)
 
 pub refusals-change-nothing : refusalsChangeNothing
-refusals-change-nothing c r p h =
-    let e = of refusals.refused-fresh c r p (sym (outcome-told c) ∙ h) in
+refusals-change-nothing c h =
+    let k = refused-told (c .answer .outcome) _ _ (record { refused = h; numbered = refl; placed = refl }) in
+    let e = of refusals.refused-fresh c (k .refusal) _ (sym (outcome-told c) ∙ k .is) in
     let a = c .allowed .0 ∙ ap (λ x. answerOf x (tablesBefore c)) e in
     record {
       steps = ap (λ (y : Ran). y .steps) a;
@@ -115,15 +132,55 @@ pub made-exactly : madeExactly
 made-exactly b room = (λ e. make-over b room e, λ h. make-refused b room h)
 
 pub fourteen-exactly : fourteenExactly
-fourteen-exactly c l = told-exactly (outcome-told c) (of (fourteen.fourteen-exactly live-is-exact) c l)
+fourteen-exactly c line =
+    let exactly = told-exactly (outcome-told c) (of (fourteen.fourteen-exactly live-is-exact) c (lineNumber line)) in (
+      (λ h. exactly .0 (failed-told OutOfStringSpace (omega arith) (c .answer .outcome) line (h .0) (h .1))),
+      (λ h. rw (exactly .1 h) (refl, refl)),
+    )
+
+module _ (c : CheckCall) where
+  faulty : (e : Error) (n : LineNumber) → (c .answer ≡ verdict.Faulty e n) ↔ ((loadOf (recipeOf c) ≡ loaded.Fine) × FirstFault (recipeOf c) e n)
+  faulty e n = told-exactly (c .allowed) (verdicts.faulty-exactly (recipeOf c) e n)
+
+  refused : (r : Refusal) (p : Place) → (c .answer ≡ verdict.Refused r p) ↔ (loadOf (recipeOf c) ≡ loaded.Refused r p)
+  refused r p = told-exactly (c .allowed) (verdicts.refused-exactly (recipeOf c) r p)
+
+  passed : (c .answer ≡ verdict.Passed) ↔ ((loadOf (recipeOf c) ≡ loaded.Fine) × AllFaultless (linesOf (recipeOf c)) (linesOf (recipeOf c)))
+  passed = told-exactly (c .allowed) (verdicts.passed-exactly (recipeOf c))
+
+  -- a number from 100 on is no fault's
+  no-fault : (v : Verdict) → c .answer ≡ v → (number at : ℕ) → firstRefusal ≤ number → Tells v number 0 at → Unloads v number at
+  no-fault verdict.Passed e n p h t = absurd (omega (arith, t .numbered))
+  no-fault (verdict.Refused r q) e n p h t = record { refusal = r; numbered = t .numbered; is = ap (verdict.Refused r) (ap place (t .placed)) }
+  no-fault (verdict.Faulty d k) e n p h t = absurd (omega (arith, t .numbered, fault-low (faulty d k .0 e .1 .fault)))
+
+  unloaded-told : (number at : ℕ) → firstRefusal ≤ number → Tells (c .answer) number 0 at → Unloads (c .answer) number at
+  unloaded-told = no-fault (c .answer) refl
+
+  pub checks-so : ChecksExactly c
+  checks-so =
+      record {
+        faulty = λ number line some low. (
+          (λ t.
+              let k = faulty-told (c .answer) number line 0 some low t in
+              let f = faulty (k .error) (lineNumber line) .0 (k .is) in
+              (f .0, record { error = k .error; numbered = k .numbered; first = f .1 })),
+          (λ f.
+              let e = faulty (f .1 .error) (lineNumber line) .1 (f .0, f .1 .first) in
+              rw e (record { numbered = f .1 .numbered; lined = refl; placed = refl })),
+        );
+        refused = λ number at high. (
+          (λ t. let k = unloaded-told number at high t in record { refusal = k .refusal; numbered = k .numbered; loads = refused (k .refusal) (place at) .0 (k .is) }),
+          (λ l. rw (refused (l .refusal) (place at) .1 (l .loads)) (record { numbered = l .numbered; lined = refl; placed = refl })),
+        );
+        passed = (
+          (λ t. passed .0 (passed-told (c .answer) (t .numbered))),
+          (λ h. rw (passed .1 h) (record { numbered = refl; lined = refl; placed = refl })),
+        );
+      }
 
 pub checks-exactly : checksExactly
-checks-exactly c =
-    record {
-      faulty = λ e n. told-exactly (c .allowed) (verdicts.faulty-exactly (recipeOf c) e n);
-      refused = λ r p. told-exactly (c .allowed) (verdicts.refused-exactly (recipeOf c) r p);
-      passed = told-exactly (c .allowed) (verdicts.passed-exactly (recipeOf c));
-    }
+checks-exactly c = checks-so c
 
 -- ---- demand 3
 
@@ -131,7 +188,7 @@ pub passed-recipes-end-well : passedRecipesEndWell
 passed-recipes-end-well k c same e =
     ap endsWell (outcome-told c)
     ∙ of checked-runs-end-well c
-    (ap checkOf (sym same) ∙ sym (k .allowed) ∙ e)
+    (ap checkOf (sym same) ∙ sym (k .allowed) ∙ passed-told (k .answer) e)
 
 pub few-at-once : fewAtOnce
 few-at-once c = of few-unfinished c

@@ -1,4 +1,5 @@
 pub mod Records
+pub mod Numbers
 pub mod Limits
 pub mod Fourteen
 pub mod Verdicts
@@ -6,6 +7,8 @@ pub mod Parts
 pub mod Passage
 pub mod Guards
 pub mod Demands
+pub mod Boxes
+pub mod Impostors
 pub mod Unique
 pub mod Checked
 pub mod Passing

@@ -28,7 +28,7 @@ use Rattle.asking.specs.declared.questions.Asked.{Asked}
 use Rattle.asking.specs.declared.questions.Asked.the-variants.{Whole, Text, Refused}
 
 -- a part that is answered ends within so many bytes
-abbrev Inside : ℕ → Asked → Type 0
+abbrev pub Inside : ℕ → Asked → Type 0
 Inside space (Whole w) = Unit {0}
 Inside space (Text from len) = from .0 + len ≤ space
 Inside space Refused = Unit {0}
@@ -60,7 +60,7 @@ name-inside (token.Quoted q) space go h = tt
 name-inside (token.Symbol s) space go h = tt
 name-inside token.Unreadable space go h = tt
 
-ask-inside : (tables : Tables) (space : ℕ) (given : List ℕ) → Inside space (askOf tables space given)
+pub ask-inside : (tables : Tables) (space : ℕ) (given : List ℕ) → Inside space (askOf tables space given)
 unfolding askOf
 ask-inside tables space given =
     name-inside (tokenAt given (place 0) .token) space _ (λ v.

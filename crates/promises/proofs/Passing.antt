@@ -1,6 +1,6 @@
 -- A recipe that the check has passed never ends in 2, 8, 13 or 16.
-use mathlib.Core.Path.{_≡_, refl}
-use mathlib.Core.Bool.{true}
+use mathlib.Core.Path.{_≡_, refl, ap}
+use mathlib.Core.Bool.{true, not}
 use mathlib.Core.List.{List, [], _∷_}
 use Prim.Native.Nat.{ℕ, zero, suc}
 use lib.Dec.{ltb}
@@ -19,6 +19,7 @@ use Rattle.statements.specs.Parts.{Rest, nothing, part, headOf, tailOf}
 use Rattle.turns.specs.Steps.{Next, goesOn, enters, ends, stops, fails, doStatement}
 use Rattle.runner.specs.Run.{Ran, lineNumberOf, Entered, over, faulty, opened, enter, Standing, finished, at, byEntered, entering, onward, following, turn, running, ifLoaded, runOf}
 use Rattle.promises.specs.Passing.{endsWell, checkedRunsEndWell}
+use Rattle.promises.proofs.Numbers.{refusal-spared}
 use Rattle.promises.proofs.Checked.Operators.{by-choice}
 use Rattle.promises.proofs.Checked.Lines.{PartChecked, part-apart, LinesChecked, RestChecked, RecordsChecked, passed-lines, EnteredChecked, enter-checked}
 use Rattle.promises.proofs.Checked.Statements.{NextChecked, statement-checked}
@@ -84,7 +85,7 @@ loaded-ends-well loaded.Fine text m budget r e =
     let lines = passed-lines (linesOf text) (linesOf text) e in
     running-ends-well text lines budget (entering m (linesOf text))
     (entering-checked (linesOf text) m (linesOf text) (rw r tt) lines)
-loaded-ends-well (loaded.Refused refusal p) text m budget r e = refl
+loaded-ends-well (loaded.Refused refusal p) text m budget r e = ap not (refusal-spared refusal)
 
 pub checked-runs-end-well : checkedRunsEndWell
 unfolding checkOf runOf

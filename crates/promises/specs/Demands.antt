@@ -6,25 +6,23 @@ use mathlib.Core.List.{List}
 use mathlib.Core.Logic.{_↔_}
 use Prim.Native.Nat.{ℕ, _+_, _≤_, _<_}
 use lib.ListN.{length}
-use Rattle.whole.specs.declared.errors.Error.{Error}
 use Rattle.whole.specs.declared.errors.Error.the-variants.{OutOfStringSpace}
-use Rattle.words.specs.Places.{place}
-use Rattle.words.specs.declared.places.LineNumber.{LineNumber}
-use Rattle.words.specs.declared.places.Place.{Place}
+use Rattle.words.specs.Places.{place, lineNumber}
 use Rattle.loader.specs.Lines.{linesOf}
 use Rattle.loader.specs.Loading.{loadOf}
 use Rattle.loader.specs.declared.loading.Loaded.the-variants as loaded
+use Rattle.loader.specs.Refusals.{refusalNumber}
 use Rattle.loader.specs.declared.refusals.Refusal.{Refusal}
-use Rattle.loader.specs.declared.refusals.Refusal.the-variants.{SpaceTooLong}
 use Rattle.space.specs.declared.offsets.Offset.{Offset}
 use Rattle.variables.specs.Strings.{Room, fault, make, longestSpace}
 use Rattle.variables.specs.Variables.{stringBytes}
 use Rattle.machine.specs.Machine.{Lent}
-use Rattle.checker.specs.declared.checking.Verdict.the-variants as verdict
+use Rattle.checker.specs.Check.{verdictNumber, verdictLine, verdictPlace}
+use Rattle.checker.specs.declared.checking.Verdict.{Verdict}
 use Rattle.runner.specs.Run as run
-use Rattle.runner.specs.Run.{runOf, answerOf}
+use Rattle.runner.specs.Run.{runOf, numberIn, lineIn, placeIn, isRefused, answerOf}
 use Rattle.asking.specs.declared.questions.Asked.the-variants.{Text}
-use Rattle.runner.specs.declared.running.Outcome.the-variants.{Failed, Refused}
+use Rattle.runner.specs.declared.running.Outcome.{Outcome}
 use Rattle.promises.specs.Calls.{
   RunCall,
   runsAlways,
@@ -44,7 +42,7 @@ use Rattle.promises.specs.Calls.{
   asksAlways,
   spaceHanded,
 }
-use Rattle.promises.specs.Faults.{AllFaultless, FirstFault}
+use Rattle.promises.specs.Faults.{AllFaultless, NumberedFault}
 use Rattle.promises.specs.Passing.{endsWell}
 use Rattle.promises.specs.StringSpace.{AsksTooMuch}
 use Rattle.promises.specs.Unfinished.{Few}
@@ -73,17 +71,29 @@ answersAlways = AnswersAlways
 abbrev pub stopsWithinBudget : Type 0
 stopsWithinBudget = (c : RunCall) → c .answer .steps ≤ budgetOf c
 
+-- loading refuses a text with a number, at a place
+pub record LoadRefused (text : List ℕ) (number at : ℕ) : Type 0 where
+  pub refusal : Refusal
+  pub numbered : refusalNumber refusal ≡ number
+  pub loads : loadOf text ≡ loaded.Refused refusal (place at)
+
 -- a string space over 16,384 bytes is 106 at place 0, whatever the text; else loading decides, by 100 to 105 and a place
-pub data RefusedFor (text : List ℕ) (lent : Lent) : Refusal → Place → Type 0 where
-  longSpace : longestSpace < lent .space → RefusedFor text lent SpaceTooLong (place 0)
-  notLoaded : {r : Refusal} {p : Place} → lent .space ≤ longestSpace → loadOf text ≡ loaded.Refused r p → RefusedFor text lent r p
+pub data RefusedFor (text : List ℕ) (lent : Lent) : ℕ → ℕ → Type 0 where
+  longSpace : longestSpace < lent .space → RefusedFor text lent 106 0
+  notLoaded : {number at : ℕ} → lent .space ≤ longestSpace → LoadRefused text number at → RefusedFor text lent number at
+
+-- a run was refused with a number, at a place
+pub record WasRefused (o : Outcome) (number at : ℕ) : Type 0 where
+  pub refused : isRefused o ≡ true
+  pub numbered : numberIn o ≡ number
+  pub placed : placeIn o ≡ at
 
 -- A run is refused with a number and a place if and only if its string space or its text is refused so. It does not say what a text is
 -- refused for: that is `loadOf`. Ruled out: a run that refuses a space of exactly 16,384 bytes; one that runs the lines before the first
--- bad one.
+-- bad one; one that says 105 where it means 106.
 abbrev pub refusesExactly : Type 0
 refusesExactly =
-    (c : RunCall) (r : Refusal) (p : Place) → (c .answer .outcome ≡ Refused r p) ↔ RefusedFor (textOf c) (lentOf c) r p
+    (c : RunCall) (number at : ℕ) → WasRefused (c .answer .outcome) number at ↔ RefusedFor (textOf c) (lentOf c) number at
 
 -- the counts are 0, and the tables, the string space and the room for output are as they were lent, to the last byte
 pub record Unchanged (c : RunCall) : Type 0 where
@@ -97,7 +107,7 @@ pub record Unchanged (c : RunCall) : Type 0 where
 -- A refusal changes nothing that was lent. It does not say so of other outcomes: a run that fails has done what it did before. Ruled out: a
 -- run that clears the string space and then loads; one that hands empty tables back where it refuses.
 abbrev pub refusalsChangeNothing : Type 0
-refusalsChangeNothing = (c : RunCall) (r : Refusal) (p : Place) → c .answer .outcome ≡ Refused r p → Unchanged c
+refusalsChangeNothing = (c : RunCall) → isRefused (c .answer .outcome) ≡ true → Unchanged c
 
 pub record Within (c : RunCall) : Type 0 where
   pub written : c .answer .written ≤ length (roomBefore c)
@@ -144,15 +154,25 @@ madeExactly = (b : List ℕ) (room : Room) → (make b room ≡ fault OutOfStrin
 -- and so gives 14 where there is room.
 abbrev pub fourteenExactly : Type 0
 fourteenExactly =
-    (c : RunCall) (l : LineNumber)
-    → (c .answer .outcome ≡ Failed OutOfStringSpace l)
-    ↔ AsksTooMuch (textOf c) (inputOf c) (lentOf c) (budgetOf c) l
+    (c : RunCall) (line : ℕ)
+    → ((numberIn (c .answer .outcome) ≡ 14) × (lineIn (c .answer .outcome) ≡ line))
+    ↔ AsksTooMuch (textOf c) (inputOf c) (lentOf c) (budgetOf c) (lineNumber line)
+
+-- a verdict's number, line and place
+pub record Tells (v : Verdict) (number line at : ℕ) : Type 0 where
+  pub numbered : verdictNumber v ≡ number
+  pub lined : verdictLine v ≡ line
+  pub placed : verdictPlace v ≡ at
+
+-- the numbers of errors that the check gives are below those of refusals
+abbrev pub firstRefusal : ℕ
+firstRefusal = 100
 
 pub record ChecksExactly (c : CheckCall) : Type 0 where
-  pub faulty : (e : Error) (n : LineNumber)
-      → (c .answer ≡ verdict.Faulty e n) ↔ ((loadOf (recipeOf c) ≡ loaded.Fine) × FirstFault (recipeOf c) e n)
-  pub refused : (r : Refusal) (p : Place) → (c .answer ≡ verdict.Refused r p) ↔ (loadOf (recipeOf c) ≡ loaded.Refused r p)
-  pub passed : (c .answer ≡ verdict.Passed) ↔ ((loadOf (recipeOf c) ≡ loaded.Fine) × AllFaultless (linesOf (recipeOf c)) (linesOf (recipeOf c)))
+  pub faulty : (number line : ℕ) → 0 < number → number < firstRefusal
+      → Tells (c .answer) number line 0 ↔ ((loadOf (recipeOf c) ≡ loaded.Fine) × NumberedFault (recipeOf c) number line)
+  pub refused : (number at : ℕ) → firstRefusal ≤ number → Tells (c .answer) number 0 at ↔ LoadRefused (recipeOf c) number at
+  pub passed : Tells (c .answer) 0 0 0 ↔ ((loadOf (recipeOf c) ≡ loaded.Fine) × AllFaultless (linesOf (recipeOf c)) (linesOf (recipeOf c)))
 
 -- The check gives an error and a line if and only if the recipe loads, that line has that fault and no earlier line has one (`Faults`: 2, then
 -- 16, then 13, then 8); it refuses if and only if loading does, and passes if and only if there is no fault at all. It says nothing of runs:
@@ -168,7 +188,7 @@ checksExactly = (c : CheckCall) → ChecksExactly c
 -- takes a line after ELSE for present.
 abbrev pub passedRecipesEndWell : Type 0
 passedRecipesEndWell =
-    (k : CheckCall) (c : RunCall) → recipeOf k ≡ textOf c → k .answer ≡ verdict.Passed → endsWell (c .answer .outcome) ≡ true
+    (k : CheckCall) (c : RunCall) → recipeOf k ≡ textOf c → verdictNumber (k .answer) ≡ 0 → endsWell (c .answer .outcome) ≡ true
 
 -- The most strings that were ever unfinished at once in a run of any text are at most 32, and even at most 28 (`Unfinished`). The count is the
 -- definition's: the code keeps none and no table of them, so none can run out. Ruled out: a definition in which an operator keeps its operands

@@ -4,6 +4,7 @@ use mathlib.Core.Bool.{true, false}
 use mathlib.Core.List.{List, [], _∷_, _++_}
 use Prim.Native.Nat.{ℕ}
 use Rattle.whole.specs.Digits.{leadingValue}
+use Rattle.whole.specs.Errors.{errorNumber}
 use Rattle.whole.specs.declared.errors.Error.{Error}
 use Rattle.whole.specs.declared.errors.Error.the-variants.{Syntax, FormulaTooComplex, TypeMismatch, UndefinedLine}
 use Rattle.words.specs.Places.{lineNumber}
@@ -43,3 +44,9 @@ pub record FirstFault (recipe : List ℕ) (e : Error) (n : LineNumber) : Type 0 
   pub earlier : AllFaultless (linesOf recipe) before
   pub fault : HasFault (linesOf recipe) line e
   pub number : lineNumber (leadingValue (line .bytes)) ≡ n
+
+-- the same by the paper's numbers, of the error and of the line
+pub record NumberedFault (recipe : List ℕ) (number line : ℕ) : Type 0 where
+  pub error : Error
+  pub numbered : errorNumber error ≡ number
+  pub first : FirstFault recipe error (lineNumber line)

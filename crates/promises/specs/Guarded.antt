@@ -1,4 +1,5 @@
 -- A run of what the check has passed. Nothing else is run, and then nothing that was lent has changed.
+use mathlib.Core.Bool.{Bool, true}
 use mathlib.Core.List.{List}
 use Prim.Native.Nat.{ℕ}
 use Rattle.variables.specs.declared.tables.Tables.{Tables}
@@ -8,7 +9,9 @@ use Rattle.checker.specs.declared.checking.Verdict.the-variants.{Passed, Refuse
 use Rattle.machine.specs.Machine.{Lent}
 use Rattle.runner.specs.declared.running.Ran as code
 use Rattle.runner.specs.Run.{Ran, answerOf, spaceAfter, roomAfter, runOf}
+use Rattle.promises.specs.Passing.{endsWell}
 use Rattle.promises.specs.declared.guarding.CheckedRun.{CheckedRun}
+use Rattle.promises.specs.declared.guarding.CheckedOutcome.{CheckedOutcome}
 use Rattle.promises.specs.declared.guarding.CheckedOutcome.the-variants.{NotPassed, Run}
 
 pub data Guarded : Type 0 where
@@ -23,6 +26,11 @@ guarded (Faulty e n) go = held (Faulty e n)
 -- the check's verdict decides, whatever the input is, what is lent, and the budget
 unfoldable pub guardedRun : List ℕ → List ℕ → Lent → ℕ → Guarded
 guardedRun text input lent budget = guarded (checkOf text) (λ _. runOf text input lent budget)
+
+-- what was run never ends in 2, 8, 13 or 16
+abbrev pub endsChecked : CheckedOutcome → Bool
+endsChecked (NotPassed v) = true
+endsChecked (Run o) = endsWell o
 
 -- ---- what the host has after it
 

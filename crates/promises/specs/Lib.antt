@@ -1,6 +1,8 @@
 pub mod Calls
 pub mod Guarded
 pub mod Demands
+pub mod Boxes
+pub mod Impostors
 pub mod Unfinished
 pub mod StringSpace
 pub mod Faults

@@ -1,28 +1,10 @@
 -- Demand 3, its first half: what the check promises of every run of a recipe that it has passed.
 use mathlib.Core.Path.{_≡_}
-use mathlib.Core.Bool.{Bool, true, false, not}
-use mathlib.Core.List.{List}
+use mathlib.Core.Bool.{Bool, true, false, not, _||_}
+use mathlib.Core.List.{List, [], _∷_}
 use Prim.Native.Nat.{ℕ, zero, suc}
 use lib.Dec.{eqb}
 use Rattle.whole.specs.Errors.{errorNumber}
-use Rattle.whole.specs.declared.errors.Error.{Error}
-use Rattle.whole.specs.declared.errors.Error.the-variants.{
-  NextWithoutFor,
-  Syntax,
-  ReturnWithoutGosub,
-  IllegalFunctionCall,
-  Overflow,
-  OutOfMemory,
-  UndefinedLine,
-  DivisionByZero,
-  TypeMismatch,
-  OutOfStringSpace,
-  StringTooLong,
-  FormulaTooComplex,
-  LineBufferOverflow,
-  InputPastEnd,
-  OutputFull,
-}
 use Rattle.checker.specs.Check.{checkOf}
 use Rattle.checker.specs.declared.checking.Verdict.the-variants.{Passed}
 use Rattle.loader.specs.Lines.{Line, linesOf}
@@ -32,35 +14,21 @@ use Rattle.machine.specs.Machine.{Machine, Lent, fresh, withStep}
 use Rattle.statements.specs.Parts.{placeOf}
 use Rattle.statements.specs.Parts.{headOf, tailOf}
 use Rattle.turns.specs.Steps.{Next, goesOn, enters, ends, stops, fails, doStatement}
-use Rattle.runner.specs.Run.{Standing, finished, at, entering, turn, runOf}
+use Rattle.runner.specs.Run.{Standing, finished, at, entering, turn, runOf, numberIn}
 use Rattle.runner.specs.declared.running.Outcome.{Outcome}
-use Rattle.runner.specs.declared.running.Outcome.the-variants.{Ended, Stopped, Out, Failed, Refused}
 
--- the errors that the check looks for, and so spares a run: 2, 8, 13 and 16
-abbrev pub spared : Error → Bool
-spared NextWithoutFor = false
-spared Syntax = true
-spared ReturnWithoutGosub = false
-spared IllegalFunctionCall = false
-spared Overflow = false
-spared OutOfMemory = false
-spared UndefinedLine = true
-spared DivisionByZero = false
-spared TypeMismatch = true
-spared OutOfStringSpace = false
-spared StringTooLong = false
-spared FormulaTooComplex = true
-spared LineBufferOverflow = false
-spared InputPastEnd = false
-spared OutputFull = false
+-- the numbers of the errors that the check looks for, and so spares a run
+abbrev pub sparedNumbers : List ℕ
+sparedNumbers = 2 ∷ 8 ∷ 13 ∷ 16 ∷ []
 
--- a run ends well unless it ends in one of these
+-- a number is one of some
+abbrev pub oneOf : List ℕ → ℕ → Bool
+oneOf [] n = false
+oneOf (k ∷ ks) n = eqb n k || oneOf ks n
+
+-- a run ends well unless its number is one of these
 abbrev pub endsWell : Outcome → Bool
-endsWell Ended = true
-endsWell (Stopped l) = true
-endsWell (Out l) = true
-endsWell (Failed e l) = not (spared e)
-endsWell (Refused r p) = true
+endsWell o = not (oneOf sparedNumbers (numberIn o))
 
 -- A recipe that the check has passed never ends in 2, 8, 13 or 16: with any input, string space, room for output and budget of steps.
 -- It says nothing of the other errors (a division by zero, a string space that is full), which no check can foresee, and nothing of

@@ -1,7 +1,8 @@
 // A recipe is checked, and run only if it passes.
 ghost use mathlib.Core.Path.{_≡_};
+ghost use mathlib.Core.Bool.{true};
 ghost use Rattle.machine.specs.Machine.{lentBy};
-ghost use Rattle.promises.specs.Guarded.{guardedRun, guardedAnswer, guardedSpace, guardedRoom, heldAs, runAs};
+ghost use Rattle.promises.specs.Guarded.{guardedRun, guardedAnswer, guardedSpace, guardedRoom, heldAs, runAs, endsChecked};
 use checker::Verdict;
 use checker::check_recipe;
 use runner::Outcome;
@@ -63,7 +64,8 @@ pub fn run_checked(
     ensures { λ r. ⌜
         (r ≡ guardedAnswer (guardedRun (now (text .entry)) (now (input .entry)) (lentBy (now (space .entry)) (now (room .entry))) budget) tables)
         × ((now (space .exit) ≡ guardedSpace (guardedRun (now (text .entry)) (now (input .entry)) (lentBy (now (space .entry)) (now (room .entry))) budget) (now (space .entry)))
-        × (now (room .exit) ≡ guardedRoom (guardedRun (now (text .entry)) (now (input .entry)) (lentBy (now (space .entry)) (now (room .entry))) budget) (now (room .entry))))
+        × ((now (room .exit) ≡ guardedRoom (guardedRun (now (text .entry)) (now (input .entry)) (lentBy (now (space .entry)) (now (room .entry))) budget) (now (room .entry)))
+        × (endsChecked (r .outcome) ≡ true)))
         ⌝ }
 {
     match check_recipe(text) {

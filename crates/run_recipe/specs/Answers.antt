@@ -1,6 +1,7 @@
 -- What the program writes: what the recipe printed, and then one line: outcome word (ended, stopped, out, error, refused), number, line
 -- (if refused, place), steps, parted by tabs, ended by byte 10.
 use mathlib.Core.Path.{_≡_}
+use mathlib.Core.Bool.{cond}
 use mathlib.Core.List.{List, [], _∷_}
 use Prim.Native.Nat.{ℕ}
 use lib.ListN.{take}
@@ -8,7 +9,7 @@ use Rattle.io.specs.Counts.{Counts}
 use Rattle.whole.specs.Bytes.{bytes}
 use Rattle.whole.specs.Texts.{held}
 use Rattle.console.specs.Lines.{line}
-use Rattle.runner.specs.Run.{Ran, numberIn}
+use Rattle.runner.specs.Run.{Ran, numberIn, lineIn, placeIn, isRefused}
 use Rattle.runner.specs.declared.running.Outcome.{Outcome}
 use Rattle.runner.specs.declared.running.Outcome.the-variants.{Ended, Stopped, Out, Failed, Refused}
 use Rattle.run_recipe.specs.declared.answers.Answer.{Answer}
@@ -22,11 +23,7 @@ wordOf (Refused r p) = bytes "refused"
 
 -- the line, or the place of a refusal; 0 where neither applies
 abbrev pub standingIn : Outcome → ℕ
-standingIn Ended = 0
-standingIn (Stopped l) = l .0
-standingIn (Out l) = l .0
-standingIn (Failed e l) = l .0
-standingIn (Refused r p) = p .0
+standingIn o = cond (isRefused o) (placeIn o) (lineIn o)
 
 abbrev pub lastLine : Outcome → ℕ → List ℕ
 lastLine o steps = line (wordOf o) (numberIn o ∷ standingIn o ∷ steps ∷ [])

@@ -27,7 +27,8 @@ use Rattle.expressions.specs.declared.sorts.Sort.the-variants.{Whole, Text, Wro
 use Rattle.variables.specs.Strings.{Value, whole, text, Room, Outcome, value, fault, then, make, letAllGo, produced}
 use Rattle.strings.specs.Functions.{argument, word, bytes, answered, within, ranged, fillRight, midLength, instrStart, called}
 use Rattle.operators.specs.Values.{wholeThen, isBefore, onTexts, joined, wantsWhole, leftRight, sides}
-use Rattle.promises.specs.Passing.{spared}
+use Rattle.whole.specs.Errors.{errorNumber}
+use Rattle.promises.specs.Passing.{sparedNumbers, oneOf}
 
 -- what holds of both sides of a choice holds of what is chosen
 pub by-choice : {A : Type 0} (P : A → Type 0) (t : Bool) {a b : A} → P a → P b → P (cond t a b)
@@ -36,7 +37,7 @@ by-choice P false p q = q
 
 -- an error that the check does not look for
 abbrev pub Allowed : Error → Type 0
-Allowed e = spared e ≡ false
+Allowed e = oneOf sparedNumbers (errorNumber e) ≡ false
 
 -- ---- whole numbers
 

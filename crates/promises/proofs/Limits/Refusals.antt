@@ -3,12 +3,17 @@ use mathlib.Core.Path.{_≡_, refl, ap}
 use mathlib.Core.Bool.{false}
 use mathlib.Core.List.{List}
 use mathlib.Core.Logic.{_↔_}
-use Prim.Native.Nat.{ℕ, zero, suc}
+use Prim.Native.Nat.{ℕ, zero, suc, _≤_, _<_}
 use borrow.Author.Tests.{lt-ltb, le-ltb}
 use Rattle.words.specs.declared.places.LineNumber.{LineNumber}
+use Rattle.words.specs.Places.{place}
 use Rattle.words.specs.declared.places.Place.{Place}
 use Rattle.loader.specs.Lines.{Line, linesOf, nextLine}
+use Rattle.loader.specs.Loading.{loadOf}
+use Rattle.loader.specs.Refusals.{refusalNumber}
+use Rattle.loader.specs.declared.loading.Loaded.the-variants as loaded
 use Rattle.loader.specs.declared.refusals.Refusal.{Refusal}
+use Rattle.loader.specs.declared.refusals.Refusal.the-variants.{SpaceTooLong}
 use Rattle.machine.specs.Machine.{Machine, Lent, fresh, withStep}
 use Rattle.statements.specs.Parts.{placeOf}
 use Rattle.statements.specs.Parts.{Rest, nothing, part, headOf, tailOf}
@@ -16,7 +21,9 @@ use Rattle.turns.specs.Steps.{Next, goesOn, enters, ends, stops, fails, doState
 use Rattle.runner.specs.Run.{endsWith, lineNumberOf, Entered, over, faulty, opened, enter, Standing, finished, at, byEntered, entering, onward, following, turn, running, isRefused, runOf}
 use Rattle.runner.specs.declared.running.Outcome.{Outcome}
 use Rattle.runner.specs.declared.running.Outcome.the-variants.{Refused}
-use Rattle.promises.specs.Demands.{RefusedFor, longSpace, notLoaded}
+use Rattle.promises.specs.Demands as demands
+use Rattle.promises.specs.Demands.{WasRefused}
+use Rattle.promises.proofs.Numbers.{refused-told}
 use Rattle.whole.proofs.Never.{never}
 use Rattle.promises.proofs.Limits.Bounds.{RunView, long, unloaded, runs, run-view}
 use Rattle.variables.specs.Strings.{longestSpace}
@@ -57,6 +64,21 @@ running-begun (suc n) program (at m lines p) h =
 
 -- ---- a whole run
 
+-- what a run is refused for, by its case
+pub data RefusedFor (text : List ℕ) (lent : Lent) : Refusal → Place → Type 0 where
+  longSpace : longestSpace < lent .space → RefusedFor text lent SpaceTooLong (place 0)
+  notLoaded : {r : Refusal} {p : Place} → lent .space ≤ longestSpace → loadOf text ≡ loaded.Refused r p → RefusedFor text lent r p
+
+-- by its case, and by its number and place
+refused-for : {text : List ℕ} {lent : Lent} {r : Refusal} {p : Place} → RefusedFor text lent r p → demands.RefusedFor text lent (refusalNumber r) (p .0)
+refused-for (longSpace h) = demands.longSpace h
+refused-for {r = r} (notLoaded h l) = demands.notLoaded h (record { refusal = r; numbered = refl; loads = l })
+
+refused-by : {text : List ℕ} {lent : Lent} {number at : ℕ} → demands.RefusedFor text lent number at
+    → (r : Refusal) × (refusalNumber r ≡ number) × RefusedFor text lent r (place at)
+refused-by (demands.longSpace h) = (SpaceTooLong, refl, longSpace h)
+refused-by (demands.notLoaded h l) = (l .refusal, l .numbered, notLoaded h (l .loads))
+
 module _ (text input : List ℕ) (lent : Lent) (budget : ℕ) where
   not-begun : {o : Outcome} (r : Refusal) (p : Place) → isRefused o ≡ false → o ≡ Refused r p → ⊥
   not-begun r p h e = let f = rw e at h in never (cc)
@@ -87,3 +109,14 @@ module _ (text input : List ℕ) (lent : Lent) (budget : ℕ) where
   pub refused-fresh : (r : Refusal) (p : Place) → runOf text input lent budget .ending ≡ Refused r p
       → runOf text input lent budget ≡ endsWith (Refused r p) (fresh input lent)
   refused-fresh r p h = for-view r p (refused-exactly r p .0 h)
+
+  -- the same by number and place
+  pub refused-numbered : (number there : ℕ) → WasRefused (runOf text input lent budget .ending) number there ↔ demands.RefusedFor text lent number there
+  refused-numbered number there = (
+    (λ w.
+        let k = refused-told (runOf text input lent budget .ending) number there w in
+        rw (k .numbered) at (refused-for (refused-exactly (k .refusal) (place there) .0 (k .is)))),
+    (λ f.
+        let k = refused-by f in
+        rw (refused-exactly (k .0) (place there) .1 (k .2)) (record { refused = refl; numbered = k .1; placed = refl })),
+  )

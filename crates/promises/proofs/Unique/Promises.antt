@@ -7,4 +7,4 @@ use Rattle.promises.proofs.guarding.run_checked.Reads as run-checked-re
 
 pub run-checked : Unique run-checked-kinds.ps run-checked-kinds.r run-checked-reads.Pre run-checked-reads.Post
 run-checked κs a p z z′ ws ws′ e e′ =
-    (same (e .0) (e′ .0), pair refl (pair refl (pair (same (e .1 .0) (e′ .1 .0)) (pair (same (e .1 .1) (e′ .1 .1)) refl))))
+    (same (e .0) (e′ .0), pair refl (pair refl (pair (same (e .1 .0) (e′ .1 .0)) (pair (same (e .1 .1 .0) (e′ .1 .1 .0)) refl))))

@@ -26,6 +26,6 @@ verdict-of-spec =
     (λ c κs. search needs)
     (λ c κs. search needs)
     (λ c κs. search needs)
-    (λ c. search needs)
+    (λ c. rw (c .enum-told .given .1))
     returns-2
     returns-3)

@@ -1,0 +1,142 @@
+-- Demands 1 and 3 of what a box calls: the library's three functions, over all bytes that a host can lend. `Calls` says what a call is. A
+-- statement has the proof of its name, with hyphens, in `proofs/Boxes.antt`.
+use mathlib.Core.Path.{_≡_}
+use mathlib.Core.Bool.{true, false}
+use mathlib.Core.List.{List, [], _∷_}
+use mathlib.Core.Logic.{_↔_}
+use Prim.Native.Nat.{ℕ, _+_, _≤_}
+use lib.ListN.{length, getD}
+use Rattle.machine.specs.Machine.{Lent, lentBy}
+use Rattle.host.proofs as host
+use Rattle.promises.specs.Calls.{Call, Always}
+use Rattle.promises.specs.Demands.{RefusedFor}
+use Rattle.promises.specs.Passing.{sparedNumbers, oneOf}
+
+-- ---- `quernhem_run(text, input, space, room, budget, tables, answer)`
+
+abbrev pub RunBox : Type 0
+RunBox = Call host.quernhem_run.Kinds.ps host.quernhem_run.Kinds.r host.quernhem_run.Reads.Post
+
+abbrev pub textIn : RunBox → List ℕ
+textIn c = c .passed .0 .now
+
+abbrev pub spaceIn : RunBox → List ℕ
+spaceIn c = c .passed .1 .1 .0 .now
+
+abbrev pub spaceOut : RunBox → List ℕ
+spaceOut c = c .left .1 .1 .0
+
+abbrev pub roomIn : RunBox → List ℕ
+roomIn c = c .passed .1 .1 .1 .0 .now
+
+abbrev pub roomOut : RunBox → List ℕ
+roomOut c = c .left .1 .1 .1 .0
+
+abbrev pub lentIn : RunBox → Lent
+lentIn c = lentBy (spaceIn c) (roomIn c)
+
+abbrev pub budgetIn : RunBox → ℕ
+budgetIn c = c .passed .1 .1 .1 .1 .0
+
+abbrev pub blockIn : RunBox → List ℕ
+blockIn c = c .passed .1 .1 .1 .1 .1 .0 .now
+
+abbrev pub blockOut : RunBox → List ℕ
+blockOut c = c .left .1 .1 .1 .1 .1 .0
+
+-- the words of the answer: outcome (4: refused), number, line, place, steps, bytes written, input bytes taken
+abbrev pub answerWord : RunBox → ℕ → ℕ
+answerWord c i = getD (c .left .1 .1 .1 .1 .1 .1 .0) i 0
+
+abbrev pub outcomeWord : RunBox → ℕ
+outcomeWord c = answerWord c 0
+
+abbrev pub numberWord : RunBox → ℕ
+numberWord c = answerWord c 1
+
+abbrev pub placeWord : RunBox → ℕ
+placeWord c = answerWord c 3
+
+abbrev pub refusedWord : ℕ
+refusedWord = 4
+
+-- ---- `quernhem_check(text, verdict)`
+
+abbrev pub CheckBox : Type 0
+CheckBox = Call host.quernhem_check.Kinds.ps host.quernhem_check.Kinds.r host.quernhem_check.Reads.Post
+
+abbrev pub recipeIn : CheckBox → List ℕ
+recipeIn c = c .passed .0 .now
+
+-- 0 passed or 1 refused, number, line, place
+abbrev pub passedWord : CheckBox → ℕ
+passedWord c = getD (c .left .1 .0) 0 0
+
+-- ---- `quernhem_ask(tables, space, name, found)`
+
+abbrev pub AskBox : Type 0
+AskBox = Call host.quernhem_ask.Kinds.ps host.quernhem_ask.Kinds.r host.quernhem_ask.Reads.Post
+
+abbrev pub spaceAsked : AskBox → List ℕ
+spaceAsked c = c .passed .1 .0 .now
+
+-- number (0 or 111), kind, value, start and length in the space
+abbrev pub foundWord : AskBox → ℕ → ℕ
+foundWord c i = getD (c .left .1 .1 .1 .0) i 0
+
+-- ---- the statements
+
+-- Every check and every question of a box has an answer that its contract allows, whatever bytes are lent. It does not say how long a call
+-- takes, and not the same of a run: that is `answersAlways` of `run`, and the toolchain's own theorem that `quernhem_run` ends and meets its
+-- contract. Ruled out: a contract of `quernhem_check` that has no words for 16; one of `quernhem_ask` that has no answer for an empty space.
+pub record BoxesAnswerAlways : Type 0 where
+  pub check : Always host.quernhem_check.Kinds.ps host.quernhem_check.Kinds.r host.quernhem_check.Reads.Post
+  pub ask : Always host.quernhem_ask.Kinds.ps host.quernhem_ask.Kinds.r host.quernhem_ask.Reads.Post
+
+abbrev pub boxesAnswerAlways : Type 0
+boxesAnswerAlways = BoxesAnswerAlways
+
+-- The steps that a box is told never exceed the budget that it gave. It does not say that the recipe ends. Ruled out: an answer that has the
+-- steps where the place belongs; a run that makes one step more than its budget.
+abbrev pub boxStopsWithinBudget : Type 0
+boxStopsWithinBudget = (c : RunBox) → answerWord c 4 ≤ budgetIn c
+
+pub record RefusedBox (c : RunBox) (number at : ℕ) : Type 0 where
+  pub refused : outcomeWord c ≡ refusedWord
+  pub numbered : numberWord c ≡ number
+  pub placed : placeWord c ≡ at
+
+-- A box is told 'refused' with a number and a place if and only if its string space or its text is refused so. It does not say what a text is
+-- refused for: that is `loadOf`. Ruled out: an answer that has the place where the line belongs; a refusal that is told as an error.
+abbrev pub boxRefusesExactly : Type 0
+boxRefusesExactly = (c : RunBox) (number at : ℕ) → RefusedBox c number at ↔ RefusedFor (textIn c) (lentIn c) number at
+
+-- the counts are 0, and the block of tables, the string space and the room are as they were lent, to the last byte
+pub record BoxUnchanged (c : RunBox) : Type 0 where
+  pub steps : answerWord c 4 ≡ 0
+  pub written : answerWord c 5 ≡ 0
+  pub taken : answerWord c 6 ≡ 0
+  pub block : blockOut c ≡ blockIn c
+  pub space : spaceOut c ≡ spaceIn c
+  pub room : roomOut c ≡ roomIn c
+
+-- A refusal changes nothing that a box has lent but the answer. Ruled out: a block that is written anew from the tables that it meant; a
+-- string space that is cleared before the text is loaded.
+abbrev pub boxRefusalsChangeNothing : Type 0
+boxRefusalsChangeNothing = (c : RunBox) → outcomeWord c ≡ refusedWord → BoxUnchanged c
+
+-- A recipe that a box's check has passed is never told to it with 2, 8, 13 or 16 by a run. It says nothing of other numbers, and nothing of a
+-- recipe that was not passed. Ruled out: a check whose words say 'passed' for a verdict of 8; a run that tells 13 where the condition of a
+-- passed IF is 0.
+abbrev pub boxPassedRunsEndWell : Type 0
+boxPassedRunsEndWell =
+    (k : CheckBox) (c : RunBox) → recipeIn k ≡ textIn c → passedWord k ≡ 0 → oneOf sparedNumbers (numberWord c) ≡ false
+
+pub record AskedWell (c : AskBox) : Type 0 where
+  pub numbered : oneOf (0 ∷ 111 ∷ []) (foundWord c 0) ≡ true
+  pub inside : foundWord c 3 + foundWord c 4 ≤ length (spaceAsked c)
+
+-- A question is answered with 0 or 111, and what is answered as a part of the space lies in the space that was lent, whatever the block holds.
+-- It does not say that block and space are those of one run. Ruled out: a part that ends a byte behind the space; a refusal by another number.
+abbrev pub boxAsksWell : Type 0
+boxAsksWell = (c : AskBox) → AskedWell c
