@@ -1,8 +1,27 @@
 -- The public functions of `turns`.
-use mathlib.Core.Path.{refl}
+use mathlib.Core.Path.{_≡_, refl}
+use mathlib.Core.List.{[]}
 use Rattle.turns.proofs as turns
+use Rattle.turns.specs.bridge.Turns.{Storage, storageOf}
+use Rattle.turns.specs.declared.setting.Stored.{Stored}
 use Rattle.promises.specs.Calls.{Unique}
 use Rattle.promises.proofs.Unique.{same, pair}
+
+-- the code's answer, told by the storage that it is
+abbrev storedFrom : Storage → Stored
+storedFrom s = record {
+  ok = s .ok;
+  slot = s .slot;
+  machine = record {
+    numbers = s .state .tables .numbers .count;
+    strings = s .state .tables .strings .count;
+    used = record { 0 = s .state .used };
+    printer = s .state .printer;
+    taken = record { 0 = s .state .taken };
+    steps = s .state .steps;
+    depth = s .state .depth;
+  };
+}
 
 pub turned-to : Unique turns.turned_to.Kinds.ps turns.turned_to.Kinds.r turns.turned_to.Reads.Pre turns.turned_to.Reads.Post
 turned-to κs a p z z′ ws ws′ e e′ = (same e e′, refl)
@@ -19,8 +38,18 @@ goes-on κs a p z z′ ws ws′ e e′ = (same e e′, refl)
 pub stored-or-full : Unique turns.stored_or_full.Kinds.ps turns.stored_or_full.Kinds.r turns.stored_or_full.Reads.Pre turns.stored_or_full.Reads.Post
 stored-or-full κs a p z z′ ws ws′ e e′ = (same e e′, refl)
 
+-- whatever tables the others are, and so where they are none
 pub with-number : Unique turns.with_number.Kinds.ps turns.with_number.Kinds.r turns.with_number.Reads.Pre turns.with_number.Reads.Post
-with-number κs a p z z′ ws ws′ e e′ = (same e e′, refl)
+with-number κs a p z z′ ws ws′ e e′ =
+    let q : storageOf z (ws .1 .0) (ws .1 .1 .0) [] [] ≡ storageOf z′ (ws′ .1 .0) (ws′ .1 .1 .0) [] [] = same (e [] []) (e′ [] []) in
+    (λ i. storedFrom (q i), pair refl (pair (λ i. q i .state .tables .numbers .names) (pair (λ i. q i .state .tables .numbers .words) refl)))
 
 pub with-string : Unique turns.with_string.Kinds.ps turns.with_string.Kinds.r turns.with_string.Reads.Pre turns.with_string.Reads.Post
-with-string κs a p z z′ ws ws′ e e′ = (same (e .0) (e′ .0), pair refl (pair refl (pair (same (e .1) (e′ .1)) refl)))
+with-string κs a p z z′ ws ws′ e e′ =
+    let q : storageOf z [] [] (ws .1 .0) (ws .1 .1 .0) ≡ storageOf z′ [] [] (ws′ .1 .0) (ws′ .1 .1 .0) = same (e .0 [] []) (e′ .0 [] []) in
+    (
+      λ i. storedFrom (q i),
+      pair refl
+          (pair (λ i. q i .state .tables .strings .names)
+          (pair (λ i. q i .state .tables .strings .lengths) (pair refl (pair (same (e .1) (e′ .1)) refl)))),
+    )
