@@ -46,8 +46,7 @@ with-number κs a p z z′ ws ws′ e e′ =
 
 pub with-string : Unique turns.with_string.Kinds.ps turns.with_string.Kinds.r turns.with_string.Reads.Pre turns.with_string.Reads.Post
 with-string κs a p z z′ ws ws′ e e′ =
-    let q : storageOf z [] [] (ws .1 .0) (ws .1 .1 .0) ≡ storageOf z′ [] [] (ws′ .1 .0) (ws′ .1 .1 .0) = same (e .0 [] []) (e′ .0 [] []) in
-    (
+    let q : storageOf z [] [] (ws .1 .0) (ws .1 .1 .0) ≡ storageOf z′ [] [] (ws′ .1 .0) (ws′ .1 .1 .0) = same (e .0 [] []) (e′ .0 [] []) in (
       λ i. storedFrom (q i),
       pair refl
           (pair (λ i. q i .state .tables .strings .names)

@@ -25,16 +25,14 @@ has-room κs a p z z′ ws ws′ e e′ = (same e e′, refl)
 
 pub store-number : Unique variables.store_number.Kinds.ps variables.store_number.Kinds.r variables.store_number.Reads.Pre variables.store_number.Reads.Post
 store-number κs a p z z′ ws ws′ e e′ =
-    let q : numbersLeft z (ws .0) (ws .1 .0) ≡ numbersLeft z′ (ws′ .0) (ws′ .1 .0) = same e e′ in
-    (
+    let q : numbersLeft z (ws .0) (ws .1 .0) ≡ numbersLeft z′ (ws′ .0) (ws′ .1 .0) = same e e′ in (
       λ i. record { ok = q i .ok; slot = q i .slot; count = q i .numbers .count },
       pair (λ i. q i .numbers .names) (pair (λ i. q i .numbers .words) refl),
     )
 
 pub store-string : Unique variables.store_string.Kinds.ps variables.store_string.Kinds.r variables.store_string.Reads.Pre variables.store_string.Reads.Post
 store-string κs a p z z′ ws ws′ e e′ =
-    let q : stringsLeft z (ws .0) (ws .1 .0) ≡ stringsLeft z′ (ws′ .0) (ws′ .1 .0) = same (e .0) (e′ .0) in
-    (
+    let q : stringsLeft z (ws .0) (ws .1 .0) ≡ stringsLeft z′ (ws′ .0) (ws′ .1 .0) = same (e .0) (e′ .0) in (
       λ i. record { ok = q i .ok; count = q i .strings .count; used = record { 0 = q i .used } },
       pair (λ i. q i .strings .names)
           (pair (λ i. q i .strings .lengths) (pair refl (pair refl (pair refl (pair (same (e .1) (e′ .1)) refl))))),
