@@ -23,6 +23,7 @@ use space::copy_in;
 use turns::fails;
 use turns::stored_or_full;
 use turns::with_string;
+use variables::NameTable;
 use variables::Tables;
 use variables::has_room;
 use whole::Error;
@@ -40,7 +41,7 @@ fn fill(
     name: Name,
     ahead: Scanned,
     machine: Machine,
-    labels: &mut [u8; 128],
+    labels: &mut NameTable,
     lengths: &mut [u8; Tables::MOST],
     bytes: &[u8],
     space: &mut [u8],
@@ -76,7 +77,7 @@ fn take_in(
     name: Name,
     ahead: Scanned,
     machine: Machine,
-    labels: &mut [u8; 128],
+    labels: &mut NameTable,
     lengths: &mut [u8; Tables::MOST],
     input: &[u8],
     space: &mut [u8],
@@ -119,7 +120,7 @@ fn prompt(
     text: &[u8],
     target: Scanned,
     machine: Machine,
-    labels: &mut [u8; 128],
+    labels: &mut NameTable,
     lengths: &mut [u8; Tables::MOST],
     input: &[u8],
     space: &mut [u8],
@@ -208,7 +209,7 @@ pub fn line_input(
     here: Place,
     first: Scanned,
     machine: Machine,
-    labels: &mut [u8; 128],
+    labels: &mut NameTable,
     lengths: &mut [u8; Tables::MOST],
     input: &[u8],
     space: &mut [u8],
