@@ -160,8 +160,8 @@ fn prompt(
 
 // What LINE INPUT asks: where the text to print stands in its line, and the token of the variable.
 pub struct Query {
-    pub from: usize,
-    pub end: usize,
+    pub from: Place,
+    pub end: Place,
     pub target: Scanned,
 }
 
@@ -177,27 +177,26 @@ fn after_text(line: &[u8], quoted: Scanned) -> Scanned
 fn asked_at(line: &[u8], first: Scanned) -> Query
     requires { ⌜ Asks (now line) first ⌝ }
     ensures { λ r. ⌜
-        (r .from ≤ r .end) × ((r .end ≤ length (now (line .entry)))
+        (r .from .0 ≤ r .end .0) × ((r .end .0 ≤ length (now (line .entry)))
         × ((prompt : List ℕ) (v : Variable) (u : Scanned) → inputAt (now (line .entry)) first ≡ done (tree.lineInput prompt v) u
-        → (prompt ≡ take (r .end - r .from) (drop (r .from) (now (line .entry))))
+        → (prompt ≡ take (r .end .0 - r .from .0) (drop (r .from .0) (now (line .entry))))
         × (targetAt (now (line .entry)) prompt (r .target) ≡ done (tree.lineInput prompt v) u)))
         ⌝ }
 {
     let token = first.token;
     match token {
         Token::Quoted(quotation) => {
-            let place = quotation.at;
-            let from = place.0;
-            let end = from + quotation.len;
+            let from = quotation.at;
+            let end = from.0 + quotation.len;
             Query {
                 from,
-                end,
+                end: Place(end),
                 target: after_text(line, first),
             }
         }
         _ => Query {
-            from: 0,
-            end: 0,
+            from: Place(0),
+            end: Place(0),
             target: first,
         },
     }
@@ -224,8 +223,8 @@ pub fn line_input(
         ⌝ }
 {
     let asked = asked_at(line, first);
-    let from = asked.from;
-    let end = asked.end;
+    let from = asked.from.0;
+    let end = asked.end.0;
     prompt(
         line,
         here,
