@@ -4,29 +4,33 @@ ghost use mathlib.Core.List.{_++_};
 ghost use Prim.Native.Nat.{_+_, _*_, _/_, _%_, _≤_, _<_};
 ghost use lib.ListN.{length, take, drop};
 ghost use Rattle.blocks.specs.Blocks.{wordsFrom, wordBytes, tablesIn, blockOf};
+ghost use Rattle.variables.specs.Tables.{namesLong};
 ghost use Rattle.variables.specs.Variables.{mostVariables};
 use space::Offset;
 use space::copy_in;
+use variables::NameTable;
 use variables::Numbers;
 use variables::Strings;
 use variables::Tables;
 use variables::wide;
 
-// Names, words, names, lengths and two counts: see `side_by_side`.
-pub type Block = [u8; 450];
-
-// Where each part of a block begins.
+// Where each part of a block begins, and where the last one ends.
 const NUMBER_NAMES: usize = 0;
 
-const WORDS: usize = 128;
+const WORDS: usize = NUMBER_NAMES + Tables::NAMES;
 
-const STRING_NAMES: usize = 256;
+const STRING_NAMES: usize = WORDS + 2 * Tables::MOST;
 
-const LENGTHS: usize = 384;
+const LENGTHS: usize = STRING_NAMES + Tables::NAMES;
 
-const NUMBER_COUNT: usize = 448;
+const NUMBER_COUNT: usize = LENGTHS + Tables::MOST;
 
-const STRING_COUNT: usize = 449;
+const STRING_COUNT: usize = NUMBER_COUNT + 1;
+
+const LONG: usize = STRING_COUNT + 1;
+
+// Names, words, names, lengths and two counts: see `side_by_side`.
+pub type Block = [u8; LONG];
 
 fn wide_word(byte: u8) -> u16
     ensures { λ r. ⌜ (r ≡ byte) × (r < 256) ⌝ }
@@ -60,13 +64,13 @@ fn count_byte(count: usize) -> u8
     (count % 256) as u8
 }
 
-// 128 bytes of a block: names, or the bytes of words.
-fn bytes_at(block: &[u8], from: usize) -> [u8; 128]
-    requires { ⌜ from + 128 ≤ length (now block) ⌝ }
-    ensures { λ r. ⌜ r ≡ take 128 (drop from (now (block .entry))) ⌝ }
+// Names in a block, or the bytes of words, which are as many.
+fn bytes_at(block: &[u8], from: usize) -> NameTable
+    requires { ⌜ from + namesLong ≤ length (now block) ⌝ }
+    ensures { λ r. ⌜ r ≡ take namesLong (drop from (now (block .entry))) ⌝ }
 {
-    let mut bytes = [0; 128];
-    let end = from + 128;
+    let mut bytes = [0; Tables::NAMES];
+    let end = from + Tables::NAMES;
     copy_in(&mut bytes, Offset(0), &block[from..end]);
     bytes
 }
@@ -83,7 +87,7 @@ fn lengths_at(block: &[u8], from: usize) -> [u8; Tables::MOST]
 }
 
 // The words from their bytes.
-fn words_of(bytes: [u8; 128]) -> [u16; Tables::MOST]
+fn words_of(bytes: NameTable) -> [u16; Tables::MOST]
     ensures { λ r. ⌜ r ≡ wordsFrom mostVariables bytes ⌝ }
 {
     let mut words = [0; Tables::MOST];
@@ -97,10 +101,10 @@ fn words_of(bytes: [u8; 128]) -> [u16; Tables::MOST]
 }
 
 // The bytes of the words.
-fn bytes_of(words: [u16; Tables::MOST]) -> [u8; 128]
+fn bytes_of(words: [u16; Tables::MOST]) -> NameTable
     ensures { λ r. ⌜ r ≡ wordBytes words ⌝ }
 {
-    let mut bytes = [0; 128];
+    let mut bytes = [0; Tables::NAMES];
     let mut i = 0;
     while i < Tables::MOST {
         let at = 2 * i;
@@ -135,9 +139,9 @@ pub fn tables_in(block: &Block) -> Tables
 
 // The parts of a block, each after the one before it.
 fn side_by_side(
-    number_names: &[u8; 128],
-    words: &[u8; 128],
-    string_names: &[u8; 128],
+    number_names: &NameTable,
+    words: &NameTable,
+    string_names: &NameTable,
     lengths: &[u8; Tables::MOST],
     counts: &[u8; 2],
 ) -> Block
@@ -145,7 +149,7 @@ fn side_by_side(
         r ≡ now («number_names» .entry) ++ (now (words .entry) ++ (now («string_names» .entry) ++ (now (lengths .entry) ++ now (counts .entry))))
         ⌝ }
 {
-    let mut block = [0; 450];
+    let mut block = [0; LONG];
     copy_in(&mut block, Offset(NUMBER_NAMES), number_names);
     copy_in(&mut block, Offset(WORDS), words);
     copy_in(&mut block, Offset(STRING_NAMES), string_names);

@@ -23,6 +23,7 @@ use reader::else_of;
 use turns::fails;
 use turns::turned_to;
 use turns::value;
+use variables::NameTable;
 use variables::Tables;
 use variables::Worked;
 use variables::mismatch;
@@ -61,9 +62,9 @@ pub fn choose(
     here: Place,
     first: Scanned,
     machine: Machine,
-    names: &[u8; 128],
+    names: &NameTable,
     words: &[u16; Tables::MOST],
-    labels: &[u8; 128],
+    labels: &NameTable,
     lengths: &[u8; Tables::MOST],
     space: &mut [u8],
 ) -> Turned

@@ -22,6 +22,7 @@ use machine::Turned;
 use rows::Rows;
 use scanner::token_at;
 use turns::fails;
+use variables::NameTable;
 use variables::Tables;
 use whole::Error;
 use words::Kind;
@@ -35,9 +36,9 @@ pub fn count(
     here: Place,
     target: Scanned,
     machine: Machine,
-    names: &mut [u8; 128],
+    names: &mut NameTable,
     words: &mut [u16; Tables::MOST],
-    labels: &[u8; 128],
+    labels: &NameTable,
     lengths: &[u8; Tables::MOST],
     found: Found,
     space: &mut [u8],

@@ -32,6 +32,7 @@ use turns::goes_on;
 use turns::turned_to;
 use turns::value;
 use turns::with_number;
+use variables::NameTable;
 use variables::Tables;
 use variables::Worked;
 use variables::mismatch;
@@ -72,7 +73,7 @@ fn begin_loop(
     step: u16,
     ahead: Scanned,
     machine: Machine,
-    names: &mut [u8; 128],
+    names: &mut NameTable,
     words: &mut [u16; Tables::MOST],
     found: Found,
 ) -> Turned
@@ -100,9 +101,9 @@ fn with_step(
     limit: u16,
     follow: Scanned,
     machine: Machine,
-    names: &mut [u8; 128],
+    names: &mut NameTable,
     words: &mut [u16; Tables::MOST],
-    labels: &[u8; 128],
+    labels: &NameTable,
     lengths: &[u8; Tables::MOST],
     found: Found,
     space: &mut [u8],
@@ -157,9 +158,9 @@ fn with_limit(
     from: u16,
     first: Scanned,
     machine: Machine,
-    names: &mut [u8; 128],
+    names: &mut NameTable,
     words: &mut [u16; Tables::MOST],
-    labels: &[u8; 128],
+    labels: &NameTable,
     lengths: &[u8; Tables::MOST],
     found: Found,
     space: &mut [u8],
@@ -201,9 +202,9 @@ pub fn for_loop(
     name: Name,
     equals: Scanned,
     machine: Machine,
-    names: &mut [u8; 128],
+    names: &mut NameTable,
     words: &mut [u16; Tables::MOST],
-    labels: &[u8; 128],
+    labels: &NameTable,
     lengths: &[u8; Tables::MOST],
     found: Found,
     space: &mut [u8],

@@ -23,6 +23,7 @@ use space::copy_in;
 use turns::fails;
 use turns::stored_or_full;
 use turns::with_string;
+use variables::NameTable;
 use variables::Tables;
 use variables::has_room;
 use whole::Error;
@@ -40,7 +41,7 @@ fn fill(
     name: Name,
     ahead: Scanned,
     machine: Machine,
-    labels: &mut [u8; 128],
+    labels: &mut NameTable,
     lengths: &mut [u8; Tables::MOST],
     bytes: &[u8],
     space: &mut [u8],
@@ -76,7 +77,7 @@ fn take_in(
     name: Name,
     ahead: Scanned,
     machine: Machine,
-    labels: &mut [u8; 128],
+    labels: &mut NameTable,
     lengths: &mut [u8; Tables::MOST],
     input: &[u8],
     space: &mut [u8],
@@ -119,7 +120,7 @@ fn prompt(
     text: &[u8],
     target: Scanned,
     machine: Machine,
-    labels: &mut [u8; 128],
+    labels: &mut NameTable,
     lengths: &mut [u8; Tables::MOST],
     input: &[u8],
     space: &mut [u8],
@@ -159,8 +160,8 @@ fn prompt(
 
 // What LINE INPUT asks: where the text to print stands in its line, and the token of the variable.
 pub struct Query {
-    pub from: usize,
-    pub end: usize,
+    pub from: Place,
+    pub end: Place,
     pub target: Scanned,
 }
 
@@ -176,27 +177,26 @@ fn after_text(line: &[u8], quoted: Scanned) -> Scanned
 fn asked_at(line: &[u8], first: Scanned) -> Query
     requires { ⌜ Asks (now line) first ⌝ }
     ensures { λ r. ⌜
-        (r .from ≤ r .end) × ((r .end ≤ length (now (line .entry)))
+        (r .from .0 ≤ r .end .0) × ((r .end .0 ≤ length (now (line .entry)))
         × ((prompt : List ℕ) (v : Variable) (u : Scanned) → inputAt (now (line .entry)) first ≡ done (tree.lineInput prompt v) u
-        → (prompt ≡ take (r .end - r .from) (drop (r .from) (now (line .entry))))
+        → (prompt ≡ take (r .end .0 - r .from .0) (drop (r .from .0) (now (line .entry))))
         × (targetAt (now (line .entry)) prompt (r .target) ≡ done (tree.lineInput prompt v) u)))
         ⌝ }
 {
     let token = first.token;
     match token {
         Token::Quoted(quotation) => {
-            let place = quotation.at;
-            let from = place.0;
-            let end = from + quotation.len;
+            let from = quotation.at;
+            let end = from.0 + quotation.len;
             Query {
                 from,
-                end,
+                end: Place(end),
                 target: after_text(line, first),
             }
         }
         _ => Query {
-            from: 0,
-            end: 0,
+            from: Place(0),
+            end: Place(0),
             target: first,
         },
     }
@@ -208,7 +208,7 @@ pub fn line_input(
     here: Place,
     first: Scanned,
     machine: Machine,
-    labels: &mut [u8; 128],
+    labels: &mut NameTable,
     lengths: &mut [u8; Tables::MOST],
     input: &[u8],
     space: &mut [u8],
@@ -223,8 +223,8 @@ pub fn line_input(
         ⌝ }
 {
     let asked = asked_at(line, first);
-    let from = asked.from;
-    let end = asked.end;
+    let from = asked.from.0;
+    let end = asked.end.0;
     prompt(
         line,
         here,

@@ -28,6 +28,7 @@ use space::Offset;
 use turns::fails;
 use turns::goes_on;
 use turns::value;
+use variables::NameTable;
 use variables::Tables;
 use variables::Worked;
 use whole::Error;
@@ -166,9 +167,9 @@ fn print_item(
     line: &[u8],
     item: Scanned,
     machine: Machine,
-    names: &[u8; 128],
+    names: &NameTable,
     words: &[u16; Tables::MOST],
-    labels: &[u8; 128],
+    labels: &NameTable,
     lengths: &[u8; Tables::MOST],
     space: &mut [u8],
     room: &mut [u8],
@@ -195,9 +196,9 @@ pub fn print(
     here: Place,
     first: Scanned,
     machine: Machine,
-    names: &[u8; 128],
+    names: &NameTable,
     words: &[u16; Tables::MOST],
-    labels: &[u8; 128],
+    labels: &NameTable,
     lengths: &[u8; Tables::MOST],
     space: &mut [u8],
     room: &mut [u8],

@@ -34,6 +34,7 @@ use skimming::skim;
 use space::Offset;
 use strings::Given;
 use strings::given_length;
+use variables::NameTable;
 use variables::Tables;
 use variables::Worked;
 use variables::text_length;
@@ -49,9 +50,9 @@ fn formula(
     ahead: Scanned,
     level: u8,
     room: u8,
-    names: &[u8; 128],
+    names: &NameTable,
     words: &[u16; Tables::MOST],
-    labels: &[u8; 128],
+    labels: &NameTable,
     lengths: &[u8; Tables::MOST],
     space: &mut [u8],
     used: Offset,
@@ -102,9 +103,9 @@ fn operand(
     line: &[u8],
     ahead: Scanned,
     room: u8,
-    names: &[u8; 128],
+    names: &NameTable,
     words: &[u16; Tables::MOST],
-    labels: &[u8; 128],
+    labels: &NameTable,
     lengths: &[u8; Tables::MOST],
     space: &mut [u8],
     used: Offset,
@@ -237,9 +238,9 @@ fn arguments(
     ahead: Scanned,
     function: Function,
     room: u8,
-    names: &[u8; 128],
+    names: &NameTable,
     words: &[u16; Tables::MOST],
-    labels: &[u8; 128],
+    labels: &NameTable,
     lengths: &[u8; Tables::MOST],
     space: &mut [u8],
     used: Offset,
@@ -284,9 +285,9 @@ fn arguments(
 pub fn work_out(
     line: &[u8],
     ahead: Scanned,
-    names: &[u8; 128],
+    names: &NameTable,
     words: &[u16; Tables::MOST],
-    labels: &[u8; 128],
+    labels: &NameTable,
     lengths: &[u8; Tables::MOST],
     space: &mut [u8],
     used: Offset,

@@ -19,6 +19,7 @@ use scanner::token_at;
 use space::Offset;
 use space::copy_in;
 use space::move_bytes;
+use variables::NameTable;
 use variables::Slot;
 use variables::Tables;
 use variables::Worked;
@@ -99,9 +100,9 @@ pub(crate) fn named(
     line: &[u8],
     name: Name,
     ahead: Scanned,
-    names: &[u8; 128],
+    names: &NameTable,
     words: &[u16; Tables::MOST],
-    labels: &[u8; 128],
+    labels: &NameTable,
     lengths: &[u8; Tables::MOST],
     space: &mut [u8],
     used: Offset,

@@ -5,6 +5,7 @@ ghost use Rattle.words.specs.Names.{nameBytes, tellingOf};
 ghost use Rattle.machine.specs.bridge.Seeking.{Seeks, soughtLoop, loopSought};
 use crate::records::Sought;
 use statements::Lead;
+use variables::NameTable;
 use variables::Slot;
 use variables::slot_of;
 use words::Name;
@@ -14,7 +15,7 @@ use words::Word;
 use words::telling_of;
 
 // By how it is led; `names` are those of so many number variables.
-pub fn sought_record(line: &[u8], lead: Lead, names: &[u8; 128], numbers: usize) -> Sought
+pub fn sought_record(line: &[u8], lead: Lead, names: &NameTable, numbers: usize) -> Sought
     ensures { λ r. ⌜ Seeks (now (names .entry)) numbers r (begunBy (now (line .entry)) lead) ⌝ }
 {
     match lead {
@@ -28,7 +29,7 @@ pub fn sought_record(line: &[u8], lead: Lead, names: &[u8; 128], numbers: usize)
     }
 }
 
-fn sought_loop(line: &[u8], target: Scanned, names: &[u8; 128], numbers: usize) -> Sought
+fn sought_loop(line: &[u8], target: Scanned, names: &NameTable, numbers: usize) -> Sought
     ensures { λ r. ⌜ r ≡ soughtLoop (now (names .entry)) numbers (now (line .entry)) target ⌝ }
 {
     let token = target.token;
@@ -39,7 +40,7 @@ fn sought_loop(line: &[u8], target: Scanned, names: &[u8; 128], numbers: usize) 
 }
 
 // A variable that was never assigned has no loop.
-fn loop_of(line: &[u8], name: Name, names: &[u8; 128], numbers: usize) -> Sought
+fn loop_of(line: &[u8], name: Name, names: &NameTable, numbers: usize) -> Sought
     ensures { λ r. ⌜ r ≡ loopSought (now (names .entry)) numbers (tellingOf (nameBytes (now (line .entry)) name)) ⌝ }
 {
     match slot_of(names, telling_of(line, name)) {

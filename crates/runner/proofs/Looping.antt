@@ -11,6 +11,7 @@ use Rattle.loader.specs.Lines.{Line, linesOf}
 use Rattle.grammar.specs.Trees.{Part}
 use Rattle.space.specs.Moves.{cleared}
 use Rattle.variables.specs.Strings.{longestSpace}
+use Rattle.variables.specs.Tables.{namesLong}
 use Rattle.variables.specs.Variables.{mostVariables}
 use Rattle.variables.proofs.Holding.{empty-numbers, empty-strings, empty-numbers-held, empty-strings-held, empty-sum}
 use Rattle.rows.specs.bridge.Rows.{spanIn, Tabled}
@@ -81,7 +82,7 @@ pub record Kept (text rows input space₀ room₀ : List ℕ) (budget : ℕ) (sp
 module _ (text input space room : List ℕ) (small : length space ≤ longestSpace) where
   abbrev fresh : State
   fresh =
-      stateOf freshMachine (replicate 128 0) (replicate mostVariables 0) (replicate 128 0) (replicate mostVariables 0)
+      stateOf freshMachine (replicate namesLong 0) (replicate mostVariables 0) (replicate namesLong 0) (replicate mostVariables 0)
 
   fresh-sound : Sound fresh input space room
   fresh-sound =
@@ -96,7 +97,7 @@ module _ (text input space room : List ℕ) (small : length space ≤ longestSpa
   fresh-same rs =
       record {
         variables = rw (empty-numbers-held, empty-strings-held space);
-        records = sym (records-none text (replicate 128 0) rs);
+        records = sym (records-none text (replicate namesLong 0) rs);
         column = refl;
         output = refl;
         outputRoom = refl;

@@ -25,6 +25,7 @@ use rows::span_in;
 use statements::Lead;
 use statements::lead_at;
 use steps::do_statement;
+use variables::NameTable;
 use variables::Tables;
 use variables::clean_up;
 
@@ -78,7 +79,7 @@ pub(crate) fn goes(going: Going, budget: u32) -> bool
 }
 
 // What the statement asks for.
-pub(crate) fn asks(text: &[u8], rows: &Rows, going: Going, names: &[u8; 128]) -> Asked
+pub(crate) fn asks(text: &[u8], rows: &Rows, going: Going, names: &NameTable) -> Asked
     requires { ⌜ StandsAt (now text) (now rows) (going .standing) ⌝ }
     ensures { λ r. ⌜ AsksAt (now (text .entry)) (now (rows .entry)) (now (names .entry)) (going .machine .numbers) (going .standing) r ⌝ }
 {
@@ -133,9 +134,9 @@ pub(crate) fn act(
     text: &[u8],
     rows: &Rows,
     going: Going,
-    names: &mut [u8; 128],
+    names: &mut NameTable,
     words: &mut [u16; Tables::MOST],
-    labels: &mut [u8; 128],
+    labels: &mut NameTable,
     lengths: &mut [u8; Tables::MOST],
     asked: Asked,
     lookup: Lookup,

@@ -32,6 +32,7 @@ use machine::with_record;
 use rows::Row;
 use rows::Rows;
 use rows::make_rows;
+use variables::NameTable;
 use variables::Numbers;
 use variables::Strings;
 use variables::Tables;
@@ -86,9 +87,9 @@ fn look_up(stack: Stack, depth: usize, sought: Sought) -> Lookup
 fn run_loaded(
     text: &[u8],
     rows: &Rows,
-    names: &mut [u8; 128],
+    names: &mut NameTable,
     words: &mut [u16; Tables::MOST],
-    labels: &mut [u8; 128],
+    labels: &mut NameTable,
     lengths: &mut [u8; Tables::MOST],
     input: &[u8],
     space: &mut [u8],
@@ -145,9 +146,9 @@ fn run_fine(text: &[u8], input: &[u8], space: &mut [u8], room: &mut [u8], budget
 {
     let mut rows = [0; Row::CELLS];
     make_rows(text, &mut rows);
-    let mut names = [0; 128];
+    let mut names = [0; Tables::NAMES];
     let mut words = [0; Tables::MOST];
-    let mut labels = [0; 128];
+    let mut labels = [0; Tables::NAMES];
     let mut lengths = [0; Tables::MOST];
     let done = run_loaded(
         text,

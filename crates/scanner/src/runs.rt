@@ -6,10 +6,9 @@ ghost use Rattle.whole.specs.Bytes.{leading};
 ghost use Rattle.words.specs.Classes.{isHex};
 ghost use Rattle.scanner.specs.Runs.{passes};
 use whole::is_digit;
-use words::ByteClass;
 use words::Place;
 use words::capital;
-use words::class_of;
+use words::is_letter;
 
 // The runs of bytes that a token is made of, and the blanks before it.
 pub enum Run {
@@ -35,11 +34,7 @@ fn in_run(run: Run, byte: u8) -> bool
 {
     match run {
         Run::Blank => byte == b' ',
-        Run::Word => match class_of(byte) {
-            ByteClass::Letter => true,
-            ByteClass::Digit => true,
-            _ => false,
-        },
+        Run::Word => is_letter(byte) || is_digit(byte),
         Run::Hex => is_hex(byte),
         Run::Unquoted => byte != b'"',
     }

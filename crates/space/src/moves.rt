@@ -31,25 +31,25 @@ pub fn copy_in(space: &mut [u8], to: Offset, bytes: &[u8])
     }
 }
 
-fn move_down(space: &mut [u8], from: usize, to: usize, count: usize)
-    requires { ⌜ (to ≤ from) × ((from + count ≤ length (now space)) × (to + count ≤ length (now space))) ⌝ }
-    ensures { λ _. ⌜ now (space .exit) ≡ overlaid (now (space .entry)) to (take count (drop from (now (space .entry)))) ⌝ }
+fn move_down(space: &mut [u8], from: Offset, to: Offset, count: usize)
+    requires { ⌜ (to .0 ≤ from .0) × ((from .0 + count ≤ length (now space)) × (to .0 + count ≤ length (now space))) ⌝ }
+    ensures { λ _. ⌜ now (space .exit) ≡ overlaid (now (space .entry)) (to .0) (take count (drop (from .0) (now (space .entry)))) ⌝ }
 {
     let mut i = 0;
     while i < count {
-        space[to + i] = space[from + i];
+        space[to.0 + i] = space[from.0 + i];
         i += 1;
     }
 }
 
-fn move_up(space: &mut [u8], from: usize, to: usize, count: usize)
-    requires { ⌜ (from ≤ to) × ((from + count ≤ length (now space)) × (to + count ≤ length (now space))) ⌝ }
-    ensures { λ _. ⌜ now (space .exit) ≡ overlaid (now (space .entry)) to (take count (drop from (now (space .entry)))) ⌝ }
+fn move_up(space: &mut [u8], from: Offset, to: Offset, count: usize)
+    requires { ⌜ (from .0 ≤ to .0) × ((from .0 + count ≤ length (now space)) × (to .0 + count ≤ length (now space))) ⌝ }
+    ensures { λ _. ⌜ now (space .exit) ≡ overlaid (now (space .entry)) (to .0) (take count (drop (from .0) (now (space .entry)))) ⌝ }
 {
     let mut i = count;
     while 0 < i {
         i -= 1;
-        space[to + i] = space[from + i];
+        space[to.0 + i] = space[from.0 + i];
     }
 }
 
@@ -57,18 +57,16 @@ fn move_up(space: &mut [u8], from: usize, to: usize, count: usize)
 pub fn move_bytes(space: &mut [u8], from: Offset, to: Offset, count: usize)
     ensures { λ _. ⌜ now (space .exit) ≡ moved (now (space .entry)) (from .0) (to .0) count ⌝ }
 {
-    let source = from.0;
-    let target = to.0;
     if !fits(space.len(), from, count) {
         return;
     }
     if !fits(space.len(), to, count) {
         return;
     }
-    if target <= source {
-        move_down(space, source, target, count);
+    if to.0 <= from.0 {
+        move_down(space, from, to, count);
     } else {
-        move_up(space, source, target, count);
+        move_up(space, from, to, count);
     }
 }
 

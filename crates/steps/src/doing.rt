@@ -31,6 +31,7 @@ use turns::fails;
 use turns::goes_on;
 use turns::set;
 use turns::turned_to;
+use variables::NameTable;
 use variables::Tables;
 use whole::Error;
 use words::Place;
@@ -47,9 +48,9 @@ pub fn do_statement(
     at: Place,
     lead: Lead,
     machine: Machine,
-    names: &mut [u8; 128],
+    names: &mut NameTable,
     words: &mut [u16; Tables::MOST],
-    labels: &mut [u8; 128],
+    labels: &mut NameTable,
     lengths: &mut [u8; Tables::MOST],
     found: Found,
     entry: Record,

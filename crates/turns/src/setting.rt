@@ -22,6 +22,7 @@ use machine::Machine;
 use machine::Record;
 use machine::Turned;
 use scanner::token_at;
+use variables::NameTable;
 use variables::Tables;
 use variables::Worked;
 use variables::store_number;
@@ -44,7 +45,7 @@ pub struct Stored {
 
 pub fn with_number(
     machine: Machine,
-    names: &mut [u8; 128],
+    names: &mut NameTable,
     words: &mut [u16; Tables::MOST],
     name: Telling,
     word: u16,
@@ -67,7 +68,7 @@ pub fn with_number(
 // The finished text of `len` bytes stands right after the variables' bytes.
 pub fn with_string(
     machine: Machine,
-    labels: &mut [u8; 128],
+    labels: &mut NameTable,
     lengths: &mut [u8; Tables::MOST],
     name: Telling,
     space: &mut [u8],
@@ -118,9 +119,9 @@ fn assign(
     name: Name,
     first: Scanned,
     machine: Machine,
-    names: &mut [u8; 128],
+    names: &mut NameTable,
     words: &mut [u16; Tables::MOST],
-    labels: &mut [u8; 128],
+    labels: &mut NameTable,
     lengths: &mut [u8; Tables::MOST],
     space: &mut [u8],
 ) -> Turned
@@ -167,9 +168,9 @@ pub fn set(
     here: Place,
     target: Scanned,
     machine: Machine,
-    names: &mut [u8; 128],
+    names: &mut NameTable,
     words: &mut [u16; Tables::MOST],
-    labels: &mut [u8; 128],
+    labels: &mut NameTable,
     lengths: &mut [u8; Tables::MOST],
     space: &mut [u8],
 ) -> Turned

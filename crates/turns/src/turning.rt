@@ -12,6 +12,7 @@ use machine::Next;
 use machine::Position;
 use machine::Record;
 use machine::Turned;
+use variables::NameTable;
 use variables::Tables;
 use variables::Worked;
 use whole::Error;
@@ -62,9 +63,9 @@ pub fn value(
     line: &[u8],
     ahead: Scanned,
     machine: Machine,
-    names: &[u8; 128],
+    names: &NameTable,
     words: &[u16; Tables::MOST],
-    labels: &[u8; 128],
+    labels: &NameTable,
     lengths: &[u8; Tables::MOST],
     space: &mut [u8],
 ) -> Worked

@@ -3,7 +3,7 @@ use mathlib.Core.Bool.{cond}
 use mathlib.Core.List.{List, [], _∷_, _++_, map}
 use Prim.Native.Nat.{ℕ, zero, suc, _+_, _-_, _*_}
 use lib.ListN.{length, getD, drop, replicate}
-use Rattle.words.specs.Names.{alike}
+use Rattle.words.specs.Names.{nameWidth, alike}
 use Rattle.words.specs.declared.names.Telling.{Telling}
 use Rattle.variables.specs.Variables.{NumberVariable, StringVariable, mostVariables}
 use Rattle.variables.specs.declared.tables.Numbers.{Numbers}
@@ -14,6 +14,10 @@ use Rattle.variables.specs.declared.tables.Slot.the-variants as slot
 
 -- ---- the tables that hold some variables
 
+-- how many bytes a table of names has
+abbrev pub namesLong : ℕ
+namesLong = nameWidth * mostVariables
+
 -- names side by side, two bytes each
 unfoldable pub nameBytes : List Telling → List ℕ
 nameBytes [] = []
@@ -21,22 +25,22 @@ nameBytes (n ∷ ns) = n .first ∷ n .second ∷ nameBytes ns
 
 abbrev pub numbersTable : List NumberVariable → Numbers
 numbersTable vs = record {
-  names = nameBytes (map (λ v. v .name) vs) ++ replicate (128 - 2 * length vs) 0;
+  names = nameBytes (map (λ v. v .name) vs) ++ replicate (namesLong - nameWidth * length vs) 0;
   words = map (λ v. v .word) vs ++ replicate (mostVariables - length vs) 0;
   count = length vs;
 }
 
 abbrev pub stringsTable : List StringVariable → Strings
 stringsTable vs = record {
-  names = nameBytes (map (λ v. v .name) vs) ++ replicate (128 - 2 * length vs) 0;
+  names = nameBytes (map (λ v. v .name) vs) ++ replicate (namesLong - nameWidth * length vs) 0;
   lengths = map (λ v. length (v .bytes)) vs ++ replicate (mostVariables - length vs) 0;
   count = length vs;
 }
 
 abbrev pub emptyTables : Tables
 emptyTables = record {
-  numbers = record { names = replicate 128 0; words = replicate mostVariables 0; count = 0 };
-  strings = record { names = replicate 128 0; lengths = replicate mostVariables 0; count = 0 };
+  numbers = record { names = replicate namesLong 0; words = replicate mostVariables 0; count = 0 };
+  strings = record { names = replicate namesLong 0; lengths = replicate mostVariables 0; count = 0 };
 }
 
 -- ---- what stands in a table

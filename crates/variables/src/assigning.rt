@@ -7,6 +7,7 @@ ghost use Rattle.space.specs.Moves.{cleared};
 ghost use Rattle.variables.specs.bridge.Memory.{withName, numbersOf, stringsOf, numbersLeft, stringsLeft, numberAppended, numberStored, stringAppended, stringReplaced, stringStored, bytesReplaced, spaceReplaced, spaceStored, Storable};
 ghost use Rattle.variables.specs.Variables.{mostVariables};
 ghost use Rattle.whole.specs.Texts.{longestString};
+use crate::tables::NameTable;
 use crate::tables::Slot;
 use crate::tables::Tables;
 use crate::tables::offset_of;
@@ -33,18 +34,18 @@ pub struct StringPut {
     pub used: Offset,
 }
 
-fn put_name(names: &mut [u8; 128], slot: usize, name: Telling)
+fn put_name(names: &mut NameTable, slot: usize, name: Telling)
     requires { ⌜ slot < mostVariables ⌝ }
     ensures { λ _. ⌜ now (names .exit) ≡ withName (now (names .entry)) slot name ⌝ }
 {
-    let at = 2 * slot;
+    let at = Telling::WIDTH * slot;
     names[at] = name.first;
     names[at + 1] = name.second;
 }
 
 // A new number variable after the others, if there is room.
 fn append_number(
-    names: &mut [u8; 128],
+    names: &mut NameTable,
     words: &mut [u16; Tables::MOST],
     count: usize,
     name: Telling,
@@ -72,7 +73,7 @@ fn append_number(
 
 // A number variable is set; a 65th has no room.
 pub fn store_number(
-    names: &mut [u8; 128],
+    names: &mut NameTable,
     words: &mut [u16; Tables::MOST],
     count: usize,
     name: Telling,
@@ -100,7 +101,7 @@ pub fn store_number(
 
 // The new bytes stand right after all strings' already.
 fn append_string(
-    names: &mut [u8; 128],
+    names: &mut NameTable,
     lengths: &mut [u8; Tables::MOST],
     count: usize,
     used: Offset,
@@ -187,7 +188,7 @@ fn replace_string(
 
 // A string variable is given the finished text of `len` bytes that stands right after all strings'; a 65th has no room.
 pub fn store_string(
-    names: &mut [u8; 128],
+    names: &mut NameTable,
     lengths: &mut [u8; Tables::MOST],
     count: usize,
     used: Offset,

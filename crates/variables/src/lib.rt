@@ -8,6 +8,7 @@ pub use assigning::StringPut;
 pub use assigning::clean_up;
 pub use assigning::store_number;
 pub use assigning::store_string;
+pub use tables::NameTable;
 pub use tables::Numbers;
 pub use tables::Slot;
 pub use tables::Strings;

@@ -7,16 +7,19 @@ ghost use Rattle.variables.specs.Variables.{mostVariables};
 use space::Offset;
 use words::Telling;
 
-// The number variables: two bytes of name each, and a word.
+// The names of the variables of a kind, one after the other.
+pub type NameTable = [u8; Tables::NAMES];
+
+// The number variables: a name each, and a word.
 pub struct Numbers {
-    pub names: [u8; 128],
+    pub names: NameTable,
     pub words: [u16; Tables::MOST],
     pub count: usize,
 }
 
-// The string variables: two bytes of name each, and how many bytes they have in the string space, where they stand joined.
+// The string variables: a name each, and how many bytes they have in the string space, where they stand joined.
 pub struct Strings {
-    pub names: [u8; 128],
+    pub names: NameTable,
     pub lengths: [u8; Tables::MOST],
     pub count: usize,
 }
@@ -30,16 +33,19 @@ impl Tables {
     // How many variables of a kind there can be.
     pub const MOST: usize = 64;
 
+    // How many bytes their names have.
+    pub const NAMES: usize = Telling::WIDTH * Tables::MOST;
+
     pub fn empty() -> Tables
         ensures { λ r. ⌜ r ≡ emptyTables ⌝ }
     {
         let numbers = Numbers {
-            names: [0; 128],
+            names: [0; Tables::NAMES],
             words: [0; Tables::MOST],
             count: 0,
         };
         let strings = Strings {
-            names: [0; 128],
+            names: [0; Tables::NAMES],
             lengths: [0; Tables::MOST],
             count: 0,
         };
@@ -52,15 +58,15 @@ pub enum Slot {
     None,
 }
 
-// The entry with a name, of two bytes each.
-pub fn slot_of(names: &[u8; 128], name: Telling) -> Slot
+// The entry with a name.
+pub fn slot_of(names: &NameTable, name: Telling) -> Slot
     ensures { λ r. ⌜ r ≡ slotIn (now (names .entry)) name ⌝ }
 {
     let first = name.first;
     let second = name.second;
     let mut i = 0;
     while i < Tables::MOST {
-        let at = 2 * i;
+        let at = Telling::WIDTH * i;
         let a = names[at];
         let b = names[at + 1];
         if a == first && b == second {

@@ -8,6 +8,10 @@ use Rattle.words.specs.Classes.{capitalOf}
 use Rattle.words.specs.declared.names.Name.{Name}
 use Rattle.words.specs.declared.names.Telling.{Telling}
 
+-- how many characters tell
+abbrev pub nameWidth : ℕ
+nameWidth = 2
+
 -- the characters of a name that stands in a line
 abbrev pub nameBytes : List ℕ → Name → List ℕ
 nameBytes line name = take (name .len) (drop (name .at .0) line)

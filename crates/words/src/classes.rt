@@ -6,7 +6,6 @@ use crate::places::Place;
 use crate::symbols::Sign;
 use crate::symbols::Token;
 use whole::Operator;
-use whole::is_digit;
 
 // What the reader tells a byte apart by.
 pub enum ByteClass {
@@ -45,7 +44,7 @@ pub fn capital(byte: u8) -> u8
     if byte <= b'z' { byte - FOLD } else { byte }
 }
 
-fn is_letter(byte: u8) -> bool
+pub fn is_letter(byte: u8) -> bool
     ensures { λ r. ⌜ r ≡ isLetter byte ⌝ }
 {
     let letter = capital(byte);
@@ -75,24 +74,17 @@ pub fn sign_of(byte: u8) -> SignFound
     SignFound::Is(token)
 }
 
-// The class of a byte, by a ladder of tests.
+// The class of a byte.
 pub fn class_of(byte: u8) -> ByteClass
     ensures { λ r. ⌜ r ≡ classOf byte ⌝ }
 {
-    if is_letter(byte) {
-        return ByteClass::Letter;
-    }
-    if is_digit(byte) {
-        return ByteClass::Digit;
-    }
-    if byte == b' ' {
-        return ByteClass::Blank;
-    }
-    if byte == b'"' {
-        return ByteClass::Quote;
-    }
-    match sign_of(byte) {
-        SignFound::Is(_) => ByteClass::Sign,
-        SignFound::None => ByteClass::Other,
+    match byte {
+        b'A'..=b'Z' | b'a'..=b'z' => ByteClass::Letter,
+        b'0'..=b'9' => ByteClass::Digit,
+        b' ' => ByteClass::Blank,
+        b'"' => ByteClass::Quote,
+        b'(' | b')' | b',' | b';' | b':' | b'?' | b'=' | b'<' | b'>' | b'+' | b'-' | b'*' | b'\\' =>
+            { ByteClass::Sign }
+        _ => ByteClass::Other,
     }
 }

@@ -10,6 +10,7 @@ pub use classes::SignFound;
 pub use classes::byte_at;
 pub use classes::capital;
 pub use classes::class_of;
+pub use classes::is_letter;
 pub use classes::sign_of;
 pub use names::Kind;
 pub use names::Name;

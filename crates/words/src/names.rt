@@ -27,6 +27,11 @@ pub struct Telling {
     pub second: u8,
 }
 
+impl Telling {
+    // How many characters tell.
+    pub const WIDTH: usize = 2;
+}
+
 // A character of so many from a place on, in capitals; 0 where there is none.
 fn character(line: &[u8], at: Place, len: usize, index: usize) -> u8
     requires { ⌜ index ≤ 1 ⌝ }

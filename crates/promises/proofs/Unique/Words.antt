@@ -16,6 +16,9 @@ sign-of κs a p z z′ ws ws′ e e′ = (same e e′, refl)
 pub class-of : Unique words.class_of.Kinds.ps words.class_of.Kinds.r words.class_of.Reads.Pre words.class_of.Reads.Post
 class-of κs a p z z′ ws ws′ e e′ = (same e e′, refl)
 
+pub is-letter : Unique words.is_letter.Kinds.ps words.is_letter.Kinds.r words.is_letter.Reads.Pre words.is_letter.Reads.Post
+is-letter κs a p z z′ ws ws′ e e′ = (same e e′, refl)
+
 pub telling-of : Unique words.telling_of.Kinds.ps words.telling_of.Kinds.r words.telling_of.Reads.Pre words.telling_of.Reads.Post
 telling-of κs a p z z′ ws ws′ e e′ = (same e e′, refl)
 

@@ -18,6 +18,7 @@ use Rattle.variables.specs.declared.tables.Tables.{Tables}
 use Rattle.machine.specs.Machine as spec
 use Rattle.machine.specs.bridge.Holding.{State}
 use Rattle.machine.specs.declared.state.Machine.{Machine}
+use Rattle.variables.specs.Tables.{namesLong}
 use Rattle.variables.specs.Variables.{mostVariables}
 use Rattle.variables.specs.bridge.Memory.{numbersOf, stringsOf}
 use lib.ListN.{replicate}
@@ -60,9 +61,9 @@ endedAs o m =
 
 -- the tables that a run begins with
 pub record Blank (names words labels lengths : List ℕ) : Type 0 where
-  pub noNames : names ≡ replicate 128 0
+  pub noNames : names ≡ replicate namesLong 0
   pub noWords : words ≡ replicate mostVariables 0
-  pub noLabels : labels ≡ replicate 128 0
+  pub noLabels : labels ≡ replicate namesLong 0
   pub noLengths : lengths ≡ replicate mostVariables 0
 
 -- the memory and the answer are those of a run that was not refused

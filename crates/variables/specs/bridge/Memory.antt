@@ -6,10 +6,10 @@ use mathlib.Core.List.{List, [], _∷_}
 use Prim.Native.Nat.{ℕ, _+_, _-_, _*_, _≤_, _<_}
 use lib.Dec.{leb}
 use lib.ListN.{length, getD, set, take, drop, replicate}
-use Rattle.words.specs.Names.{alike}
+use Rattle.words.specs.Names.{nameWidth, alike}
 use Rattle.words.specs.declared.names.Telling.{Telling}
 use Rattle.variables.specs.Strings.{whole, text, Room, Outcome, value, fault}
-use Rattle.variables.specs.Tables.{namesFrom, namesIn, numbersIn, slotIn, sumOf}
+use Rattle.variables.specs.Tables.{namesLong, namesFrom, namesIn, numbersIn, slotIn, sumOf}
 use Rattle.variables.specs.Variables.{NumberVariable, StringVariable, Variables, wordOf, bytesOf, mostVariables}
 use Rattle.whole.specs.declared.arithmetic.Answer.{Answer}
 use Rattle.whole.specs.declared.arithmetic.Answer.the-variants.{Whole, Fault}
@@ -133,26 +133,26 @@ pub data Apart : List Telling → Type 0 where
 -- unused entries are zeros
 pub record TidyNumbers (n : Numbers) : Type 0 where
   pub few : n .count ≤ mostVariables
-  pub named : length (n .names) ≡ 128
+  pub named : length (n .names) ≡ namesLong
   pub worded : length (n .words) ≡ mostVariables
-  pub namesBlank : drop (2 * n .count) (n .names) ≡ replicate (128 - 2 * n .count) 0
+  pub namesBlank : drop (nameWidth * n .count) (n .names) ≡ replicate (namesLong - nameWidth * n .count) 0
   pub wordsBlank : drop (n .count) (n .words) ≡ replicate (mostVariables - n .count) 0
   pub apart : Apart (namesFrom (n .count) (n .names))
 
 pub record TidyStrings (t : Strings) : Type 0 where
   pub few : t .count ≤ mostVariables
-  pub named : length (t .names) ≡ 128
+  pub named : length (t .names) ≡ namesLong
   pub lengthy : length (t .lengths) ≡ mostVariables
-  pub namesBlank : drop (2 * t .count) (t .names) ≡ replicate (128 - 2 * t .count) 0
+  pub namesBlank : drop (nameWidth * t .count) (t .names) ≡ replicate (namesLong - nameWidth * t .count) 0
   pub lengthsBlank : drop (t .count) (t .lengths) ≡ replicate (mostVariables - t .count) 0
 
 -- the i-th name of a table
 abbrev pub nameAt : List ℕ → ℕ → Telling
-nameAt names i = record { first = getD names (2 * i) 0; second = getD names (2 * i + 1) 0 }
+nameAt names i = record { first = getD names (nameWidth * i) 0; second = getD names (nameWidth * i + 1) 0 }
 
 -- a name in a table
 abbrev pub withName : List ℕ → ℕ → Telling → List ℕ
-withName names i name = set (set names (2 * i) (name .first)) (2 * i + 1) (name .second)
+withName names i name = set (set names (nameWidth * i) (name .first)) (nameWidth * i + 1) (name .second)
 
 -- the lent arrays and a count, as a table
 abbrev pub numbersOf : List ℕ → List ℕ → ℕ → Numbers

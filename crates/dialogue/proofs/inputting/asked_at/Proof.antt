@@ -8,13 +8,13 @@ use Rattle.dialogue.proofs.inputting.asked_at.Tie as tie
 
 add-end : tie.Need-add-end
 add-end c =
-    let t = c .before .before .before in let s = t .before .before .before in
+    let t = c .before .before .before .before in let s = t .before .before .before in
     let h = quoted-inside (s .pre .scans) (t .token .given .1) in
     record { fits = omega (arith, h, s .pre .short) }
 
 returns : tie.Need-returns
 returns c =
-    let t = c .before .before .before .before in let s = t .before .before .before in
+    let t = c .before .before .before .before .before in let s = t .before .before .before in
     let a = s .args in let q = t .token .given .0 .0 in
     let h = quoted-inside (s .pre .scans) (t .token .given .1) in (
       omega arith,

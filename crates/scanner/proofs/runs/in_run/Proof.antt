@@ -1,32 +1,29 @@
--- Each arm is a clause of `passes`; the last arm of a word has the classes after the first two.
+-- Each arm is a clause of `passes`; a word's bytes are letters and digits.
 use mathlib.Core.Path.{_≡_, refl}
-use mathlib.Core.Bool.{false}
-use mathlib.Core.Logic.{_⊎_, ⊎-elim}
-use Prim.Native.Nat.{ℕ, _≤_}
-use native.Mathlib.Omega.{arith}
+use mathlib.Core.Bool.{false, _||_}
+use Prim.Native.Nat.{ℕ}
 use borrow.Author.Needs.{needs}
-use denote.Enum.Declared
-use Rattle.words.specs.declared.classes.ByteClass.{ByteClass}
-use Rattle.words.specs.declared.classes.ByteClass.the-variants.{Letter, Digit, Blank, Sign, Quote, Other}
+use Rattle.whole.specs.Bytes.{is}
+use Rattle.whole.specs.Digits.{isDigit}
+use Rattle.words.specs.Classes.{isLetter, signOf, ofSign, classOf}
+use Rattle.words.specs.declared.classes.SignFound.{SignFound}
+use Rattle.words.specs.declared.classes.SignFound.the-variants.{Is, None}
+use Rattle.words.proofs.Choices.{by-test}
 use Rattle.scanner.specs.Runs.{ofWord}
 use Rattle.scanner.proofs.runs.in_run.Statement.{statement}
 use Rattle.scanner.proofs.runs.in_run.Tie as tie
 
--- letters and digits come first
-no-word : (k : ByteClass) → 2 ≤ Declared.tagOf Rattle.words.proofs.classes.ByteClass.the-type k → false ≡ ofWord k
-no-word Letter h = absurd (omega arith)
-no-word Digit h = absurd (omega arith)
-no-word Blank h = refl
-no-word Sign h = refl
-no-word Quote h = refl
-no-word Other h = refl
+no-sign : (s : SignFound) → false ≡ ofWord (ofSign s)
+no-sign (Is t) = refl
+no-sign None = refl
 
-late : (t : ℕ) → (t ≡ 2) ⊎ ((t ≡ 3) ⊎ ((t ≡ 4) ⊎ (t ≡ 5))) → 2 ≤ t
-late t = ⊎-elim (λ e. omega arith) (⊎-elim (λ e. omega arith) (⊎-elim (λ e. omega arith) (λ e. omega arith)))
-
-returns-4 : tie.Need-returns-4
-returns-4 c =
-    rw (c .before .before .enum-told2 .given .1, ← (c .before .class-of .ensures)) (no-word (c .before .class-of .result) (late _ (c .match2 .keys3)))
+-- what is neither begins no word
+word-bytes : (b : ℕ) → isLetter b || isDigit b ≡ ofWord (classOf b)
+unfolding classOf
+word-bytes b =
+    by-test (isLetter b) (λ l. rw l)
+    (λ l. by-test (isDigit b) (λ d. rw (l, d))
+    (λ d. by-test (is " " b) (λ s. rw (l, d, s)) (λ s. by-test (is "\"" b) (λ q. rw (l, d, s, q)) (λ q. rw (l, d, s, q) (no-sign (signOf b))))))
 
 pub in-run-spec : {M : Type 1} → statement M
 in-run-spec =
@@ -35,14 +32,12 @@ in-run-spec =
     (λ c. search needs)
     (λ c. search needs)
     (λ c κs. search needs)
-    (λ c. search needs)
-    (λ c. search needs)
+    (λ c κs. search needs)
     (λ c. search needs)
     (λ c κs. search needs)
     (λ c. search needs)
     (λ c. rw (c .enum-told .given .1))
-    (λ c. let k = c .before .before in rw (k .before .enum-told2 .given .1, ← (k .class-of .ensures), c .enum-told3 .given .1))
-    (λ c. let k = c .before .before in rw (k .before .enum-told2 .given .1, ← (k .class-of .ensures), c .enum-told4 .given .1))
-    returns-4
-    (λ c. rw (c .before .enum-told5 .given .1) (c .is-hex .ensures))
-    (λ c. rw (c .enum-told6 .given .1)))
+    (λ c. rw (c .before .before .enum-told2 .given .1, ← word-bytes (c .before .before .before .before .args .byte), ← (c .before .is-letter .ensures), c .if1 .taken))
+    (λ c. rw (c .before .before .before .enum-told2 .given .1, ← word-bytes (c .before .before .before .before .before .args .byte), ← (c .before .before .is-letter .ensures), c .before .if1 .left) (c .is-digit .ensures))
+    (λ c. rw (c .before .enum-told3 .given .1) (c .is-hex .ensures))
+    (λ c. rw (c .enum-told4 .given .1)))

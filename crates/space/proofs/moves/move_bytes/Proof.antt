@@ -18,12 +18,12 @@ lying c =
 
 returns-3 : tie.Need-returns-3
 returns-3 c =
-    let m = c .before .before in let l = lying (m .before .before .before) in
+    let m = c .before .before in let l = lying (m .before .before .before .before .before) in
     rw (moved-lies _ _ _ _ (l .0) (l .1)) (m .move-down .ensures)
 
 returns-4 : tie.Need-returns-4
 returns-4 c =
-    let m = c .before .before in let l = lying (m .before .before .before) in
+    let m = c .before .before in let l = lying (m .before .before .before .before .before) in
     rw (moved-lies _ _ _ _ (l .0) (l .1)) (m .move-up .ensures)
 
 pub move-bytes-spec : {M : Type 1} → statement M
@@ -34,8 +34,8 @@ move-bytes-spec =
     (λ c. sym (moved-past-from _ _ (c .before .before .before .args .to .0) _ (past (c .before .fits2 .ensures) (c .if1 .taken))))
     (λ c κs. search needs)
     (λ c. sym (moved-past-to _ _ _ _ (past (c .before .fits3 .ensures) (c .if2 .taken))))
-    (λ c κs. let l = lying (c .before .before) in (c .before .if3 .taken, (l .0, l .1)))
-    (λ c κs. let l = lying (c .before .before) in (omega (arith, c .before .if3 .left), (l .0, l .1)))
+    (λ c κs. let l = lying (c .before .before .before .before) in (c .before .if3 .taken, (l .0, l .1)))
+    (λ c κs. let l = lying (c .before .before .before .before) in (omega (arith, c .before .if3 .left), (l .0, l .1)))
     (λ c. search needs)
     returns-3
     (λ c. search needs)

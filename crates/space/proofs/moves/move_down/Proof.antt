@@ -11,15 +11,15 @@ use Rattle.space.proofs.moves.move_down.Tie as tie
 
 abbrev Inv-loop : tie.InvT-loop
 Inv-loop space₀ from to count i₀ space i =
-    (length space ≡ length space₀) × (i ≤ count) × (shifted space (from + i) (to + i) (count - i) ≡ shifted space₀ from to count)
+    (length space ≡ length space₀) × (i ≤ count) × (shifted space (from .0 + i) (to .0 + i) (count - i) ≡ shifted space₀ (from .0) (to .0) count)
 
 abbrev μ-loop : tie.MeasureT-loop
 μ-loop space₀ from to count i₀ space i = count - i
 
 loop-again : tie.Need-loop-again Inv-loop μ-loop
 loop-again c =
-    let l = c .before .before .loop in let p = l .inv in let s = c .before .before .before in
-    let t = down-turn (l .space) (s .args .from) (s .args .to) (s .args .count) (l .i) (s .pre .0) (c .before .loop-test .taken) (omega arith) in
+    let l = c .before .before .before .before .loop in let p = l .inv in let s = c .before .before .before .before .before in
+    let t = down-turn (l .space) (s .args .from .0) (s .args .to .0) (s .args .count) (l .i) (s .pre .0) (c .before .before .before .loop-test .taken) (omega arith) in
     (rw length-set (p .0), omega arith, t ∙ p .2)
 
 returns : tie.Need-returns Inv-loop μ-loop

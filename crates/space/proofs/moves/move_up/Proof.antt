@@ -10,16 +10,16 @@ use Rattle.space.proofs.moves.move_up.Tie as tie
 
 abbrev Inv-loop : tie.InvT-loop
 Inv-loop space₀ from to count i₀ space i =
-    (length space ≡ length space₀) × (i ≤ count) × (shifted space from to i ≡ shifted space₀ from to count)
+    (length space ≡ length space₀) × (i ≤ count) × (shifted space (from .0) (to .0) i ≡ shifted space₀ (from .0) (to .0) count)
 
 abbrev μ-loop : tie.MeasureT-loop
 μ-loop space₀ from to count i₀ space i = i
 
 loop-again : tie.Need-loop-again Inv-loop μ-loop
 loop-again c =
-    let l = c .before .before .loop in let p = l .inv in let s = c .before .before .before in
+    let l = c .before .before .before .before .loop in let p = l .inv in let s = c .before .before .before .before .before in
     let e : l .i - 1 + 1 ≡ l .i = omega arith in
-    let t = up-turn (l .space) (s .args .from) (s .args .to) (l .i - 1) (s .pre .0) (omega arith) in
+    let t = up-turn (l .space) (s .args .from .0) (s .args .to .0) (l .i - 1) (s .pre .0) (omega arith) in
     (rw length-set (p .0), omega arith, t ∙ rw e (p .2))
 
 returns : tie.Need-returns Inv-loop μ-loop

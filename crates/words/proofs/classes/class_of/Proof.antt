@@ -1,52 +1,30 @@
--- The ladder of tests is that of the definition.
-use borrow.Author.Needs.{needs}
-use borrow.Author.Tests.{eq-eqb, ne-eqb}
-use mathlib.Core.Path.{_≡_}
-use Rattle.words.specs.Classes.{ofSign, classOf}
+-- Each arm is a run of bytes of one class, or a byte that stands alone.
+use mathlib.Core.Path.{refl}
+use native.Mathlib.Omega.{arith}
+use Rattle.whole.specs.Bytes.{bytes}
+use Rattle.whole.specs.Digits.{isDigit}
+use Rattle.words.specs.Spellings.{sameBytes, meaning}
+use Rattle.words.specs.Classes.{capitalOf, isLetter, signs, classOf}
+use Rattle.words.specs.declared.classes.ByteClass.the-variants.{Letter, Digit, Sign, Other}
+use Rattle.words.proofs.Classing.{rank, alone, allOf, class-in}
 use Rattle.words.proofs.classes.class_of.Statement.{statement}
 use Rattle.words.proofs.classes.class_of.Tie as tie
 
-returns : tie.Need-returns
-unfolding classOf
-returns c = simp (← (c .before .is-letter .ensures), c .if1 .taken)
-
-returns-2 : tie.Need-returns-2
-unfolding classOf
-returns-2 c =
-    let l = c .before .before in
-    simp (← (l .before .is-letter .ensures), l .if1 .left, ← (c .before .is-digit .ensures), c .if2 .taken)
-
-returns-3 : tie.Need-returns-3
-unfolding classOf
-returns-3 c =
-    let d = c .before in let l = d .before .before in
-    simp (← (l .before .is-letter .ensures), l .if1 .left, ← (d .before .is-digit .ensures), d .if2 .left, eq-eqb _ _ (c .if3 .taken))
-
-returns-4 : tie.Need-returns-4
-unfolding classOf
-returns-4 c =
-    let d = c .before .before in let l = d .before .before in
-    simp (← (l .before .is-letter .ensures), l .if1 .left, ← (d .before .is-digit .ensures), d .if2 .left, ne-eqb _ _ (c .before .if3 .left), eq-eqb _ _ (c .if4 .taken))
-
--- what the ladder leaves is told by the sign
-signs-left : (c : tie.After-sign-of) → classOf (c .before .before .before .before .before .before .before .args .byte) ≡ ofSign (c .sign-of .result)
-unfolding classOf
-signs-left c =
-    let d = c .before .before .before in let l = d .before .before in
-    simp (← (l .before .is-letter .ensures), l .if1 .left, ← (d .before .is-digit .ensures), d .if2 .left, ne-eqb _ _ (c .before .before .if3 .left), ne-eqb _ _ (c .before .if4 .left), ← (c .sign-of .ensures))
-
 pub class-of-spec : {M : Type 1} → statement M
+unfolding rank alone allOf classOf capitalOf isLetter isDigit signs bytes sameBytes meaning
 class-of-spec =
     tie.close
     (tie.spec
-    (λ c κs. search needs)
-    returns
-    (λ c κs. search needs)
-    returns-2
-    returns-3
-    returns-4
-    (λ c κs. search needs)
-    (λ c. search needs)
-    (λ c. search needs)
-    (λ c. rw (signs-left (c .before .before), c .enum-told .given .1))
-    (λ c. rw (signs-left (c .before .before), c .enum-told2 .given .1)))
+    (λ c. simp (c .match .keys1))
+    (λ c. simp (c .match .keys2))
+    (λ c. class-in Digit 48 10 _ refl (omega arith) (omega arith) (c .before .before .before .before .before .match .rest))
+    (λ c. class-in Letter 65 26 _ refl (omega arith) (omega arith) (c .before .before .before .match .rest))
+    (λ c. class-in Letter 97 26 _ refl (omega arith) (omega arith) (c .before .before .before .before .before .match .rest))
+    (λ c. class-in Other 0 40 _ refl (omega arith) (omega arith) (c .before .before .match .rest))
+    (λ c. class-in Other 46 2 _ refl (omega arith) (omega arith) (c .before .before .before .before .match .rest))
+    (λ c. class-in Other 64 1 _ refl (omega arith) (omega arith) (c .before .before .match .rest))
+    (λ c. class-in Other 91 6 _ refl (omega arith) (omega arith) (c .before .before .before .before .match .rest))
+    (λ c. class-in Other 123 133 _ refl (omega arith) (omega arith) (c .before .before .before .before .before .match .rest))
+    (λ c. simp (c .match .keys3))
+    (λ c. class-in Sign 40 6 _ refl (omega arith) (omega arith) (c .before .before .before .match .rest))
+    (λ c. class-in Sign 58 6 _ refl (omega arith) (omega arith) (c .before .before .before .before .before .match .rest)))
