@@ -19,7 +19,8 @@ use Rattle.host.specs.Calls.{blockAfter}
 use Rattle.runner.specs.Run.{Ran, endsWith, isRefused, numberIn, answerOf, spaceAfter, roomAfter, runOf}
 use Rattle.runner.specs.declared.running.Outcome.{Outcome}
 use Rattle.runner.specs.declared.running.Outcome.the-variants.{Ended, Stopped, Out, Failed, Refused}
-use Rattle.promises.specs.Boxes.{RunBox, textIn, spaceIn, roomIn, lentIn, budgetIn, blockIn, answerWord, outcomeWord, refusedWord, CheckBox, recipeIn, AskBox, spaceAsked, boxesAnswerAlways, boxStopsWithinBudget, boxRefusesExactly, boxRefusalsChangeNothing, boxPassedRunsEndWell, boxAsksWell}
+use Rattle.promises.specs.Calls.{RunBox, textIn, spaceIn, roomIn, lentIn, budgetIn, blockIn, answerWord, refusedWord, recipeIn, spaceAsked}
+use Rattle.promises.specs.Boxes.{boxesAnswerAlways, boxStopsWithinBudget, boxRefusesExactly, boxRefusalsChangeNothing, boxPassedRunsEndWell, boxAsksWell}
 use Rattle.promises.specs.Passing.{sparedNumbers, oneOf}
 use Rattle.promises.proofs.Limits.Bounds.{steps-within}
 use Rattle.promises.proofs.Limits.Refusals.{refused-fresh, refused-numbered}

@@ -2,96 +2,44 @@
 -- statement has the proof of its name, with hyphens, in `proofs/Boxes.antt`.
 use mathlib.Core.Path.{_≡_}
 use mathlib.Core.Bool.{true, false}
-use mathlib.Core.List.{List, [], _∷_}
+use mathlib.Core.List.{[], _∷_}
 use mathlib.Core.Logic.{_↔_}
 use Prim.Native.Nat.{ℕ, _+_, _≤_}
-use lib.ListN.{length, getD}
-use Rattle.machine.specs.Machine.{Lent, lentBy}
-use Rattle.host.proofs as host
-use Rattle.promises.specs.Calls.{Call, Always}
+use lib.ListN.{length}
+use Rattle.promises.specs.Calls.{
+  RunBox,
+  textIn,
+  spaceIn,
+  spaceOut,
+  roomIn,
+  roomOut,
+  lentIn,
+  budgetIn,
+  blockIn,
+  blockOut,
+  answerWord,
+  outcomeWord,
+  numberWord,
+  placeWord,
+  refusedWord,
+  CheckBox,
+  boxChecksAlways,
+  recipeIn,
+  passedWord,
+  AskBox,
+  boxAsksAlways,
+  spaceAsked,
+  foundWord,
+}
 use Rattle.promises.specs.Demands.{RefusedFor}
 use Rattle.promises.specs.Passing.{sparedNumbers, oneOf}
-
--- ---- `quernhem_run(text, input, space, room, budget, tables, answer)`
-
-abbrev pub RunBox : Type 0
-RunBox = Call host.quernhem_run.Kinds.ps host.quernhem_run.Kinds.r host.quernhem_run.Reads.Post
-
-abbrev pub textIn : RunBox → List ℕ
-textIn c = c .passed .0 .now
-
-abbrev pub spaceIn : RunBox → List ℕ
-spaceIn c = c .passed .1 .1 .0 .now
-
-abbrev pub spaceOut : RunBox → List ℕ
-spaceOut c = c .left .1 .1 .0
-
-abbrev pub roomIn : RunBox → List ℕ
-roomIn c = c .passed .1 .1 .1 .0 .now
-
-abbrev pub roomOut : RunBox → List ℕ
-roomOut c = c .left .1 .1 .1 .0
-
-abbrev pub lentIn : RunBox → Lent
-lentIn c = lentBy (spaceIn c) (roomIn c)
-
-abbrev pub budgetIn : RunBox → ℕ
-budgetIn c = c .passed .1 .1 .1 .1 .0
-
-abbrev pub blockIn : RunBox → List ℕ
-blockIn c = c .passed .1 .1 .1 .1 .1 .0 .now
-
-abbrev pub blockOut : RunBox → List ℕ
-blockOut c = c .left .1 .1 .1 .1 .1 .0
-
--- the words of the answer: outcome (4: refused), number, line, place, steps, bytes written, input bytes taken
-abbrev pub answerWord : RunBox → ℕ → ℕ
-answerWord c i = getD (c .left .1 .1 .1 .1 .1 .1 .0) i 0
-
-abbrev pub outcomeWord : RunBox → ℕ
-outcomeWord c = answerWord c 0
-
-abbrev pub numberWord : RunBox → ℕ
-numberWord c = answerWord c 1
-
-abbrev pub placeWord : RunBox → ℕ
-placeWord c = answerWord c 3
-
-abbrev pub refusedWord : ℕ
-refusedWord = 4
-
--- ---- `quernhem_check(text, verdict)`
-
-abbrev pub CheckBox : Type 0
-CheckBox = Call host.quernhem_check.Kinds.ps host.quernhem_check.Kinds.r host.quernhem_check.Reads.Post
-
-abbrev pub recipeIn : CheckBox → List ℕ
-recipeIn c = c .passed .0 .now
-
--- 0 passed or 1 refused, number, line, place
-abbrev pub passedWord : CheckBox → ℕ
-passedWord c = getD (c .left .1 .0) 0 0
-
--- ---- `quernhem_ask(tables, space, name, found)`
-
-abbrev pub AskBox : Type 0
-AskBox = Call host.quernhem_ask.Kinds.ps host.quernhem_ask.Kinds.r host.quernhem_ask.Reads.Post
-
-abbrev pub spaceAsked : AskBox → List ℕ
-spaceAsked c = c .passed .1 .0 .now
-
--- number (0 or 111), kind, value, start and length in the space
-abbrev pub foundWord : AskBox → ℕ → ℕ
-foundWord c i = getD (c .left .1 .1 .1 .0) i 0
-
--- ---- the statements
 
 -- Every check and every question of a box has an answer that its contract allows, whatever bytes are lent. It does not say how long a call
 -- takes, and not the same of a run: that is `answersAlways` of `run`, and the toolchain's own theorem that `quernhem_run` ends and meets its
 -- contract. Ruled out: a contract of `quernhem_check` that has no words for 16; one of `quernhem_ask` that has no answer for an empty space.
 pub record BoxesAnswerAlways : Type 0 where
-  pub check : Always host.quernhem_check.Kinds.ps host.quernhem_check.Kinds.r host.quernhem_check.Reads.Post
-  pub ask : Always host.quernhem_ask.Kinds.ps host.quernhem_ask.Kinds.r host.quernhem_ask.Reads.Post
+  pub check : boxChecksAlways
+  pub ask : boxAsksAlways
 
 abbrev pub boxesAnswerAlways : Type 0
 boxesAnswerAlways = BoxesAnswerAlways

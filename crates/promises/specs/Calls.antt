@@ -4,6 +4,7 @@
 use mathlib.Core.Path.{_≡_}
 use mathlib.Core.List.{List}
 use Prim.Native.Nat.{ℕ}
+use lib.ListN.{getD}
 use contract.Lifetimes.{Lfts}
 use denote.Triple.Clauses.{Lasts, atExit}
 use borrow.Fn.Kind.{PK, RK}
@@ -13,6 +14,7 @@ use Rattle.machine.specs.Machine.{Lent, lentBy}
 use Rattle.checker.proofs as checker
 use Rattle.asking.proofs as asking
 use Rattle.runner.proofs as runner
+use Rattle.host.proofs as host
 
 -- what is passed, what is answered, and what each `&mut` that was lent holds then
 pub record Call {n : ℕ} (parameters : List (PK n)) (result : RK n) (Post : Out n parameters result) : Type 0 where
@@ -101,3 +103,81 @@ spaceHanded c = c .passed .1 .0 .now
 
 abbrev pub nameAsked : AskCall → List ℕ
 nameAsked c = c .passed .1 .1 .0 .now
+
+-- ---- `quernhem_run(text, input, space, room, budget, tables, answer)`
+
+abbrev pub RunBox : Type 0
+RunBox = Call host.quernhem_run.Kinds.ps host.quernhem_run.Kinds.r host.quernhem_run.Reads.Post
+
+abbrev pub textIn : RunBox → List ℕ
+textIn c = c .passed .0 .now
+
+abbrev pub spaceIn : RunBox → List ℕ
+spaceIn c = c .passed .1 .1 .0 .now
+
+abbrev pub spaceOut : RunBox → List ℕ
+spaceOut c = c .left .1 .1 .0
+
+abbrev pub roomIn : RunBox → List ℕ
+roomIn c = c .passed .1 .1 .1 .0 .now
+
+abbrev pub roomOut : RunBox → List ℕ
+roomOut c = c .left .1 .1 .1 .0
+
+abbrev pub lentIn : RunBox → Lent
+lentIn c = lentBy (spaceIn c) (roomIn c)
+
+abbrev pub budgetIn : RunBox → ℕ
+budgetIn c = c .passed .1 .1 .1 .1 .0
+
+abbrev pub blockIn : RunBox → List ℕ
+blockIn c = c .passed .1 .1 .1 .1 .1 .0 .now
+
+abbrev pub blockOut : RunBox → List ℕ
+blockOut c = c .left .1 .1 .1 .1 .1 .0
+
+-- the words of the answer: outcome (4: refused), number, line, place, steps, bytes written, input bytes taken
+abbrev pub answerWord : RunBox → ℕ → ℕ
+answerWord c i = getD (c .left .1 .1 .1 .1 .1 .1 .0) i 0
+
+abbrev pub outcomeWord : RunBox → ℕ
+outcomeWord c = answerWord c 0
+
+abbrev pub numberWord : RunBox → ℕ
+numberWord c = answerWord c 1
+
+abbrev pub placeWord : RunBox → ℕ
+placeWord c = answerWord c 3
+
+abbrev pub refusedWord : ℕ
+refusedWord = 4
+
+-- ---- `quernhem_check(text, verdict)`
+
+abbrev pub CheckBox : Type 0
+CheckBox = Call host.quernhem_check.Kinds.ps host.quernhem_check.Kinds.r host.quernhem_check.Reads.Post
+
+abbrev pub boxChecksAlways : Type 0
+boxChecksAlways = Always host.quernhem_check.Kinds.ps host.quernhem_check.Kinds.r host.quernhem_check.Reads.Post
+
+abbrev pub recipeIn : CheckBox → List ℕ
+recipeIn c = c .passed .0 .now
+
+-- 0 passed or 1 refused, number, line, place
+abbrev pub passedWord : CheckBox → ℕ
+passedWord c = getD (c .left .1 .0) 0 0
+
+-- ---- `quernhem_ask(tables, space, name, found)`
+
+abbrev pub AskBox : Type 0
+AskBox = Call host.quernhem_ask.Kinds.ps host.quernhem_ask.Kinds.r host.quernhem_ask.Reads.Post
+
+abbrev pub boxAsksAlways : Type 0
+boxAsksAlways = Always host.quernhem_ask.Kinds.ps host.quernhem_ask.Kinds.r host.quernhem_ask.Reads.Post
+
+abbrev pub spaceAsked : AskBox → List ℕ
+spaceAsked c = c .passed .1 .0 .now
+
+-- number (0 or 111), kind, value, start and length in the space
+abbrev pub foundWord : AskBox → ℕ → ℕ
+foundWord c i = getD (c .left .1 .1 .1 .0) i 0
