@@ -96,10 +96,21 @@ static void show_space(int refused, const uint8_t *tables, const uint8_t *space,
     others(space, refused ? 0 : used, space_len, refused ? OLD : 0);
 }
 
+/* What the tables hold before a run: a number QN that is 41, and a string QT of three bytes. A refusal leaves them. */
+static uint8_t *old_tables(void) {
+    uint8_t *tables = lend(QUERNHEM_TABLES, 0);
+    memcpy(tables + QUERNHEM_NUMBER_NAMES, "QN", 2);
+    tables[QUERNHEM_WORDS] = 41;
+    memcpy(tables + QUERNHEM_STRING_NAMES, "QT", 2);
+    tables[QUERNHEM_LENGTHS] = 3;
+    tables[QUERNHEM_NUMBER_COUNT] = tables[QUERNHEM_STRING_COUNT] = 1;
+    return tables;
+}
+
 static void run_case(const Stored *stored) {
     static const char *const outcomes[] = {"ended", "stopped", "out", "error", "refused"};
     size_t space_len = stored->space_len, room_len = stored->room_len;
-    uint8_t *space = lend(space_len, OLD), *room = lend(room_len, OLD), *tables = lend(QUERNHEM_TABLES, 0);
+    uint8_t *space = lend(space_len, OLD), *room = lend(room_len, OLD), *tables = old_tables();
     uint64_t answer[QUERNHEM_ANSWER];
     quernhem_run(stored->text, stored->text_len, stored->input, stored->input_len, space, space_len, room, room_len, stored->budget, tables,
                  answer);
@@ -107,10 +118,11 @@ static void run_case(const Stored *stored) {
     for (size_t i = QUERNHEM_NUMBER; i < QUERNHEM_ANSWER; i++) number(answer[i]);
     front(room, answer[QUERNHEM_WRITTEN]);
     others(room, answer[QUERNHEM_WRITTEN], room_len, OLD);
-    show_space(answer[QUERNHEM_OUTCOME] == QUERNHEM_REFUSED, tables, space, space_len);
+    int refused = answer[QUERNHEM_OUTCOME] == QUERNHEM_REFUSED;
+    show_space(refused, tables, space, space_len);
     show_numbers(tables);
     show_strings(tables);
-    ask_all(tables, space, space_len);
+    if (!refused) ask_all(tables, space, space_len);
     printf("\n");
     free(space);
     free(room);

@@ -153,8 +153,33 @@ fn show(ran: Ran, space: &[u8], room: &[u8]) {
     line_end();
 }
 
+// What the tables hold before a run: a number QN that is 41, and a string QT of three bytes. A refusal hands them back.
+fn old_tables() -> Tables {
+    let mut names = [0; Tables::NAMES];
+    names[0] = b'Q';
+    names[1] = b'N';
+    let mut words = [0; Tables::MOST];
+    words[0] = 41;
+    let mut labels = [0; Tables::NAMES];
+    labels[0] = b'Q';
+    labels[1] = b'T';
+    let mut lengths = [0; Tables::MOST];
+    lengths[0] = 3;
+    let numbers = Numbers {
+        names,
+        words,
+        count: 1,
+    };
+    let strings = Strings {
+        names: labels,
+        lengths,
+        count: 1,
+    };
+    Tables { numbers, strings }
+}
+
 fn run_in(text: &[u8], input: &[u8], space: &mut [u8], room: &mut [u8], budget: u32) {
-    let ran = run(text, input, space, room, budget, Tables::empty());
+    let ran = run(text, input, space, room, budget, old_tables());
     show(ran, space, room);
 }
 
