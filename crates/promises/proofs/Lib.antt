@@ -12,3 +12,5 @@ pub mod Passing
 pub mod Sentences
 pub mod Looping
 pub mod Waiting
+pub mod OutOfSteps
+pub mod Refusals

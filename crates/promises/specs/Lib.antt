@@ -7,3 +7,5 @@ pub mod Faults
 pub mod Starred
 pub mod Passing
 pub mod Sentences
+pub mod OutOfSteps
+pub mod Refusals

@@ -110,7 +110,7 @@ run-keeps P k step text input lent budget p =
 
 -- ---- steps
 
-steps-kept : (n : ℕ) → Keeps (λ m. m .steps ≡ n)
+pub steps-kept : (n : ℕ) → Keeps (λ m. m .steps ≡ n)
 steps-kept n = record {
   notes = λ m room p. p;
   numbers = λ m name w p. p;
