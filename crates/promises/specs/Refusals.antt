@@ -1,5 +1,5 @@
 -- What a text is refused for, row by row of the paper's table, and where. A statement has the proof of its name, with hyphens, in
--- `proofs/Refusals.antt`.
+-- `proofs/Refusals/Loading.antt`.
 use mathlib.Core.Path.{_≡_}
 use mathlib.Core.Bool.{Bool, false}
 use mathlib.Core.List.{List, [], _∷_, _++_}
