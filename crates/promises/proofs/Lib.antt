@@ -14,3 +14,4 @@ pub mod Looping
 pub mod Waiting
 pub mod OutOfSteps
 pub mod Refusals
+pub mod Counting

@@ -9,3 +9,4 @@ pub mod Passing
 pub mod Sentences
 pub mod OutOfSteps
 pub mod Refusals
+pub mod Requests

@@ -1,0 +1,3 @@
+-- Unfinished strings, counted request by request, and the most that the machine notes.
+pub mod Rising
+pub mod Few
