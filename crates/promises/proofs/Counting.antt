@@ -1,3 +1,5 @@
 -- Unfinished strings, counted request by request, and the most that the machine notes.
 pub mod Rising
 pub mod Few
+pub mod Formulas
+pub mod Raising
