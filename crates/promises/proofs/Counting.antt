@@ -3,3 +3,6 @@ pub mod Rising
 pub mod Few
 pub mod Formulas
 pub mod Raising
+pub mod Noting
+pub mod Statements
+pub mod Runs

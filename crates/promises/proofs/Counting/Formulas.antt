@@ -36,7 +36,7 @@ use Rattle.promises.proofs.Counting.Few.{texts-count, behind-count, one
 
 -- ---- a string that is made is counted
 
-make-counts : (b : List ℕ) (room : Room) → room .live + length b ≤ room .limit → room .unfinished + 1 ≤ highestOf (make b room)
+pub make-counts : (b : List ℕ) (room : Room) → room .live + length b ≤ room .limit → room .unfinished + 1 ≤ highestOf (make b room)
 unfolding make
 make-counts b room h = rw (le-ltb (room .limit) (room .live + length b) h) (omega arith)
 

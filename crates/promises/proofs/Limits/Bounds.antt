@@ -65,7 +65,7 @@ turn-stands P k program m lines p h =
     (statement-keeps P k program (placeOf p) (headOf p) (withStep m) (record { lines = lines; rest = tailOf p }) h)
 
 -- all turns
-running-keeps : (P : Machine → Type 0) → Keeps P → ((m : Machine) → P m → P (withStep m))
+pub running-keeps : (P : Machine → Type 0) → Keeps P → ((m : Machine) → P m → P (withStep m))
     → (n : ℕ) (program : List ℕ) (s : Standing) → Stands P s → P (running n program s .machine)
 unfolding running
 running-keeps P k step zero program (finished r) h = h
