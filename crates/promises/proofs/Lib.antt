@@ -15,3 +15,4 @@ pub mod Waiting
 pub mod OutOfSteps
 pub mod Refusals
 pub mod Counting
+pub mod Questions

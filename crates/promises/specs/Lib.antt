@@ -10,3 +10,4 @@ pub mod Sentences
 pub mod OutOfSteps
 pub mod Refusals
 pub mod Requests
+pub mod Questions
