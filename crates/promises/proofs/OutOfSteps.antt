@@ -18,7 +18,7 @@ use Rattle.runner.specs.declared.running.Outcome.the-variants.{Ended, Stopped, 
 use Rattle.runner.specs.declared.running.Ran as code
 use Rattle.promises.specs.Calls.{RunCall, textOf, inputOf, lentOf, budgetOf}
 use Rattle.promises.specs.Passing.{standsAfter}
-use Rattle.promises.specs.OutOfSteps.{AnotherStands, outOfStepsExactly}
+use Rattle.promises.specs.OutOfSteps.{AnotherStands, outOfSteps, outOfStepsExactly}
 use Rattle.promises.proofs.Limits.Bounds.{Stands, entering-stands, turn-stands, RunView, long, unloaded, runs, run-view, steps-kept}
 use Rattle.whole.proofs.Never.{never}
 
@@ -117,18 +117,21 @@ module _ (text input : List ℕ) (lent : Lent) (budget : ℕ) (l : LineNumber) w
       (entering-stands (λ o. o .steps ≡ 0) (fresh input lent) (linesOf text) refl) (a .stands) in
       omega arith
 
-  pub out-exactly : runOf text input lent budget .ending ≡ Out l → AnotherStands text input lent budget l
-  out-exactly e = out-view (run-view text input lent budget) e
+pub out-of-steps : outOfSteps
+out-of-steps text input lent budget l = (
+  (λ e. out-view text input lent budget l (run-view text input lent budget) e),
+  (λ a. ap (λ (r : Ran). r .ending) (run-out text input lent budget l a)),
+)
 
 module _ (c : RunCall) (l : LineNumber) where
   outcome-told : c .answer .outcome ≡ runOf (textOf c) (inputOf c) (lentOf c) (budgetOf c) .ending
   outcome-told = ap (λ (y : code.Ran). y .outcome) (c .allowed .0)
 
   told-stands : c .answer .outcome ≡ Out l → AnotherStands (textOf c) (inputOf c) (lentOf c) (budgetOf c) l
-  told-stands h = out-exactly (textOf c) (inputOf c) (lentOf c) (budgetOf c) l (sym outcome-told ∙ h)
+  told-stands h = out-of-steps (textOf c) (inputOf c) (lentOf c) (budgetOf c) l .0 (sym outcome-told ∙ h)
 
   stands-told : AnotherStands (textOf c) (inputOf c) (lentOf c) (budgetOf c) l → c .answer .outcome ≡ Out l
-  stands-told a = outcome-told ∙ ap (λ (r : Ran). r .ending) (run-out (textOf c) (inputOf c) (lentOf c) (budgetOf c) l a)
+  stands-told a = outcome-told ∙ out-of-steps (textOf c) (inputOf c) (lentOf c) (budgetOf c) l .1 a
 
   told-spent : c .answer .outcome ≡ Out l → c .answer .steps ≡ budgetOf c
   told-spent h =

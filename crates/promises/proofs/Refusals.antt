@@ -2,3 +2,5 @@
 pub mod Rows
 pub mod Judging
 pub mod Loading
+pub mod Calls
+pub mod Places

@@ -11,7 +11,7 @@ use Rattle.loader.specs.declared.loading.Loaded.the-variants.{Fine}
 use Rattle.grammar.specs.Trees.{Part}
 use Rattle.variables.specs.Strings.{longestSpace}
 use Rattle.machine.specs.Machine.{Machine, Lent, fresh}
-use Rattle.runner.specs.Run.{lineNumberOf, at, entering}
+use Rattle.runner.specs.Run.{lineNumberOf, at, entering, runOf}
 use Rattle.runner.specs.declared.running.Outcome.the-variants.{Out}
 use Rattle.promises.specs.Calls.{RunCall, textOf, inputOf, lentOf, budgetOf}
 use Rattle.promises.specs.Passing.{standsAfter}
@@ -26,6 +26,13 @@ pub record AnotherStands (text input : List ℕ) (lent : Lent) (budget : ℕ) (l
   pub part : Part
   pub stands : standsAfter budget text (entering (fresh input lent) (linesOf text)) ≡ at machine lines part
   pub numbered : lineNumberOf lines ≡ l
+
+-- A run of any text, on any input, with whatever it is lent and any budget is out of steps at a line if and only if as many statements as its
+-- budget were begun and another stands at that line. It is said of the definition; of calls below, where the wrong programs stand too.
+abbrev pub outOfSteps : Type 0
+outOfSteps =
+    (text input : List ℕ) (lent : Lent) (budget : ℕ) (l : LineNumber)
+    → (runOf text input lent budget .ending ≡ Out l) ↔ AnotherStands text input lent budget l
 
 pub record OutExactly (c : RunCall) (l : LineNumber) : Type 0 where
   pub exactly : (c .answer .outcome ≡ Out l) ↔ AnotherStands (textOf c) (inputOf c) (lentOf c) (budgetOf c) l

@@ -1,5 +1,5 @@
 -- What a text is refused for, row by row of the paper's table, and where. A statement has the proof of its name, with hyphens, in
--- `proofs/Refusals/Loading.antt`.
+-- `proofs/Refusals/` (`Loading`, `Calls`, `Places`).
 use mathlib.Core.Path.{_≡_}
 use mathlib.Core.Bool.{Bool, false}
 use mathlib.Core.List.{List, [], _∷_, _++_}
@@ -23,6 +23,11 @@ use Rattle.loader.specs.declared.refusals.Refusal.the-variants.{
   NotRising,
   TooManyLines,
 }
+use Rattle.variables.specs.Strings.{longestSpace}
+use Rattle.machine.specs.Machine.{Lent}
+use Rattle.checker.specs.declared.checking.Verdict.the-variants as verdict
+use Rattle.runner.specs.declared.running.Outcome.the-variants as outcome
+use Rattle.promises.specs.Calls.{RunCall, textOf, lentOf, CheckCall, recipeOf}
 
 -- ---- the rows of a line, each by itself
 
@@ -101,8 +106,40 @@ pub record LoadsByTable (text : List ℕ) : Type 0 where
   pub fine : (loadOf text ≡ loaded.Fine) ↔ PassesTable text
 
 -- Loading refuses a text with a number and a place if and only if the table does: 100 first, and then the first line to which a row applies,
--- by the first such row; and it takes a text if and only if no row applies. With `refusesExactly` and `ChecksExactly` this is what `run` and
--- `check_recipe` refuse. What the lines of a text are is `linesOf`. Ruled out: a loader that tests all lines for 103 before any for 104; one
--- that gives a line of 256 bytes that holds a byte 9 as 104; one that tells a 513th line that does not rise as 105.
+-- by the first such row; and it takes a text if and only if no row applies. What the lines of a text are is `linesOf`. Ruled out: a loader that
+-- tests all lines for 103 before any for 104; one that gives a line of 256 bytes that holds a byte 9 as 104; one that tells a 513th line that
+-- does not rise as 105.
 abbrev pub loadsByTable : Type 0
 loadsByTable = (text : List ℕ) → LoadsByTable text
+
+-- ---- so are the refusals of calls
+
+-- 106: string space over 16,384 bytes (run only), at 0; else by the text
+pub data RunRefused (text : List ℕ) (lent : Lent) : Refusal → Place → Type 0 where
+  spaceTooLong : longestSpace < lent .space → RunRefused text lent SpaceTooLong (place 0)
+  byText : {r : Refusal} {p : Place} → lent .space ≤ longestSpace → RefusedByTable text r p → RunRefused text lent r p
+
+pub record CallsRefuseByTable : Type 0 where
+  pub runs : (c : RunCall) (r : Refusal) (p : Place) → (c .answer .outcome ≡ outcome.Refused r p) ↔ RunRefused (textOf c) (lentOf c) r p
+  pub checks : (c : CheckCall) (r : Refusal) (p : Place) → (c .answer ≡ verdict.Refused r p) ↔ RefusedByTable (recipeOf c) r p
+
+-- `run` and `check_recipe` refuse with a number and a place if and only if the table does, and so in no other case. It says nothing of what is
+-- lent: `refusalsChangeNothing` does; 111 is `ask`'s. Ruled out: a check that refuses a recipe for a string space; a run that tests its text
+-- before its string space, and says 100 where both are too long.
+abbrev pub callsRefuseByTable : Type 0
+callsRefuseByTable = CallsRefuseByTable
+
+-- ---- and their places are places of the text
+
+-- the line's bytes stand in the text, the first at the line's place
+pub record LiesIn (text : List ℕ) (line : Line) : Type 0 where
+  pub before : List ℕ
+  pub after : List ℕ
+  pub there : text ≡ before ++ (line .bytes ++ after)
+  pub place : length before ≡ line .start
+
+-- The bytes of each line stand in the text from the line's place on, so that a line's first byte, and the first foreign byte in it, are where the
+-- table says. It does not say that every byte of a text is in a line: ends of lines are in none. Ruled out: a loader that counts places in the
+-- text without its bytes 13; one that counts from 1.
+abbrev pub linesLieInText : Type 0
+linesLieInText = (text : List ℕ) (before : List Line) (line : Line) (after : List Line) → linesOf text ≡ before ++ (line ∷ after) → LiesIn text line

@@ -124,7 +124,7 @@ passed seen (l ∷ ls) h = go (judged (l .bytes) (length seen) (floorOf seen)) (
 -- ---- a text
 
 module _ (text : List ℕ) where
-  refused-row : (r : Refusal) (p : Place) → loadOf text ≡ Refused r p → RefusedByTable text r p
+  pub refused-row : (r : Refusal) (p : Place) → loadOf text ≡ Refused r p → RefusedByTable text r p
   unfolding loadOf floorOf
   refused-row r p e =
       by-test (ltb longestText (length text))
@@ -146,7 +146,7 @@ module _ (text : List ℕ) where
           above = f .above;
         }))
 
-  row-refused : (r : Refusal) (p : Place) → RefusedByTable text r p → loadOf text ≡ Refused r p
+  pub row-refused : (r : Refusal) (p : Place) → RefusedByTable text r p → loadOf text ≡ Refused r p
   unfolding loadOf floorOf
   row-refused r p (textTooLong h) = rw (lt-ltb longestText (length text) h)
   row-refused r p (byLine h f) =
