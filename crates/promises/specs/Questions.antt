@@ -16,7 +16,10 @@ use Rattle.variables.specs.Variables.{Variables, wordOf, bytesOf, joinedStrings
 use Rattle.asking.specs.Asking.{isWholeName, askOf}
 use Rattle.asking.specs.declared.questions.Asked.{Asked}
 use Rattle.asking.specs.declared.questions.Asked.the-variants.{Whole, Text, Refused}
-use Rattle.runner.specs.Run.{isRefused, tablesOf, runOf}
+use Rattle.variables.specs.declared.tables.Tables.{Tables}
+use Rattle.machine.specs.Machine.{lentBy}
+use Rattle.runner.specs.Run as run
+use Rattle.runner.specs.Run.{Ran, isRefused, tablesOf, answerOf, runOf}
 use Rattle.promises.specs.Calls.{RunCall, textOf, inputOf, lentOf, budgetOf, spaceAfter, AskCall, tablesHanded, spaceHanded, nameAsked}
 
 -- ---- what is meant
@@ -52,14 +55,27 @@ pub record Holds (vars : Variables) (space : List ℕ) : Type 0 where
   pub unused : List ℕ
   pub joined : space ≡ joinedStrings (vars .strings) ++ unused
 
--- Asked of the tables that hold some variables, and of a space that begins with their strings' bytes, `askOf` is `answerFor`. It does not say
--- what is asked of other tables: `askedPartsLieInside` does. Ruled out: an `askOf` that takes a name for that of an unused entry; one that
--- counts a string's place from the end of the table.
+-- Asked of the tables that hold some variables, and of a space that begins with their strings' bytes, `askOf` is `answerFor`. It says nothing
+-- of other tables: of those `askedPartsLieInside` does. Ruled out: an `askOf` that compares a name's first character alone; one that counts
+-- the bytes of the strings after a string to its place.
 abbrev pub askedOverVariables : Type 0
 askedOverVariables =
     (vars : Variables) (space given : List ℕ) → Holds vars space → Says space (askOf (tablesOf vars) (length space) given) (answerFor vars given)
 
 -- ---- after a run
+
+-- where a run was not refused, asking its tables and the space that it leaves is asking for the variables that it had when it was over
+abbrev pub AnswersAfter : Ran → List ℕ → Tables → List ℕ → Type 0
+AnswersAfter ran space tables given =
+    isRefused (ran .ending) ≡ false
+    → Says (run.spaceAfter ran space) (askOf (answerOf ran tables .tables) (length (run.spaceAfter ran space)) given)
+    (answerFor (ran .machine .variables) given)
+
+-- So of every run of the definition. Of calls, and with the wrong programs, below.
+abbrev pub answersAfterRuns : Type 0
+answersAfterRuns =
+    (text input space room : List ℕ) (budget : ℕ) (tables : Tables) (given : List ℕ)
+    → AnswersAfter (runOf text input (lentBy space room) budget) space tables given
 
 -- a question that is put to the tables and the space that a run left which was not refused
 pub record AskedAfter (c : RunCall) (a : AskCall) : Type 0 where
@@ -69,8 +85,8 @@ pub record AskedAfter (c : RunCall) (a : AskCall) : Type 0 where
 
 -- After every run that was not refused, whatever it came to, and for whatever is given as a name: a name is answered by the value of its
 -- variable when the run was over, 0 or empty where it is unset; a string as the part of the space that holds exactly its bytes; and 111 comes
--- for what is no name and for nothing else. It says nothing of tables or a space that were changed in between. Ruled out: a run that hands its
--- tables back as they were before the last statement; an `ask` that answers A% and A by two variables; one that says 111 for an unset name.
+-- for what is no name and for nothing else. It says nothing of tables or a space that were changed in between. Ruled out: an `ask` that says
+-- 111 for an unset name; a run that leaves the strings in the order of their last assignment, and the table in that of the first.
 abbrev pub asksAfterRuns : Type 0
 asksAfterRuns =
     (c : RunCall) (a : AskCall) → AskedAfter c a

@@ -41,8 +41,8 @@ Granted {lent = lent} q = Fits (lent .space) (stringBytes (q .machine .variables
 
 -- Whenever a run of any text asks for a string, whether it gets it or not, at most 28 strings are unfinished with it, and so at most 32: with
 -- any input, string space, room for output and budget. The strings are those that `Ask` lists, not a count that the definition keeps. It does
--- not say that 28 is reached: `mostIsReached` does. Ruled out: a definition whose counter forgets the operands that wait while a request is
--- refused; one in which all arguments of a call wait in an argument of the next call.
+-- not say that 28 is reached: `mostIsReached` does. Ruled out: a reader that lets parentheses nest 9 deep; one that groups `+` to the right, so
+-- that all left sides of A$+B$+C$ and so on wait.
 abbrev pub fewRequested : Type 0
 fewRequested = (text input : List ℕ) (lent : Lent) (budget : ℕ) (q : Request text input lent budget) → Few (atOnce (q .ask))
 
@@ -55,10 +55,10 @@ pub record IsHighest (text input : List ℕ) (lent : Lent) (budget : ℕ) (highe
   pub atLeast : (q : Request text input lent budget) → Granted q → atOnce (q .ask) ≤ highest
   pub reached : Reached text input lent budget highest
 
--- The most unfinished strings that the machine notes is the largest count of all requests that were granted, and 0 where there was none: so
--- the definition's counter and the list of strings tell the same. It says nothing of requests that were refused: the run ends there, and the
--- refused string is never made. Ruled out: a counter that is put back to 0 with each statement; one that counts a result only after its
--- operands are let go.
+-- The most unfinished strings that the machine notes are the largest count of all requests that were granted, and 0 where there was none: the
+-- definition's counter and the list of strings tell the same. It says nothing of requests that were refused: such a string is never made, and
+-- the run ends there. Ruled out: a counter that is put back to 0 with each statement; one that counts a result when its operands are let go;
+-- one that counts a string that was refused.
 abbrev pub highestIsCounted : Type 0
 highestIsCounted =
     (text input : List ℕ) (lent : Lent) (budget : ℕ) → IsHighest text input lent budget (runOf text input lent budget .machine .highest)

@@ -6,6 +6,8 @@ use Prim.Native.Nat.{ℕ, zero, suc, _≤_}
 use native.Mathlib.Omega.{arith}
 use borrow.Author.Tests.{le-ltb}
 use Rattle.loader.specs.Lines.{Line, linesOf}
+use Rattle.loader.specs.Loading.{loadOf}
+use Rattle.loader.specs.declared.loading.Loaded.the-variants.{Fine}
 use Rattle.grammar.specs.Trees.{Statement, Part}
 use Rattle.variables.specs.Strings.{longestSpace}
 use Rattle.variables.specs.Variables.{stringBytes}
@@ -124,7 +126,7 @@ module _ (text input : List ℕ) (lent : Lent) (budget : ℕ) where
       rw (le-ltb longestSpace (lent .space) (q .small), q .loads)
       (running-counts text budget start (q .from) (q .place) (q .statement) (q .machine) (q .ask) (q .begins) (q .asks) (rw same h))
 
-  reached-by : lent .space ≤ longestSpace → Rattle.loader.specs.Loading.loadOf text ≡ Rattle.loader.specs.declared.loading.Loaded.the-variants.Fine
+  reached-by : lent .space ≤ longestSpace → loadOf text ≡ Fine
       → {h : ℕ} → Raised (Counted text (lent .space) budget start) (highestAt text start) h → Reached text input lent budget h
   reached-by small loads (inl e) =
       requests.never (e ∙ stands-highest text (λ h. h ≡ 0) start (entering-stands (λ m. m .highest ≡ 0) (fresh input lent) (linesOf text) refl))

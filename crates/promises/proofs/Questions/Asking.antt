@@ -17,15 +17,15 @@ use Rattle.words.proofs.Choices.{by-test}
 use Rattle.scanner.specs.Tokens.{tokenAt}
 use Rattle.grammar.specs.Tests.{onName}
 use Rattle.variables.specs.Variables.{NumberVariable, StringVariable, stringBytes, joinedStrings, setNumber, setString, hasNumber, hasString, numbersFull, stringsFull, mostVariables}
-use Rattle.machine.specs.Machine.{Machine, Lent, withStep}
+use Rattle.machine.specs.Machine.{Machine, Lent, lentBy, withStep}
 use Rattle.asking.specs.Asking.{isWholeName, askOf}
 use Rattle.asking.specs.declared.questions.Asked.{Asked}
 use Rattle.asking.specs.declared.questions.Asked.the-variants.{Refused}
 use Rattle.runner.specs.Run as run
 use Rattle.runner.specs.Run.{isRefused, tablesOf, answerOf, runOf}
 use Rattle.runner.specs.declared.running.Ran.{Ran}
-use Rattle.promises.specs.Calls.{RunCall, textOf, inputOf, lentOf, budgetOf, spaceBefore, spaceAfter, tablesBefore, AskCall, tablesHanded, spaceHanded, nameAsked}
-use Rattle.promises.specs.Questions.{Reply, noName, answerFor, Says, refused, Holds, askedOverVariables, AskedAfter, asksAfterRuns}
+use Rattle.promises.specs.Calls.{RunCall, textOf, inputOf, lentOf, budgetOf, spaceBefore, roomBefore, tablesBefore, AskCall, tablesHanded, spaceHanded, nameAsked}
+use Rattle.promises.specs.Questions.{Reply, noName, answerFor, Says, refused, Holds, askedOverVariables, answersAfterRuns, asksAfterRuns}
 use Rattle.promises.proofs.Limits.Keeping.{Keeps}
 use Rattle.promises.proofs.Limits.Bounds.{run-keeps}
 use Rattle.promises.proofs.Questions.Layout.{value-said}
@@ -57,25 +57,25 @@ asked-over-variables vars space given h =
     name-said (tokenAt given (place 0) .token) space _ _ (λ v.
     either-said (isWholeName given (tokenAt given (place 0)) v) space _ _ (value-said vars space h (tellingOf (nameBytes given v)) (v .kind)))
 
+-- of what is equal to it
+said-as : {space left : List ℕ} {x y : Asked} {r : Reply} → space ≡ left → x ≡ y → Says left y r → Says space x r
+said-as e f h = rw (e, f) h
+
 -- ---- a run has at most 64 variables of each kind
+
+one-more : (has : Bool) (n : ℕ) → suc (cond has n (suc n)) ≡ cond has (suc n) (suc (suc n))
+one-more true n = refl
+one-more false n = refl
 
 number-length : (vs : List NumberVariable) (name : Telling) (w : ℕ) → length (setNumber vs name w) ≡ cond (hasNumber vs name) (length vs) (suc (length vs))
 unfolding setNumber hasNumber
 number-length [] name w = refl
-number-length (v ∷ vs) name w = by-test (alike (v .name) name) (λ t. rw t) (λ t. rw t (ap suc (number-length vs name w) ∙ suc-in (hasNumber vs name) (length vs)))
-  where
-    suc-in : (t : Bool) (n : ℕ) → suc (cond t n (suc n)) ≡ cond t (suc n) (suc (suc n))
-    suc-in true n = refl
-    suc-in false n = refl
+number-length (v ∷ vs) name w = by-test (alike (v .name) name) (λ t. rw t) (λ t. rw t (ap suc (number-length vs name w) ∙ one-more (hasNumber vs name) (length vs)))
 
 string-length : (vs : List StringVariable) (name : Telling) (b : List ℕ) → length (setString vs name b) ≡ cond (hasString vs name) (length vs) (suc (length vs))
 unfolding setString hasString
 string-length [] name b = refl
-string-length (v ∷ vs) name b = by-test (alike (v .name) name) (λ t. rw t) (λ t. rw t (ap suc (string-length vs name b) ∙ suc-in (hasString vs name) (length vs)))
-  where
-    suc-in : (t : Bool) (n : ℕ) → suc (cond t n (suc n)) ≡ cond t (suc n) (suc (suc n))
-    suc-in true n = refl
-    suc-in false n = refl
+string-length (v ∷ vs) name b = by-test (alike (v .name) name) (λ t. rw t) (λ t. rw t (ap suc (string-length vs name b) ∙ one-more (hasString vs name) (length vs)))
 
 -- a new one is made only where there is room
 room-left : (has : Bool) (n : ℕ) → not has && leb mostVariables n ≡ false → n ≤ mostVariables → cond has n (suc n) ≤ mostVariables
@@ -113,35 +113,36 @@ run-countable text input lent budget =
 
 -- ---- after a run
 
-module _ (c : RunCall) (a : AskCall) (h : AskedAfter c a) where
-  abbrev ran : run.Ran
-  ran = runOf (textOf c) (inputOf c) (lentOf c) (budgetOf c)
+-- the tables and the space that it leaves hold its variables
+pub run-holds : (text input space room : List ℕ) (budget : ℕ) → isRefused (runOf text input (lentBy space room) budget .ending) ≡ false
+    → Holds (runOf text input (lentBy space room) budget .machine .variables) (run.spaceAfter (runOf text input (lentBy space room) budget) space)
+run-holds text input space room budget taken =
+    let k = run-countable text input (lentBy space room) budget in
+    let vs = runOf text input (lentBy space room) budget .machine .variables .strings in
+    record {
+      numbers = k .numbers;
+      strings = k .strings;
+      unused = replicate (length space - stringBytes vs) 0;
+      joined = rw taken refl;
+    }
 
-  taken : isRefused (ran .ending) ≡ false
-  taken = sym (ap (λ (y : Ran). isRefused (y .outcome)) (c .allowed .0)) ∙ h .taken
-
-  tables-left : tablesHanded a ≡ tablesOf (ran .machine .variables)
-  tables-left =
-      h .tables ∙ ap (λ (y : Ran). y .tables) (c .allowed .0)
-      ∙ ap (λ t. cond t (tablesBefore c) (tablesOf (ran .machine .variables))) taken
-
-  holds : Holds (ran .machine .variables) (spaceHanded a)
-  holds =
-      let k = run-countable (textOf c) (inputOf c) (lentOf c) (budgetOf c) in
-      let vs = ran .machine .variables .strings in
-      record {
-        numbers = k .numbers;
-        strings = k .strings;
-        unused = replicate (length (spaceBefore c) - stringBytes vs) 0;
-        joined =
-            h .space ∙ c .allowed .1 .0
-            ∙ rw taken refl;
-      }
-
-said-as : {space : List ℕ} {x y : Asked} {r : Reply} → x ≡ y → Says space y r → Says space x r
-said-as e h = rw e h
+pub answers-after-runs : answersAfterRuns
+answers-after-runs text input space room budget tables given taken =
+    let ran = runOf text input (lentBy space room) budget in
+    let holds = run-holds text input space room budget taken in
+    let told = asked-over-variables (ran .machine .variables) (run.spaceAfter ran space) given holds in
+    let left : answerOf ran tables .tables ≡ tablesOf (ran .machine .variables) =
+        ap (λ t. cond t tables (tablesOf (ran .machine .variables))) taken in
+    said-as refl (ap (λ t. askOf t (length (run.spaceAfter ran space)) given) left) told
 
 pub asks-after-runs : asksAfterRuns
 asks-after-runs c a h =
-    said-as (a .allowed ∙ ap (λ t. askOf t (length (spaceHanded a)) (nameAsked a)) (tables-left c a h))
-    (asked-over-variables (ran c a h .machine .variables) (spaceHanded a) (nameAsked a) (holds c a h))
+    let ran = runOf (textOf c) (inputOf c) (lentOf c) (budgetOf c) in
+    let taken = sym (ap (λ (y : Ran). isRefused (y .outcome)) (c .allowed .0)) ∙ h .taken in
+    let tables = h .tables ∙ ap (λ (y : Ran). y .tables) (c .allowed .0) in
+    let space = h .space ∙ c .allowed .1 .0 in
+    said-as space
+    (a .allowed
+    ∙ ap (λ t. askOf t (length (spaceHanded a)) (nameAsked a)) tables
+    ∙ ap (λ s. askOf (answerOf ran (tablesBefore c) .tables) (length s) (nameAsked a)) space)
+    (answers-after-runs (textOf c) (inputOf c) (spaceBefore c) (roomBefore c) (budgetOf c) (tablesBefore c) (nameAsked a) taken)
