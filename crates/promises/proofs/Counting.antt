@@ -3,6 +3,8 @@ pub mod Rising
 pub mod Few
 pub mod Formulas
 pub mod Raising
+pub mod Asked
 pub mod Noting
+pub mod Granted
 pub mod Statements
 pub mod Runs

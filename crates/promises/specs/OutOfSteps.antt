@@ -28,7 +28,8 @@ pub record AnotherStands (text input : List ℕ) (lent : Lent) (budget : ℕ) (l
   pub numbered : lineNumberOf lines ≡ l
 
 -- A run of any text, on any input, with whatever it is lent and any budget is out of steps at a line if and only if as many statements as its
--- budget were begun and another stands at that line. It is said of the definition; of calls below, where the wrong programs stand too.
+-- budget were begun and another stands at that line. It is said of the definition, and says nothing of steps. Ruled out: a definition by which a
+-- run is out when its budget is spent at the end of a line, whatever follows; one that looks at the budget before it judges a line.
 abbrev pub outOfSteps : Type 0
 outOfSteps =
     (text input : List ℕ) (lent : Lent) (budget : ℕ) (l : LineNumber)

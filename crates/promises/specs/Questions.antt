@@ -24,6 +24,7 @@ use Rattle.promises.specs.Calls.{RunCall, textOf, inputOf, lentOf, budge
 
 -- ---- what is meant
 
+-- a whole number, by its word, or a string's bytes, or that no name was given
 pub data Reply : Type 0 where
   number : ℕ → Reply
   string : List ℕ → Reply
@@ -71,7 +72,8 @@ AnswersAfter ran space tables given =
     → Says (run.spaceAfter ran space) (askOf (answerOf ran tables .tables) (length (run.spaceAfter ran space)) given)
     (answerFor (ran .machine .variables) given)
 
--- So of every run of the definition. Of calls, and with the wrong programs, below.
+-- So of every run of the definition, whatever is given as a name. It says nothing of a refused run, which leaves what it was lent. Ruled out: a
+-- definition whose tables keep the length that a string had when first assigned; one that leaves the space as the last statement had it.
 abbrev pub answersAfterRuns : Type 0
 answersAfterRuns =
     (text input space room : List ℕ) (budget : ℕ) (tables : Tables) (given : List ℕ)

@@ -13,7 +13,7 @@ use Rattle.grammar.specs.declared.wanting.Want.{Want}
 use Rattle.statements.specs.Parts.{itemFormulas, formulasOf}
 use Rattle.variables.specs.Strings.{Value, whole, text, Room}
 use Rattle.variables.specs.Variables.{Variables}
-use Rattle.operators.specs.Values.{Taken, taken, stopped, valuesOf}
+use Rattle.operators.specs.Values.{taken, valuesOf}
 use Rattle.machine.specs.Machine.{Machine}
 use Rattle.runner.specs.Run.{Standing, at, turn}
 use Rattle.promises.specs.StringSpace as asks

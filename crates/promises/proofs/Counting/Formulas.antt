@@ -1,35 +1,27 @@
 -- The most unfinished strings that a formula notes is the largest count of the requests that it was granted.
-use mathlib.Core.Path.{_≡_, refl, sym, ap, _∙_}
-use mathlib.Core.Bool.{Bool, true, false}
+use mathlib.Core.Path.{_≡_, refl}
 use mathlib.Core.List.{List, [], _∷_, _++_}
-use mathlib.Core.Logic.{_⊎_, inl, inr}
-use Prim.Native.Nat.{ℕ, suc, _+_, _≤_, max}
+use Prim.Native.Nat.{ℕ, _+_, _≤_}
 use native.Mathlib.Omega.{arith}
-use borrow.Author.Tests.{le-ltb, ltb-false, leb-true, leb-false}
-use lib.Dec.{ltb, leb}
+use borrow.Author.Tests.{le-ltb}
 use lib.ListN.{length}
 use Rattle.whole.specs.Texts.{longestString}
-use Rattle.whole.specs.Whole.{applied, negated, flipped, say}
-use Rattle.whole.specs.declared.arithmetic.Operator.{Operator}
+use Rattle.whole.specs.Whole.{negated, flipped}
 use Rattle.words.specs.declared.names.Kind.the-variants as kind
-use Rattle.words.specs.declared.symbols.Function.{Function}
-use Rattle.words.proofs.Choices.{by-test}
 use Rattle.grammar.specs.Trees as tree
 use Rattle.grammar.specs.Trees.{Formula, Arguments}
 use Rattle.grammar.specs.Functions.{wants}
 use Rattle.grammar.specs.Formulas.{countOf}
 use Rattle.grammar.specs.declared.wanting.Want.{Want}
-use Rattle.variables.specs.Strings.{Value, whole, text, Room, Outcome, value, fault, then, make, letAllGo, produced}
+use Rattle.variables.specs.Strings.{Value, whole, text, Room, value, make, produced}
 use Rattle.variables.specs.Variables.{Variables, bytesOf}
-use Rattle.strings.specs.Functions.{answered, called}
-use Rattle.operators.specs.Values.{wholeThen, onTexts, joined, leftRight, sides, Taken, taken, stopped, wantAt, tested, further, result, valueOf, valuesOf}
+use Rattle.strings.specs.Functions.{answered}
+use Rattle.operators.specs.Values.{joined, taken, wantAt, tested, valueOf, valuesOf}
 use Rattle.promises.specs.StringSpace as asks
-use Rattle.promises.specs.StringSpace.{Ask, bytesIn, textsIn, behind, Asks, AsksAmong}
+use Rattle.promises.specs.StringSpace.{Ask, bytesIn, behind, Asks, AsksAmong}
 use Rattle.promises.specs.Unfinished.{bytesHeld, stringsHeld, allBytes, allStrings, Grown, LiveIsExact}
 use Rattle.promises.specs.Requests.{atOnce, Fits}
 use Rattle.promises.proofs.Waiting.Rooms.{let-go-highest}
-use Rattle.promises.proofs.Fourteen.Rooms as rooms
-use Rattle.promises.proofs.Fourteen.Rooms.{CallView, call-view, TextsView, texts-view}
 use Rattle.promises.proofs.Fourteen.Formulas.{bytes-behind, bytes-waiting, one-waits}
 use Rattle.promises.proofs.Counting.Rising.{highestOf, highestIn, answered-same, joined-rises, whole-same, then-higher, sides-higher, tested-same, further-higher, result-higher, value-rises}
 use Rattle.promises.proofs.Counting.Few.{texts-count, behind-count, one-count}

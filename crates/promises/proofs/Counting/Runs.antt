@@ -1,7 +1,7 @@
 -- Every request of a run has at most 28 strings unfinished, and the most that the machine notes is the largest count of those granted.
-use mathlib.Core.Path.{_≡_, refl, sym, ap, _∙_}
+use mathlib.Core.Path.{_≡_, refl, _∙_}
 use mathlib.Core.List.{List}
-use mathlib.Core.Logic.{_⊎_, inl, inr}
+use mathlib.Core.Logic.{inl, inr}
 use Prim.Native.Nat.{ℕ, zero, suc, _≤_}
 use native.Mathlib.Omega.{arith}
 use borrow.Author.Tests.{le-ltb}
@@ -15,7 +15,6 @@ use Rattle.machine.specs.Machine.{Position, Machine, Lent, fresh, withStep}
 use Rattle.statements.specs.Parts.{headOf, tailOf, placeOf}
 use Rattle.turns.specs.Steps.{doStatement}
 use Rattle.runner.specs.Run.{lineNumberOf, Standing, finished, at, entering, turn, running, runOf}
-use Rattle.promises.specs.Unfinished.{LiveIsExact}
 use Rattle.promises.specs.StringSpace as asks
 use Rattle.promises.specs.StringSpace.{Ask, StatementAsks, Begins}
 use Rattle.promises.specs.Requests as requests
@@ -26,7 +25,8 @@ use Rattle.promises.proofs.Limits.Bounds.{Stands, entering-stands, foll
 use Rattle.promises.proofs.Fourteen.Runs.{space-kept, begun-space}
 use Rattle.promises.proofs.Counting.Few.{begun-few}
 use Rattle.promises.proofs.Counting.Raising.{Raised, raised-on, raised-as}
-use Rattle.promises.proofs.Counting.Statements.{AtLeast, least-kept, statement-counts, AskedOf, statement-raises}
+use Rattle.promises.proofs.Counting.Granted.{AtLeast, least-kept, statement-counts}
+use Rattle.promises.proofs.Counting.Statements.{AskedOf, statement-raises}
 
 module _ (program : List ℕ) where
   abbrev afterOf : List Line → Part → Position

@@ -34,7 +34,7 @@ Leaves P (ends m) = P m
 Leaves P (stops m) = P m
 Leaves P (fails e m) = P m
 
--- each change that a statement makes, but for the most unfinished strings that it notes
+-- each change that a statement makes without working anything out; a number is stored only where there is room for its variable
 pub record Changes (P : Machine → Type 0) : Type 0 where
   pub numbers : (m : Machine) (name : Telling) (w : ℕ) → numbersFull (m .variables .numbers) name ≡ false → P m → P (withNumber m name w)
   pub records : (m : Machine) (rs : List Record) → P m → P (withRecords m rs)
@@ -43,7 +43,7 @@ pub record Changes (P : Machine → Type 0) : Type 0 where
   pub takes : (m : Machine) (left : List ℕ) → length left ≤ length (m .input)
       → P m → P (withInput m left (m .taken + (length (m .input) - length left)))
 
--- each change, these too, and the string that an assignment hands over
+-- and those that come of working out: the most unfinished strings are noted, never fewer, and a finished string is handed over
 pub record Keeps (P : Machine → Type 0) : Type 0 where
   pub changes : Changes P
   pub notes : (m : Machine) (room : Room) → m .highest ≤ room .highest → P m → P (noting m room)
@@ -60,14 +60,16 @@ made-text b vars before v room e =
     (λ t. let f = rw t at e in never (cc))
     (λ t. let f = rw t at e in rw t (cc))
 
+-- ---- storing, printing, jumping, looping
+
 module _ (P : Machine → Type 0) (k : Changes P) where
   pub number-keeps : (m : Machine) (name : Telling) (w : ℕ) (go : Machine → Next) → P m → ((n : Machine) → P n → Leaves P (go n))
       → Leaves P (storeNumber m name w go)
   number-keeps m name w go p h =
       by-test (numbersFull (m .variables .numbers) name) (λ e. rw e p) (λ e. rw e (h (withNumber m name w) (k .numbers m name w e p)))
 
-  pub string-keeps : (m : Machine) (name : Telling) (b : List ℕ) (go : Machine → Next) → P m → (stringsFull (m .variables .strings) name ≡ false → P (withString m name b))
-      → ((n : Machine) → P n → Leaves P (go n)) → Leaves P (storeString m name b go)
+  pub string-keeps : (m : Machine) (name : Telling) (b : List ℕ) (go : Machine → Next) → P m
+      → (stringsFull (m .variables .strings) name ≡ false → P (withString m name b)) → ((n : Machine) → P n → Leaves P (go n)) → Leaves P (storeString m name b go)
   string-keeps m name b go p q h =
       by-test (stringsFull (m .variables .strings) name) (λ e. rw e p) (λ e. rw e (h (withString m name b) (q e)))
 
@@ -154,8 +156,6 @@ module _ (P : Machine → Type 0) (k : Keeps P) where
   items-keep quiet (tree.shown f ∷ is) m go p h =
       worked-keeps m (valueOf f (m .variables) (roomOf m)) _ (value-rises f (m .variables) (roomOf m)) p (λ v room e q.
       written-keeps P (k .changes) (noting m room) (shownValue v) _ q (λ n r. items-keep false is n go r h))
-
-  -- ---- FOR and NEXT
 
   -- ---- LINE INPUT
 

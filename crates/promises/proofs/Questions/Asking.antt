@@ -2,7 +2,7 @@
 use mathlib.Core.Path.{_≡_, refl, sym, ap, _∙_}
 use mathlib.Core.Bool.{Bool, true, false, cond, not, _&&_}
 use mathlib.Core.List.{List, [], _∷_}
-use Prim.Native.Nat.{ℕ, suc, _+_, _-_, _≤_}
+use Prim.Native.Nat.{ℕ, suc, _-_, _≤_}
 use native.Mathlib.Omega.{arith}
 use borrow.Author.Tests.{leb-false}
 use lib.Dec.{leb}
@@ -16,15 +16,15 @@ use Rattle.words.specs.declared.symbols.Token.the-variants as token
 use Rattle.words.proofs.Choices.{by-test}
 use Rattle.scanner.specs.Tokens.{tokenAt}
 use Rattle.grammar.specs.Tests.{onName}
-use Rattle.variables.specs.Variables.{NumberVariable, StringVariable, stringBytes, joinedStrings, setNumber, setString, hasNumber, hasString, numbersFull, stringsFull, mostVariables}
-use Rattle.machine.specs.Machine.{Machine, Lent, lentBy, withStep}
+use Rattle.variables.specs.Variables.{NumberVariable, StringVariable, stringBytes, setNumber, setString, hasNumber, hasString, mostVariables}
+use Rattle.machine.specs.Machine.{Machine, Lent, lentBy}
 use Rattle.asking.specs.Asking.{isWholeName, askOf}
 use Rattle.asking.specs.declared.questions.Asked.{Asked}
 use Rattle.asking.specs.declared.questions.Asked.the-variants.{Refused}
 use Rattle.runner.specs.Run as run
 use Rattle.runner.specs.Run.{isRefused, tablesOf, answerOf, runOf}
 use Rattle.runner.specs.declared.running.Ran.{Ran}
-use Rattle.promises.specs.Calls.{RunCall, textOf, inputOf, lentOf, budgetOf, spaceBefore, roomBefore, tablesBefore, AskCall, tablesHanded, spaceHanded, nameAsked}
+use Rattle.promises.specs.Calls.{textOf, inputOf, lentOf, budgetOf, spaceBefore, roomBefore, tablesBefore, spaceHanded, nameAsked}
 use Rattle.promises.specs.Questions.{Reply, noName, answerFor, Says, refused, Holds, askedOverVariables, answersAfterRuns, asksAfterRuns}
 use Rattle.promises.proofs.Limits.Keeping.{Keeps}
 use Rattle.promises.proofs.Limits.Bounds.{run-keeps}
@@ -132,7 +132,7 @@ answers-after-runs text input space room budget tables given taken =
     let holds = run-holds text input space room budget taken in
     let told = asked-over-variables (ran .machine .variables) (run.spaceAfter ran space) given holds in
     let left : answerOf ran tables .tables ≡ tablesOf (ran .machine .variables) =
-        ap (λ t. cond t tables (tablesOf (ran .machine .variables))) taken in
+    ap (λ t. cond t tables (tablesOf (ran .machine .variables))) taken in
     said-as refl (ap (λ t. askOf t (length (run.spaceAfter ran space)) given) left) told
 
 pub asks-after-runs : asksAfterRuns

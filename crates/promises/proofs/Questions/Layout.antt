@@ -1,6 +1,6 @@
 -- The tables that hold some variables, entry by entry: a name reads there as it does among the variables.
 use mathlib.Core.Path.{_≡_, refl, sym, ap, _∙_}
-use mathlib.Core.Bool.{Bool, true, false, cond}
+use mathlib.Core.Bool.{cond}
 use mathlib.Core.List.{List, [], _∷_, _++_, map, append-assoc}
 use Prim.Native.Nat.{ℕ, zero, suc, _+_, _-_, _*_, _≤_}
 use native.Mathlib.Omega.{arith}
@@ -13,7 +13,7 @@ use Rattle.words.specs.declared.names.Kind.the-variants as kind
 use Rattle.words.specs.declared.names.Telling.{Telling}
 use Rattle.words.proofs.Choices.{by-test}
 use Rattle.variables.specs.Variables.{NumberVariable, StringVariable, Variables, wordOf, bytesOf, joinedStrings, mostVariables}
-use Rattle.variables.specs.Tables.{nameBytes, numbersTable, stringsTable, namesFrom, namesIn, numbersIn, slotFrom, slotIn, sumOf}
+use Rattle.variables.specs.Tables.{nameBytes, stringsTable, namesFrom, namesIn, numbersIn, slotFrom, slotIn, sumOf}
 use Rattle.variables.specs.declared.tables.Slot.{Slot}
 use Rattle.variables.specs.declared.tables.Slot.the-variants as slot
 use Rattle.variables.proofs.Lookups as lookups

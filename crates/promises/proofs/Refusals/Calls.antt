@@ -1,10 +1,9 @@
 -- What `run` and `check_recipe` refuse is the paper's table.
-use mathlib.Core.Path.{_≡_, refl, sym, ap, _∙_}
+use mathlib.Core.Path.{_≡_, sym, ap, _∙_}
 use mathlib.Core.Bool.{false, true, false≢true}
 use mathlib.Core.List.{List}
 use Prim.Native.Nat.{ℕ}
 use borrow.Author.Tests.{lt-ltb, le-ltb}
-use Rattle.words.specs.Places.{place}
 use Rattle.words.specs.declared.places.Place.{Place}
 use Rattle.loader.specs.Lines.{linesOf}
 use Rattle.loader.specs.declared.refusals.Refusal.{Refusal}
@@ -14,7 +13,7 @@ use Rattle.runner.specs.Run.{entering, isRefused, runOf}
 use Rattle.runner.specs.declared.running.Outcome.the-variants.{Refused}
 use Rattle.runner.specs.declared.running.Ran.{Ran}
 use Rattle.promises.specs.Calls.{textOf, inputOf, lentOf, budgetOf, recipeOf}
-use Rattle.promises.specs.Refusals.{RefusedByTable, RunRefused, spaceTooLong, byText, callsRefuseByTable}
+use Rattle.promises.specs.Refusals.{RunRefused, spaceTooLong, byText, callsRefuseByTable}
 use Rattle.promises.proofs.Limits.Bounds.{RunView, long, unloaded, runs, run-view}
 use Rattle.promises.proofs.Limits.Refusals.{entering-begun, running-begun}
 use Rattle.promises.proofs.Verdicts as verdicts
@@ -41,14 +40,12 @@ pub calls-refuse-by-table : callsRefuseByTable
 calls-refuse-by-table =
     record {
       runs = λ c r p.
-          let e = ap (λ (y : Ran). y .outcome) (c .allowed .0) in
-          (
+          let e = ap (λ (y : Ran). y .outcome) (c .allowed .0) in (
             (λ h. refused-view (textOf c) (inputOf c) (lentOf c) (budgetOf c) (run-view (textOf c) (inputOf c) (lentOf c) (budgetOf c)) r p (sym e ∙ h)),
             (λ h. e ∙ view-refused (textOf c) (inputOf c) (lentOf c) (budgetOf c) r p h),
           );
       checks = λ c r p.
-          let v = verdicts.refused-exactly (recipeOf c) r p in
-          (
+          let v = verdicts.refused-exactly (recipeOf c) r p in (
             (λ h. refused-row (recipeOf c) r p (v .0 (sym (c .allowed) ∙ h))),
             (λ h. c .allowed ∙ v .1 (row-refused (recipeOf c) r p h)),
           );

@@ -157,5 +157,5 @@ module _ (before : List Line) (l : Line) where
       λ e. rw e
       (by-test (ltb (length (leading isPlain (l .bytes))) (length (l .bytes)))
       (λ f. let y = front-of (l .bytes) (ltb-true _ _ f) in
-        rw (f, y .counted) (foreign (y .front) (y .byte) (y .back) (y .bytes) (y .plain) (y .not), after-103 (ltb-false _ _ e)))
+      rw (f, y .counted) (foreign (y .front) (y .byte) (y .back) (y .bytes) (y .plain) (y .not), after-103 (ltb-false _ _ e)))
       (λ f. rw f (judge-number (ltb-false _ _ e) (ltb-false _ _ f))))

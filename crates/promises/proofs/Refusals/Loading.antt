@@ -129,22 +129,22 @@ module _ (text : List ℕ) where
   refused-row r p e =
       by-test (ltb longestText (length text))
       (λ t.
-        let f : Refused TextTooLong (place 0) ≡ Refused r p = rw t at e in
-        let g : r ≡ TextTooLong = cc in
-        let h : p ≡ place 0 = cc in
-        rw (g, h) (textTooLong (ltb-true _ _ t)))
+      let f : Refused TextTooLong (place 0) ≡ Refused r p = rw t at e in
+      let g : r ≡ TextTooLong = cc in
+      let h : p ≡ place 0 = cc in
+      rw (g, h) (textTooLong (ltb-true _ _ t)))
       (λ t.
-        let f = gives-first [] (linesOf text) r p (rw t at e) in
-        byLine (ltb-false _ _ t)
-        (record {
-          before = f .before;
-          line = f .line;
-          after = f .after;
-          lines = f .lines;
-          earlier = f .earlier;
-          applies = f .applies;
-          above = f .above;
-        }))
+      let f = gives-first [] (linesOf text) r p (rw t at e) in
+      byLine (ltb-false _ _ t)
+      (record {
+        before = f .before;
+        line = f .line;
+        after = f .after;
+        lines = f .lines;
+        earlier = f .earlier;
+        applies = f .applies;
+        above = f .above;
+      }))
 
   pub row-refused : (r : Refusal) (p : Place) → RefusedByTable text r p → loadOf text ≡ Refused r p
   unfolding loadOf floorOf

@@ -64,7 +64,7 @@ unfolding linesFrom
 all-lie pre [] p e = tt
 all-lie pre (b ∷ t) p e =
     let rest : AllLie (pre ++ (b ∷ t)) (linesFrom (p + 1) t) =
-        rw (append-assoc pre (b ∷ []) t) at (all-lie (pre ++ (b ∷ [])) t (p + 1) (omega (arith, length-append pre (b ∷ []), e))) in
+    rw (append-assoc pre (b ∷ []) t) at (all-lie (pre ++ (b ∷ [])) t (p + 1) (omega (arith, length-append pre (b ∷ []), e))) in
     with-lies (pre ++ (b ∷ t)) p b (endsLine b) (dropped b t) (linesFrom (p + 1) t) refl
     (begins-lies pre (b ∷ t) p (linesFrom p (b ∷ t)) e (first-begins p (b ∷ t))) rest
 

@@ -9,13 +9,12 @@ use lib.Dec.{leb}
 use lib.ListN.{length}
 use Rattle.whole.specs.Bytes.{leading}
 use Rattle.whole.specs.Digits.{isDigit, leadingDigits, leadingValue}
-use Rattle.words.specs.Places.{place}
 use Rattle.words.proofs.Choices.{by-test, both}
 use Rattle.loader.specs.Lines.{Line}
 use Rattle.loader.specs.Loading.{isPlain}
 use Rattle.loader.specs.declared.refusals.Refusal.{Refusal}
 use Rattle.loader.specs.declared.refusals.Refusal.the-variants.{NoVariable, SpaceTooLong, TextTooLong, LineTooLong, ForeignByte, BadNumber, NotRising, TooManyLines}
-use Rattle.promises.specs.Refusals.{Plain, AllPlain, beginsWithDigit, foreign, rowOf}
+use Rattle.promises.specs.Refusals.{Plain, AllPlain, beginsWithDigit, rowOf}
 
 -- ---- rows
 
