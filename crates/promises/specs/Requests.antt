@@ -13,7 +13,7 @@ use Rattle.variables.specs.Variables.{stringBytes}
 use Rattle.machine.specs.Machine.{Machine, Lent, fresh}
 use Rattle.runner.specs.Run.{entering, runOf}
 use Rattle.promises.specs.StringSpace.{Ask, bytesIn, StatementAsks, Begins}
-use Rattle.promises.specs.Unfinished.{Few}
+use Rattle.promises.specs.Unfinished.{mostUnfinished, Few}
 
 -- the strings that are unfinished then, the asked one included
 abbrev pub atOnce : Ask → ℕ
@@ -41,10 +41,17 @@ Granted {lent = lent} q = Fits (lent .space) (stringBytes (q .machine .variables
 
 -- Whenever a run of any text asks for a string, whether it gets it or not, at most 28 strings are unfinished with it, and so at most 32: with
 -- any input, string space, room for output and budget. The strings are those that `Ask` lists, not a count that the definition keeps. It does
--- not say that 28 is reached: `mostIsReached` does. Ruled out: a reader that lets parentheses nest 9 deep; one that groups `+` to the right, so
+-- not say that 28 is reached: `mostIsRequested` does. Ruled out: a reader that lets parentheses nest 9 deep; one that groups `+` to the right, so
 -- that all left sides of A$+B$+C$ and so on wait.
 abbrev pub fewRequested : Type 0
 fewRequested = (text input : List ℕ) (lent : Lent) (budget : ℕ) (q : Request text input lent budget) → Few (atOnce (q .ask))
+
+-- No smaller number would do: some run asks for a string with 27 others unfinished. It does not say which run. Ruled out: a list of requests that
+-- leaves out those made inside parentheses; one in which the left side of a comparison does not wait.
+abbrev pub mostIsRequested : Type 0
+mostIsRequested =
+    (n : ℕ) → ((text input : List ℕ) (lent : Lent) (budget : ℕ) (q : Request text input lent budget) → atOnce (q .ask) ≤ n)
+    → mostUnfinished ≤ n
 
 -- no string was ever granted, or some request that was granted has this count
 pub data Reached (text input : List ℕ) (lent : Lent) (budget : ℕ) (count : ℕ) : Type 0 where

@@ -1,10 +1,11 @@
 -- Every request of a run has at most 28 strings unfinished, and the most that the machine notes is the largest count of those granted.
 use mathlib.Core.Path.{_≡_, refl, _∙_}
-use mathlib.Core.List.{List}
+use mathlib.Core.List.{List, []}
 use mathlib.Core.Logic.{inl, inr}
 use Prim.Native.Nat.{ℕ, zero, suc, _≤_}
 use native.Mathlib.Omega.{arith}
 use borrow.Author.Tests.{le-ltb}
+use Rattle.whole.specs.Bytes.{bytes}
 use Rattle.loader.specs.Lines.{Line, linesOf}
 use Rattle.loader.specs.Loading.{loadOf}
 use Rattle.loader.specs.declared.loading.Loaded.the-variants.{Fine}
@@ -15,10 +16,13 @@ use Rattle.machine.specs.Machine.{Position, Machine, Lent, fresh, withStep}
 use Rattle.statements.specs.Parts.{headOf, tailOf, placeOf}
 use Rattle.turns.specs.Steps.{doStatement}
 use Rattle.runner.specs.Run.{lineNumberOf, Standing, finished, at, entering, turn, running, runOf}
+use Rattle.runner.specs.Examples.{lending, nested, nested-highest}
+use Rattle.promises.specs.Unfinished.{mostUnfinished}
 use Rattle.promises.specs.StringSpace as asks
 use Rattle.promises.specs.StringSpace.{Ask, StatementAsks, Begins}
 use Rattle.promises.specs.Requests as requests
-use Rattle.promises.specs.Requests.{atOnce, Fits, Request, Granted, fewRequested, Reached, highestIsCounted}
+use Rattle.promises.specs.Requests.{atOnce, Fits, Request, Granted, fewRequested, mostIsRequested, Reached, highestIsCounted}
+use Rattle.whole.proofs.Never.{never}
 use Rattle.promises.proofs.Waiting.Needs.{live-is-exact}
 use Rattle.promises.proofs.Waiting.Runs.{entering-fine, fresh-sound}
 use Rattle.promises.proofs.Limits.Bounds.{Stands, entering-stands, following-stands, turn-stands, running-keeps, RunView, long, unloaded, runs, run-view}
@@ -162,3 +166,10 @@ few-requested text input lent budget q =
     let h = begun-few text budget (entering (fresh input lent) (linesOf text)) (q .from) (q .place) (q .statement) (q .machine) (q .ask) (q .begins)
     (entering-fine (fresh input lent) (linesOf text) (fresh-sound input lent)) (q .asks) in
     record { allowed = omega (arith, h); most = h }
+
+pub most-is-requested : mostIsRequested
+most-is-requested n h = reached-most (rw nested-highest at (highest-is-counted (bytes nested) [] (lending 1000) 1000 .reached))
+  where
+    reached-most : Reached (bytes nested) [] (lending 1000) 1000 mostUnfinished → mostUnfinished ≤ n
+    reached-most (requests.never e) = never (omega (arith, e))
+    reached-most (requests.granted q g e) = omega (arith, h (bytes nested) [] (lending 1000) 1000 q, e)
