@@ -15,3 +15,7 @@ pub mod Passing
 pub mod Sentences
 pub mod Looping
 pub mod Waiting
+pub mod OutOfSteps
+pub mod Refusals
+pub mod Counting
+pub mod Questions

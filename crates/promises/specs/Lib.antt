@@ -9,3 +9,7 @@ pub mod Faults
 pub mod Starred
 pub mod Passing
 pub mod Sentences
+pub mod OutOfSteps
+pub mod Refusals
+pub mod Requests
+pub mod Questions

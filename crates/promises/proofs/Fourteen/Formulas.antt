@@ -34,13 +34,13 @@ use Rattle.promises.proofs.Fourteen.Rooms.{Spares, negated-spares, appl
 
 -- ---- what is asked for while values wait
 
-bytes-behind : (vs : List Value) (us : List (List ℕ)) → bytesIn (textsIn vs ++ us) ≡ allBytes vs + bytesIn us
+pub bytes-behind : (vs : List Value) (us : List (List ℕ)) → bytesIn (textsIn vs ++ us) ≡ allBytes vs + bytesIn us
 unfolding bytesIn textsIn allBytes
 bytes-behind [] us = omega arith
 bytes-behind (whole w ∷ vs) us = omega (arith, bytes-behind vs us)
 bytes-behind (text b ∷ vs) us = omega (arith, bytes-behind vs us)
 
-bytes-waiting : (vs : List Value) → bytesIn (textsIn vs) ≡ allBytes vs
+pub bytes-waiting : (vs : List Value) → bytesIn (textsIn vs) ≡ allBytes vs
 unfolding bytesIn textsIn allBytes
 bytes-waiting [] = refl
 bytes-waiting (whole w ∷ vs) = omega (arith, bytes-waiting vs)
@@ -55,7 +55,7 @@ module _ {before after : Room} (vs : List Value) {n : ℕ} (g : Grown before aft
   exceeds-after h = omega (arith, h, g .limit, g .live, bytes-behind vs (k .unfinished))
 
 -- one value that waits
-one-waits : {before after : Room} (v : Value) → Grown before after (bytesHeld v) (stringsHeld v) → Grown before after (allBytes (v ∷ [])) (stringsHeld v)
+pub one-waits : {before after : Room} (v : Value) → Grown before after (bytesHeld v) (stringsHeld v) → Grown before after (allBytes (v ∷ [])) (stringsHeld v)
 unfolding allBytes
 one-waits v g = record { limit = g .limit; live = omega (arith, g .live); unfinished = g .unfinished }
 

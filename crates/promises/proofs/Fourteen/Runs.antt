@@ -47,17 +47,19 @@ onward-unfailed m lines (part p) = tt
 
 -- ---- the space stays as large
 
-space-kept : (space : ℕ) → Keeps (λ m. m .space ≡ space)
+pub space-kept : (space : ℕ) → Keeps (λ m. m .space ≡ space)
 space-kept space = record {
-  notes = λ m room p. p;
-  numbers = λ m name w p. p;
-  strings = λ m name f b room e p. p;
-  records = λ m rs p. p;
-  prints = λ m bytes h p. p;
-  takes = λ m left h p. p;
+  changes = record {
+    numbers = λ m name w full p. p;
+    records = λ m rs p. p;
+    prints = λ m bytes h p. p;
+    takes = λ m left h p. p;
+  };
+  notes = λ m room h p. p;
+  strings = λ m name f b room e full p. p;
 }
 
-begun-space : (program : List ℕ) (space n : ℕ) (s : Standing) (ls : List Line) (q : ℕ) (x : Statement) (k : Machine) → Begins program n s ls q x k
+pub begun-space : (program : List ℕ) (space n : ℕ) (s : Standing) (ls : List Line) (q : ℕ) (x : Statement) (k : Machine) → Begins program n s ls q x k
     → Stands (λ m. m .space ≡ space) s → k .space ≡ space
 begun-space program space (suc n) (at m lines p) ls q x k asks.first h = h
 begun-space program space (suc n) (at m lines p) ls q x k (asks.later d) h =

@@ -65,7 +65,7 @@ turn-stands P k program m lines p h =
     (statement-keeps P k program (placeOf p) (headOf p) (withStep m) (record { lines = lines; rest = tailOf p }) h)
 
 -- all turns
-running-keeps : (P : Machine → Type 0) → Keeps P → ((m : Machine) → P m → P (withStep m))
+pub running-keeps : (P : Machine → Type 0) → Keeps P → ((m : Machine) → P m → P (withStep m))
     → (n : ℕ) (program : List ℕ) (s : Standing) → Stands P s → P (running n program s .machine)
 unfolding running
 running-keeps P k step zero program (finished r) h = h
@@ -110,14 +110,16 @@ run-keeps P k step text input lent budget p =
 
 -- ---- steps
 
-steps-kept : (n : ℕ) → Keeps (λ m. m .steps ≡ n)
+pub steps-kept : (n : ℕ) → Keeps (λ m. m .steps ≡ n)
 steps-kept n = record {
-  notes = λ m room p. p;
-  numbers = λ m name w p. p;
-  strings = λ m name f b room e p. p;
-  records = λ m rs p. p;
-  prints = λ m bytes h p. p;
-  takes = λ m left h p. p;
+  changes = record {
+    numbers = λ m name w full p. p;
+    records = λ m rs p. p;
+    prints = λ m bytes h p. p;
+    takes = λ m left h p. p;
+  };
+  notes = λ m room h p. p;
+  strings = λ m name f b room e full p. p;
 }
 
 running-steps : (n : ℕ) (program : List ℕ) (s : Standing) (k : ℕ) → Stands (λ m. m .steps ≡ k) s → running n program s .machine .steps ≤ k + n
@@ -144,12 +146,14 @@ record Printable (room : ℕ) (m : Machine) : Type 0 where
 
 output-kept : (room : ℕ) → Keeps (Printable room)
 output-kept room = record {
-  notes = λ m r p. record { lent = p .lent; within = p .within };
-  numbers = λ m name w p. record { lent = p .lent; within = p .within };
-  strings = λ m name f b r e p. record { lent = p .lent; within = p .within };
-  records = λ m rs p. record { lent = p .lent; within = p .within };
-  prints = λ m bytes h p. record { lent = p .lent; within = omega (arith, length-append (m .output) bytes) };
-  takes = λ m left h p. record { lent = p .lent; within = p .within };
+  changes = record {
+    numbers = λ m name w full p. record { lent = p .lent; within = p .within };
+    records = λ m rs p. record { lent = p .lent; within = p .within };
+    prints = λ m bytes h p. record { lent = p .lent; within = omega (arith, length-append (m .output) bytes) };
+    takes = λ m left h p. record { lent = p .lent; within = p .within };
+  };
+  notes = λ m r h p. record { lent = p .lent; within = p .within };
+  strings = λ m name f b r e full p. record { lent = p .lent; within = p .within };
 }
 
 pub output-within : (text input : List ℕ) (lent : Lent) (budget : ℕ) → length (runOf text input lent budget .machine .output) ≤ lent .room
@@ -162,12 +166,14 @@ output-within text input lent budget =
 
 input-kept : (n : ℕ) → Keeps (λ m. m .taken + length (m .input) ≡ n)
 input-kept n = record {
-  notes = λ m room p. p;
-  numbers = λ m name w p. p;
-  strings = λ m name f b room e p. p;
-  records = λ m rs p. p;
-  prints = λ m bytes h p. p;
-  takes = λ m left h p. omega arith;
+  changes = record {
+    numbers = λ m name w full p. p;
+    records = λ m rs p. p;
+    prints = λ m bytes h p. p;
+    takes = λ m left h p. omega arith;
+  };
+  notes = λ m room h p. p;
+  strings = λ m name f b room e full p. p;
 }
 
 pub input-within : (text input : List ℕ) (lent : Lent) (budget : ℕ) → runOf text input lent budget .machine .taken ≤ length input
@@ -191,13 +197,15 @@ module _ (exact : LiveIsExact) where
 
   strings-kept : (space : ℕ) → Keeps (Storable space)
   strings-kept space = record {
-    notes = λ m r p. record { lent = p .lent; within = p .within };
-    numbers = λ m name w p. record { lent = p .lent; within = p .within };
-    strings = λ m name f b r e p.
+    changes = record {
+      numbers = λ m name w full p. record { lent = p .lent; within = p .within };
+      records = λ m rs p. record { lent = p .lent; within = p .within };
+      prints = λ m bytes h p. record { lent = p .lent; within = p .within };
+      takes = λ m left h p. record { lent = p .lent; within = p .within };
+    };
+    notes = λ m r h p. record { lent = p .lent; within = p .within };
+    strings = λ m name f b r e full p.
         record { lent = p .lent; within = omega (arith, strings-fit m f b r e, exact .assignments (m .variables .strings) name b) };
-    records = λ m rs p. record { lent = p .lent; within = p .within };
-    prints = λ m bytes h p. record { lent = p .lent; within = p .within };
-    takes = λ m left h p. record { lent = p .lent; within = p .within };
   }
 
   pub strings-within : (text input : List ℕ) (lent : Lent) (budget : ℕ)

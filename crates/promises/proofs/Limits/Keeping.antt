@@ -24,6 +24,7 @@ use Rattle.operators.specs.Values.{valueOf}
 use Rattle.machine.specs.Machine.{Position, Record, loop, call, Machine, mostRecords, roomOf, withRecords, withOutput, withInput, noting, columnAfter, write, commaBlanks, isCall, isLoop, isLoopOf, Search, missing, found, sought, passed, longestInputLine}
 use Rattle.turns.specs.Steps.{Next, goesOn, enters, ends, stops, fails, worked, wholeOnly, workedWhole, withNumber, withString, storeNumber, storeString, assigned, written, shownValue, printItems, toLine, pushed, returned, cleared, begun, turned, nextOn, Taken, firstLine, takeLine, filled, lineTaken, inputLine, isWholeKind, branch, lineOver, doStatement}
 use Rattle.whole.proofs.Never.{never}
+use Rattle.promises.proofs.Counting.Rising.{highestOf, make-rises, value-rises}
 
 -- what holds of the machine that a statement leaves, wherever it leads
 abbrev pub Leaves : (Machine → Type 0) → Next → Type 0
@@ -33,17 +34,22 @@ Leaves P (ends m) = P m
 Leaves P (stops m) = P m
 Leaves P (fails e m) = P m
 
--- each change that a statement makes
-pub record Keeps (P : Machine → Type 0) : Type 0 where
-  pub notes : (m : Machine) (room : Room) → P m → P (noting m room)
-  pub numbers : (m : Machine) (name : Telling) (w : ℕ) → P m → P (withNumber m name w)
-  pub strings : (m : Machine) (name : Telling) (f : Formula) (b : List ℕ) (room : Room)
-      → valueOf f (m .variables) (roomOf m) ≡ value (text b) room → P m → P (withString (noting m room) name b)
+-- each change that a statement makes without working anything out; a number is stored only where there is room for its variable
+pub record Changes (P : Machine → Type 0) : Type 0 where
+  pub numbers : (m : Machine) (name : Telling) (w : ℕ) → numbersFull (m .variables .numbers) name ≡ false → P m → P (withNumber m name w)
   pub records : (m : Machine) (rs : List Record) → P m → P (withRecords m rs)
   pub prints : (m : Machine) (bytes : List ℕ) → length (m .output) + length bytes ≤ m .outputRoom
       → P m → P (withOutput m (m .output ++ bytes) (columnAfter (m .column) bytes))
   pub takes : (m : Machine) (left : List ℕ) → length left ≤ length (m .input)
       → P m → P (withInput m left (m .taken + (length (m .input) - length left)))
+
+-- and those that come of working out: the most unfinished strings are noted, never fewer, and a finished string is handed over
+pub record Keeps (P : Machine → Type 0) : Type 0 where
+  pub changes : Changes P
+  pub notes : (m : Machine) (room : Room) → m .highest ≤ room .highest → P m → P (noting m room)
+  pub strings : (m : Machine) (name : Telling) (f : Formula) (b : List ℕ) (room : Room)
+      → valueOf f (m .variables) (roomOf m) ≡ value (text b) room → stringsFull (m .variables .strings) name ≡ false
+      → P m → P (withString (noting m room) name b)
 
 -- a line of input is a text as a quoted one is
 made-text : (b : List ℕ) (vars : Variables) (before : Room) (v : Value) (room : Room) → make b before ≡ value v room
@@ -54,91 +60,45 @@ made-text b vars before v room e =
     (λ t. let f = rw t at e in never (cc))
     (λ t. let f = rw t at e in rw t (cc))
 
-module _ (P : Machine → Type 0) (k : Keeps P) where
-  -- ---- working out
+-- ---- storing, printing, jumping, looping
 
-  worked-keeps : (m : Machine) (o : Outcome) (go : Value → Machine → Next) → P m
-      → ((v : Value) (room : Room) → o ≡ value v room → P (noting m room) → Leaves P (go v (noting m room)))
-      → Leaves P (worked m o go)
-  worked-keeps m (value v room) go p h = h v room refl (k .notes m room p)
-  worked-keeps m (fault e room) go p h = k .notes m room p
-
-  whole-keeps : (f : Formula) (m : Machine) (go : ℕ → Machine → Next) → P m → ((w : ℕ) (n : Machine) → P n → Leaves P (go w n))
-      → Leaves P (workedWhole f m go)
-  whole-keeps f m go p h = worked-keeps m (valueOf f (m .variables) (roomOf m)) _ p (λ v room e q. only v (noting m room) q)
-    where
-      only : (v : Value) (n : Machine) → P n → Leaves P (wholeOnly v n (λ w. go w n))
-      only (whole w) n q = h w n q
-      only (text b) n q = q
-
-  -- ---- assignment
-
-  number-keeps : (m : Machine) (name : Telling) (w : ℕ) (go : Machine → Next) → P m → ((n : Machine) → P n → Leaves P (go n))
+module _ (P : Machine → Type 0) (k : Changes P) where
+  pub number-keeps : (m : Machine) (name : Telling) (w : ℕ) (go : Machine → Next) → P m → ((n : Machine) → P n → Leaves P (go n))
       → Leaves P (storeNumber m name w go)
   number-keeps m name w go p h =
-      by-test (numbersFull (m .variables .numbers) name) (λ e. rw e p) (λ e. rw e (h (withNumber m name w) (k .numbers m name w p)))
+      by-test (numbersFull (m .variables .numbers) name) (λ e. rw e p) (λ e. rw e (h (withNumber m name w) (k .numbers m name w e p)))
 
-  string-keeps : (m : Machine) (name : Telling) (b : List ℕ) (go : Machine → Next) → P m → P (withString m name b)
-      → ((n : Machine) → P n → Leaves P (go n)) → Leaves P (storeString m name b go)
+  pub string-keeps : (m : Machine) (name : Telling) (b : List ℕ) (go : Machine → Next) → P m
+      → (stringsFull (m .variables .strings) name ≡ false → P (withString m name b)) → ((n : Machine) → P n → Leaves P (go n)) → Leaves P (storeString m name b go)
   string-keeps m name b go p q h =
-      by-test (stringsFull (m .variables .strings) name) (λ e. rw e p) (λ e. rw e (h (withString m name b) q))
+      by-test (stringsFull (m .variables .strings) name) (λ e. rw e p) (λ e. rw e (h (withString m name b) (q e)))
 
-  assigned-keeps : (m : Machine) (f : Formula) (sort : Kind) (name : Telling) (go : Machine → Next) → P m
-      → ((n : Machine) → P n → Leaves P (go n))
-      → Leaves P (worked m (valueOf f (m .variables) (roomOf m)) (λ v n. assigned sort name v n go))
-  assigned-keeps m f sort name go p h =
-      worked-keeps m (valueOf f (m .variables) (roomOf m)) _ p (λ v room e q. to sort v room e q)
-    where
-      to : (x : Kind) (v : Value) (room : Room) → valueOf f (m .variables) (roomOf m) ≡ value v room → P (noting m room)
-          → Leaves P (assigned x name v (noting m room) go)
-      to kind.Whole (whole w) room e q = number-keeps (noting m room) name w go q h
-      to kind.Whole (text b) room e q = q
-      to kind.Text (whole w) room e q = q
-      to kind.Text (text b) room e q = string-keeps (noting m room) name b go q (k .strings m name f b room e p) h
-
-  -- ---- printing
-
-  written-keeps : (m : Machine) (bytes : List ℕ) (go : Machine → Next) → P m → ((n : Machine) → P n → Leaves P (go n))
+  pub written-keeps : (m : Machine) (bytes : List ℕ) (go : Machine → Next) → P m → ((n : Machine) → P n → Leaves P (go n))
       → Leaves P (written m bytes go)
   unfolding write
   written-keeps m bytes go p h =
       by-test (ltb (m .outputRoom) (length (m .output) + length bytes)) (λ e. rw e p)
       (λ e. rw e (h _ (k .prints m bytes (ltb-false _ _ e) p)))
 
-  items-keep : (quiet : Bool) (is : List Item) (m : Machine) (go : Machine → Next) → P m → ((n : Machine) → P n → Leaves P (go n))
-      → Leaves P (printItems quiet is m go)
-  unfolding printItems
-  items-keep true [] m go p h = h m p
-  items-keep false [] m go p h = written-keeps m (13 ∷ 10 ∷ []) go p h
-  items-keep quiet (tree.comma ∷ is) m go p h = written-keeps m (commaBlanks m) _ p (λ n q. items-keep true is n go q h)
-  items-keep quiet (tree.semicolon ∷ is) m go p h = items-keep true is m go p h
-  items-keep quiet (tree.shown f ∷ is) m go p h =
-      worked-keeps m (valueOf f (m .variables) (roomOf m)) _ p (λ v room e q.
-      written-keeps (noting m room) (shownValue v) _ q (λ n r. items-keep false is n go r h))
-
-  -- ---- jumps
-
-  line-keeps : (m : Machine) (lines : List Line) (go : List Line → Next) → P m → ((ls : List Line) → Leaves P (go ls)) → Leaves P (toLine m lines go)
+  pub line-keeps : (m : Machine) (lines : List Line) (go : List Line → Next) → P m → ((ls : List Line) → Leaves P (go ls)) → Leaves P (toLine m lines go)
   line-keeps m [] go p h = p
   line-keeps m (l ∷ ls) go p h = h (l ∷ ls)
 
-  pushed-keeps : (m : Machine) (r : Record) (go : Machine → Next) → P m → ((n : Machine) → P n → Leaves P (go n)) → Leaves P (pushed m r go)
+  pub pushed-keeps : (m : Machine) (r : Record) (go : Machine → Next) → P m → ((n : Machine) → P n → Leaves P (go n)) → Leaves P (pushed m r go)
   pushed-keeps m r go p h =
       by-test (leb mostRecords (length (m .records))) (λ e. rw e p)
       (λ e. rw e (h (withRecords m (r ∷ m .records)) (k .records m (r ∷ m .records) p)))
 
-  returned-keeps : (m : Machine) (s : Search) → P m → Leaves P (returned m s)
+  pub returned-keeps : (m : Machine) (s : Search) → P m → Leaves P (returned m s)
   returned-keeps m missing p = p
   returned-keeps m (found r under) p = k .records m under p
 
-  -- ---- FOR and NEXT
-
-  begun-keeps : (name : Telling) (after : Position) (start limit step : ℕ) (m : Machine) → P m → Leaves P (begun name after start limit step m)
+  pub begun-keeps : (name : Telling) (after : Position) (start limit step : ℕ) (m : Machine) → P m → Leaves P (begun name after start limit step m)
   begun-keeps name after start limit step m p =
       number-keeps m name start (λ n. pushed (cleared name n) (loop name limit step after) (λ o. goesOn o after)) p (λ n q.
       pushed-keeps (cleared name n) (loop name limit step after) (λ o. goesOn o after) (k .records n _ q) (λ o r. r))
 
-  turned-keeps : (m : Machine) (v : Telling) (limit step : ℕ) (back : Position) (under : List Record) (after : Position) (a : Answer) → P m
+  pub turned-keeps : (m : Machine) (v : Telling) (limit step : ℕ) (back : Position) (under : List Record) (after : Position) (a : Answer) → P m
       → Leaves P (turned m v limit step back under after a)
   turned-keeps m v limit step back under after (Whole w) p =
       number-keeps m v w
@@ -146,11 +106,56 @@ module _ (P : Machine → Type 0) (k : Keeps P) where
       by-test (passed w limit step) (λ e. rw e (k .records n under q)) (λ e. rw e (k .records n (loop v limit step back ∷ under) q)))
   turned-keeps m v limit step back under after (Fault e) p = p
 
-  next-keeps : (m : Machine) (s : Search) (after : Position) → P m → Leaves P (nextOn m s after)
+  pub next-keeps : (m : Machine) (s : Search) (after : Position) → P m → Leaves P (nextOn m s after)
   next-keeps m missing after p = p
   next-keeps m (found (loop v limit step back) under) after p =
       turned-keeps m v limit step back under after (applied Add (wordOf (m .variables .numbers) v) step) p
   next-keeps m (found (call q) under) after p = p
+
+module _ (P : Machine → Type 0) (k : Keeps P) where
+  -- ---- working out
+
+  pub worked-keeps : (m : Machine) (o : Outcome) (go : Value → Machine → Next) → m .highest ≤ highestOf o → P m
+      → ((v : Value) (room : Room) → o ≡ value v room → P (noting m room) → Leaves P (go v (noting m room)))
+      → Leaves P (worked m o go)
+  worked-keeps m (value v room) go r p h = h v room refl (k .notes m room r p)
+  worked-keeps m (fault e room) go r p h = k .notes m room r p
+
+  pub whole-keeps : (f : Formula) (m : Machine) (go : ℕ → Machine → Next) → P m → ((w : ℕ) (n : Machine) → P n → Leaves P (go w n))
+      → Leaves P (workedWhole f m go)
+  whole-keeps f m go p h = worked-keeps m (valueOf f (m .variables) (roomOf m)) _ (value-rises f (m .variables) (roomOf m)) p (λ v room e q. only v (noting m room) q)
+    where
+      only : (v : Value) (n : Machine) → P n → Leaves P (wholeOnly v n (λ w. go w n))
+      only (whole w) n q = h w n q
+      only (text b) n q = q
+
+  -- ---- assignment
+
+  assigned-keeps : (m : Machine) (f : Formula) (sort : Kind) (name : Telling) (go : Machine → Next) → P m
+      → ((n : Machine) → P n → Leaves P (go n))
+      → Leaves P (worked m (valueOf f (m .variables) (roomOf m)) (λ v n. assigned sort name v n go))
+  assigned-keeps m f sort name go p h =
+      worked-keeps m (valueOf f (m .variables) (roomOf m)) _ (value-rises f (m .variables) (roomOf m)) p (λ v room e q. to sort v room e q)
+    where
+      to : (x : Kind) (v : Value) (room : Room) → valueOf f (m .variables) (roomOf m) ≡ value v room → P (noting m room)
+          → Leaves P (assigned x name v (noting m room) go)
+      to kind.Whole (whole w) room e q = number-keeps P (k .changes) (noting m room) name w go q h
+      to kind.Whole (text b) room e q = q
+      to kind.Text (whole w) room e q = q
+      to kind.Text (text b) room e q = string-keeps P (k .changes) (noting m room) name b go q (λ full. k .strings m name f b room e full p) h
+
+  -- ---- printing
+
+  pub items-keep : (quiet : Bool) (is : List Item) (m : Machine) (go : Machine → Next) → P m → ((n : Machine) → P n → Leaves P (go n))
+      → Leaves P (printItems quiet is m go)
+  unfolding printItems
+  items-keep true [] m go p h = h m p
+  items-keep false [] m go p h = written-keeps P (k .changes) m (13 ∷ 10 ∷ []) go p h
+  items-keep quiet (tree.comma ∷ is) m go p h = written-keeps P (k .changes) m (commaBlanks m) _ p (λ n q. items-keep true is n go q h)
+  items-keep quiet (tree.semicolon ∷ is) m go p h = items-keep true is m go p h
+  items-keep quiet (tree.shown f ∷ is) m go p h =
+      worked-keeps m (valueOf f (m .variables) (roomOf m)) _ (value-rises f (m .variables) (roomOf m)) p (λ v room e q.
+      written-keeps P (k .changes) (noting m room) (shownValue v) _ q (λ n r. items-keep false is n go r h))
 
   -- ---- LINE INPUT
 
@@ -163,17 +168,17 @@ module _ (P : Machine → Type 0) (k : Keeps P) where
 
   filled-keeps : (m : Machine) (b : List ℕ) (sort : Kind) (name : Telling) (go : Machine → Next) → P m → ((n : Machine) → P n → Leaves P (go n))
       → Leaves P (worked m (make b (roomOf m)) (λ v n. filled sort name b n go))
-  filled-keeps m b sort name go p h = worked-keeps m (make b (roomOf m)) _ p (λ v room e q. to sort v room e q)
+  filled-keeps m b sort name go p h = worked-keeps m (make b (roomOf m)) _ (make-rises b (roomOf m)) p (λ v room e q. to sort v room e q)
     where
       to : (x : Kind) (v : Value) (room : Room) → make b (roomOf m) ≡ value v room → P (noting m room) → Leaves P (filled x name b (noting m room) go)
       to kind.Whole v room e q = q
-      to kind.Text v room e q = string-keeps (noting m room) name b go q (k .strings m name (tree.text b) b room (made-text b (m .variables) (roomOf m) v room e) p) h
+      to kind.Text v room e q = string-keeps P (k .changes) (noting m room) name b go q (λ full. k .strings m name (tree.text b) b room (made-text b (m .variables) (roomOf m) v room e) full p) h
 
   taken-keeps : (m : Machine) (v : Variable) (t : Taken) (go : Machine → Next) → length (t .left) ≤ length (m .input) → P m
       → ((n : Machine) → P n → Leaves P (go n)) → Leaves P (lineTaken m v t go)
   taken-keeps m v t go less p h =
       by-test (ltb longestInputLine (length (t .bytes))) (λ e. rw e p)
-      (λ e. rw e (filled-keeps _ (t .bytes) (v .kind) (v .telling) go (k .takes m (t .left) less p) h))
+      (λ e. rw e (filled-keeps _ (t .bytes) (v .kind) (v .telling) go (k .changes .takes m (t .left) less p) h))
 
   input-keeps : (input : List ℕ) (m : Machine) (v : Variable) (go : Machine → Next) → m .input ≡ input → P m
       → ((n : Machine) → P n → Leaves P (go n)) → Leaves P (inputLine input m v go)
@@ -190,20 +195,20 @@ module _ (P : Machine → Type 0) (k : Keeps P) where
       whole-keeps c m (λ w n. cond (eqb w 0) (lineOver n (after .lines)) (branch n (after .lines) q)) p
       (λ w n r. by-test (eqb w 0) (λ e. rw e r) (λ e. rw e r))
   statement-keeps program at (tree.ifElse c x y) m after p = whole-keeps c m _ p (λ w n r. r)
-  statement-keeps program at (tree.goto l) m after p = line-keeps m (fromNumber (l .0) (linesOf program)) _ p (λ ls. p)
+  statement-keeps program at (tree.goto l) m after p = line-keeps P (k .changes) m (fromNumber (l .0) (linesOf program)) _ p (λ ls. p)
   statement-keeps program at (tree.gosub l) m after p =
-      line-keeps m (fromNumber (l .0) (linesOf program)) _ p (λ ls. pushed-keeps m (call after) (λ n. enters n ls) p (λ n q. q))
-  statement-keeps program at tree.return m after p = returned-keeps m (sought isCall (m .records)) p
+      line-keeps P (k .changes) m (fromNumber (l .0) (linesOf program)) _ p (λ ls. pushed-keeps P (k .changes) m (call after) (λ n. enters n ls) p (λ n q. q))
+  statement-keeps program at tree.return m after p = returned-keeps P (k .changes) m (sought isCall (m .records)) p
   statement-keeps program at (tree.for v from to by) m after p =
       by-test (isWholeKind (v .kind))
       (λ e. rw e
       (whole-keeps from m _ p (λ a n q. whole-keeps to n _ q (λ b o r. whole-keeps by o _ r (λ s x y.
-      begun-keeps (v .telling) after a b s x y)))))
+      begun-keeps P (k .changes) (v .telling) after a b s x y)))))
       (λ e. rw e p)
-  statement-keeps program at tree.next m after p = next-keeps m (sought isLoop (m .records)) after p
+  statement-keeps program at tree.next m after p = next-keeps P (k .changes) m (sought isLoop (m .records)) after p
   statement-keeps program at (tree.nextOf v) m after p =
-      by-test (isWholeKind (v .kind)) (λ e. rw e (next-keeps m (sought (isLoopOf (v .telling)) (m .records)) after p)) (λ e. rw e p)
-  statement-keeps program at (tree.lineInput t v) m after p = written-keeps m t _ p (λ n q. input-keeps (n .input) n v _ refl q (λ o r. r))
+      by-test (isWholeKind (v .kind)) (λ e. rw e (next-keeps P (k .changes) m (sought (isLoopOf (v .telling)) (m .records)) after p)) (λ e. rw e p)
+  statement-keeps program at (tree.lineInput t v) m after p = written-keeps P (k .changes) m t _ p (λ n q. input-keeps (n .input) n v _ refl q (λ o r. r))
   statement-keeps program at tree.end m after p = p
   statement-keeps program at tree.stop m after p = p
   statement-keeps program at tree.remark m after p = p

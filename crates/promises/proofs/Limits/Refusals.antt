@@ -30,7 +30,7 @@ use Rattle.variables.specs.Strings.{longestSpace}
 
 -- ---- a run that was begun
 
-abbrev Begun : Standing → Type 0
+abbrev pub Begun : Standing → Type 0
 Begun (finished r) = isRefused (r .ending) ≡ false
 Begun (at m lines p) = Unit {0}
 
@@ -39,7 +39,7 @@ entered-begun over m lines = refl
 entered-begun (faulty e) m lines = refl
 entered-begun (opened p) m lines = tt
 
-entering-begun : (m : Machine) (lines : List Line) → Begun (entering m lines)
+pub entering-begun : (m : Machine) (lines : List Line) → Begun (entering m lines)
 entering-begun m lines = entered-begun (enter lines) m lines
 
 onward-begun : (m : Machine) (lines : List Line) (rest : Rest) → Begun (onward m lines rest)
@@ -53,7 +53,7 @@ following-begun l (ends m) = refl
 following-begun l (stops m) = refl
 following-begun l (fails e m) = refl
 
-running-begun : (n : ℕ) (program : List ℕ) (s : Standing) → Begun s → isRefused (running n program s .ending) ≡ false
+pub running-begun : (n : ℕ) (program : List ℕ) (s : Standing) → Begun s → isRefused (running n program s .ending) ≡ false
 unfolding running
 running-begun zero program (finished r) h = h
 running-begun zero program (at m lines p) h = refl

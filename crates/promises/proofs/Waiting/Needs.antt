@@ -101,7 +101,7 @@ met-strings want.Either (whole w) e = omega arith
 met-strings want.Either (text b) e = omega arith
 
 -- nor is a left side where the operator wants one
-left-strings : (op : Operator) (a : Value) → leftRight op a ≡ true → stringsHeld a ≤ leftWaits op
+pub left-strings : (op : Operator) (a : Value) → leftRight op a ≡ true → stringsHeld a ≤ leftWaits op
 left-strings op (whole w) e = omega arith
 left-strings op (text b) e = by-test (wantsWhole op) (λ t. absurd (false≢true (rw t at e))) (λ t. rw t (omega arith))
 

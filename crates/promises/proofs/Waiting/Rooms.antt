@@ -33,7 +33,7 @@ let-go (text t ∷ vs) {before} {after} {b} {s} g =
     let-go vs {before = before} {after = letGo (text t) after} {b = b} {s = s}
     (record { limit = g .limit; live = omega arith; unfinished = omega arith })
 
-let-go-highest : (vs : List Value) (room : Room) → letAllGo vs room .highest ≡ room .highest
+pub let-go-highest : (vs : List Value) (room : Room) → letAllGo vs room .highest ≡ room .highest
 unfolding letAllGo letGo
 let-go-highest [] room = refl
 let-go-highest (whole w ∷ vs) room = let-go-highest vs room

@@ -22,7 +22,7 @@ use Rattle.promises.proofs.Waiting.Reading.{Each, Every, parts-split, P
 use Rattle.promises.proofs.Waiting.Turns.{RestFine, Sound, NextFine, statement-sound}
 use Rattle.variables.specs.Strings.{longestSpace}
 
-abbrev StandingFine : Standing → Type 0
+abbrev pub StandingFine : Standing → Type 0
 StandingFine (finished r) = r .machine .highest ≤ mostUnfinished
 StandingFine (at m lines p) = Sound m × PartFine p
 
@@ -36,7 +36,7 @@ unfolding enter
 enter-fine [] = tt
 enter-fine (l ∷ ls) = line-fine (afterNumber l)
 
-entering-fine : (m : Machine) (lines : List Line) → Sound m → StandingFine (entering m lines)
+pub entering-fine : (m : Machine) (lines : List Line) → Sound m → StandingFine (entering m lines)
 entering-fine m lines s = entered-fine (enter lines) m lines (enter-fine lines) s
 
 onward-fine : (m : Machine) (lines : List Line) (r : Rest) → Sound m → RestFine r → StandingFine (onward m lines r)
@@ -51,15 +51,15 @@ following-fine line (stops m) h = h .few
 following-fine line (fails e m) h = h .few
 
 -- its first statement, the parts of that, and what is left
-abbrev HeadFine : Part → Type 0
+abbrev pub HeadFine : Part → Type 0
 HeadFine p = Each Fine (formulasOf (headOf p)) × Every Fine (heads (partsWithin (headOf p))) × RestFine (tailOf p)
 
-head-fine : (p : Part) → PartFine p → HeadFine p
+pub head-fine : (p : Part) → PartFine p → HeadFine p
 unfolding partsOf heads
 head-fine (last q x) h = (h .0, h .1, tt)
 head-fine (more q x rest) h = let k = parts-split Fine (partsWithin x) (partsOf rest) (h .1) in (h .0, k .0, k .1)
 
-turn-fine : (program : List ℕ) (m : Machine) (lines : List Line) (p : Part) → Sound m → PartFine p → StandingFine (turn program m lines p)
+pub turn-fine : (program : List ℕ) (m : Machine) (lines : List Line) (p : Part) → Sound m → PartFine p → StandingFine (turn program m lines p)
 turn-fine program m lines p s h =
     let k = head-fine p h in
     let after : Position = record { lines = lines; rest = tailOf p } in
@@ -74,7 +74,7 @@ running-few (suc n) program (finished r) h = h
 running-few (suc n) program (at m lines p) h =
     running-few n program (turn program m lines p) (turn-fine program m lines p (h .0) (h .1))
 
-fresh-sound : (input : List ℕ) (lent : Lent) → Sound (fresh input lent)
+pub fresh-sound : (input : List ℕ) (lent : Lent) → Sound (fresh input lent)
 fresh-sound input lent = record { few = omega arith; held = tt }
 
 loaded-few : (x : Loaded) (m : Machine) (go : Unit {0} → Ran) → m .highest ≤ mostUnfinished → go tt .machine .highest ≤ mostUnfinished
