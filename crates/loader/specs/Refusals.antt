@@ -10,6 +10,7 @@ use Rattle.loader.specs.declared.refusals.Refusal.the-variants.{
   BadNumber,
   NotRising,
   TooManyLines,
+  NoRoom,
 }
 
 abbrev pub refusalNumber : Refusal → ℕ
@@ -21,3 +22,4 @@ refusalNumber ForeignByte = 104
 refusalNumber BadNumber = 101
 refusalNumber NotRising = 102
 refusalNumber TooManyLines = 105
+refusalNumber NoRoom = 110

@@ -11,6 +11,7 @@ pub enum Refusal {
     BadNumber,
     NotRising,
     TooManyLines,
+    NoRoom,
 }
 
 // The number that the paper gives a refusal.
@@ -26,5 +27,6 @@ pub fn refusal_number(refusal: Refusal) -> u8
         Refusal::BadNumber => 101,
         Refusal::NotRising => 102,
         Refusal::TooManyLines => 105,
+        Refusal::NoRoom => 110,
     }
 }

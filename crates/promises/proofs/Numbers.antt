@@ -38,6 +38,7 @@ use Rattle.loader.specs.declared.refusals.Refusal.the-variants.{
   BadNumber,
   NotRising,
   TooManyLines,
+  NoRoom,
 }
 use Rattle.checker.specs.Check.{verdictNumber}
 use Rattle.checker.specs.declared.checking.Verdict.{Verdict}
@@ -116,7 +117,8 @@ refusalOf n =
     (cond (eqb n 103) LineTooLong
     (cond (eqb n 104) ForeignByte
     (cond (eqb n 101) BadNumber
-    (cond (eqb n 102) NotRising TooManyLines))))))
+    (cond (eqb n 102) NotRising
+    (cond (eqb n 105) TooManyLines NoRoom)))))))
 
 refusal-back : (r : Refusal) → refusalOf (refusalNumber r) ≡ r
 unfolding refusalOf
@@ -128,6 +130,7 @@ refusal-back ForeignByte = refl
 refusal-back BadNumber = refl
 refusal-back NotRising = refl
 refusal-back TooManyLines = refl
+refusal-back NoRoom = refl
 
 pub same-refusal : (q r : Refusal) → refusalNumber q ≡ refusalNumber r → q ≡ r
 same-refusal q r h = sym (refusal-back q) ∙ ap refusalOf h ∙ refusal-back r
@@ -141,6 +144,7 @@ refusal-high ForeignByte = omega arith
 refusal-high BadNumber = omega arith
 refusal-high NotRising = omega arith
 refusal-high TooManyLines = omega arith
+refusal-high NoRoom = omega arith
 
 -- none of them is what the check spares a run
 pub refusal-spared : (r : Refusal) → oneOf sparedNumbers (refusalNumber r) ≡ false
@@ -152,6 +156,7 @@ refusal-spared ForeignByte = refl
 refusal-spared BadNumber = refl
 refusal-spared NotRising = refl
 refusal-spared TooManyLines = refl
+refusal-spared NoRoom = refl
 
 -- ---- how a run ended
 

@@ -1,44 +1,15 @@
--- A call of a public function of the code and what came of it, as the function's contract allows. `Post` is made by the toolchain from
--- the `ensures` in the source, and is what it proves of the code: a call of a function without `requires` ends and meets it, whatever is
--- passed. So what holds of all such calls holds of the code.
-use mathlib.Core.Path.{_≡_}
+-- Calls of `run`, `check_recipe` and `ask`, and of the library's three functions: what was passed, and what lent memory holds before and after.
+-- What a call is, and that its answer is the only one, is said for all functions in calls/specs/Calls.antt.
 use mathlib.Core.List.{List}
 use Prim.Native.Nat.{ℕ}
 use lib.ListN.{getD}
-use contract.Lifetimes.{Lfts}
-use denote.Triple.Clauses.{Lasts, atExit}
-use borrow.Fn.Kind.{PK, RK}
-use borrow.Fn.Kinds.{In, Out, Dens, resT, endedOf}
+pub use Rattle.calls.specs.Calls.{Call, Always, Unique}
 use Rattle.variables.specs.declared.tables.Tables.{Tables}
 use Rattle.machine.specs.Machine.{Lent, lentBy}
 use Rattle.checker.proofs as checker
 use Rattle.asking.proofs as asking
 use Rattle.runner.proofs as runner
 use Rattle.host.proofs as host
-
--- what is passed, what is answered, and what each `&mut` that was lent holds then
-pub record Call {n : ℕ} (parameters : List (PK n)) (result : RK n) (Post : Out n parameters result) : Type 0 where
-  pub lifetimes : Lfts n
-  pub passed : Dens lifetimes parameters
-  pub answer : resT result lifetimes .Denot
-  pub left : Lasts (endedOf n parameters result) lifetimes passed
-  pub allowed : Post lifetimes passed answer (atExit (endedOf n parameters result) lifetimes passed left)
-
--- whatever is passed, there is an answer that the contract allows
-abbrev pub Always : {n : ℕ} (parameters : List (PK n)) (result : RK n) → Out n parameters result → Type 0
-Always {n} parameters result Post =
-    (lifetimes : Lfts n) (passed : Dens lifetimes parameters)
-    → (answer : resT result lifetimes .Denot) × (left : Lasts (endedOf n parameters result) lifetimes passed)
-    × Post lifetimes passed answer (atExit (endedOf n parameters result) lifetimes passed left)
-
--- two answers that a contract allows to one call are equal, and so is what the lent memory holds after them
-abbrev pub Unique : {n : ℕ} (parameters : List (PK n)) (result : RK n) → In n parameters → Out n parameters result → Type 0
-Unique {n} parameters result Pre Post =
-    (lifetimes : Lfts n) (passed : Dens lifetimes parameters) → Pre lifetimes passed
-    → (answer answer′ : resT result lifetimes .Denot) (left left′ : Lasts (endedOf n parameters result) lifetimes passed)
-    → Post lifetimes passed answer (atExit (endedOf n parameters result) lifetimes passed left)
-    → Post lifetimes passed answer′ (atExit (endedOf n parameters result) lifetimes passed left′)
-    → (answer ≡ answer′) × (left ≡ left′)
 
 -- ---- `run(text, input, space, room, budget, tables)`
 

@@ -22,6 +22,7 @@ use Rattle.loader.specs.declared.refusals.Refusal.the-variants.{
   BadNumber,
   NotRising,
   TooManyLines,
+  NoRoom,
 }
 use Rattle.variables.specs.Strings.{longestSpace}
 use Rattle.machine.specs.Machine.{Lent}
@@ -60,8 +61,9 @@ pub data Applies (before : List Line) (line : Line) : Refusal → Place → Type
 
 -- ---- in the table's order, line by line
 
--- where a row stands in the table
+-- where a row stands in the table; 110, of room that is too short, is a tool's and no row of it
 abbrev pub rowOf : Refusal → ℕ
+rowOf NoRoom = 0
 rowOf NoVariable = 1
 rowOf SpaceTooLong = 2
 rowOf TextTooLong = 3

@@ -21,6 +21,7 @@ pub use digits::val;
 pub use errors::Error;
 pub use errors::number_of;
 pub use texts::Text;
+pub use texts::decimal_text;
 pub use texts::hex_text;
 pub use texts::print_text;
 pub use texts::str_text;

@@ -100,3 +100,11 @@ pub fn hex_text(word: u16) -> Text
     let empty = Text::empty();
     put_numeral(empty, 16, word)
 }
+
+// The digits alone, of a number from 0 to 65535.
+pub fn decimal_text(value: u16) -> Text
+    ensures { λ r. ⌜ r ≡ held (numeral 10 5 value) ⌝ }
+{
+    let empty = Text::empty();
+    put_numeral(empty, 10, value)
+}

@@ -17,7 +17,7 @@ use Rattle.loader.specs.Loading.{isPlain, mostLines, numbered, withNumber, judg
 use Rattle.loader.specs.declared.loading.Judged.{Judged}
 use Rattle.loader.specs.declared.loading.Judged.the-variants.{Good, Bad}
 use Rattle.loader.specs.declared.refusals.Refusal.{Refusal}
-use Rattle.loader.specs.declared.refusals.Refusal.the-variants.{NoVariable, SpaceTooLong, TextTooLong, LineTooLong, ForeignByte, BadNumber, NotRising, TooManyLines}
+use Rattle.loader.specs.declared.refusals.Refusal.the-variants.{NoVariable, SpaceTooLong, TextTooLong, LineTooLong, ForeignByte, BadNumber, NotRising, TooManyLines, NoRoom}
 use Rattle.promises.specs.Refusals.{Plain, AllPlain, beginsWithDigit, Applies, tooLong, foreign, unnumbered, numberTooLarge, notRising, tooMany, rowOf, NoneApplies}
 use Rattle.promises.proofs.Refusals.Rows.{front-of, front-counted, digits-first, floorOf, floor-last, below-floor}
 
@@ -39,6 +39,7 @@ offsetIn l ForeignByte = length (leading isPlain (l .bytes))
 offsetIn l BadNumber = 0
 offsetIn l NotRising = 0
 offsetIn l TooManyLines = 0
+offsetIn l NoRoom = 0
 
 module _ (before : List Line) (l : Line) where
   at-start : {r : Refusal} → Applies before l r (place (l .start)) → Applies before l r (place (l .start + 0))
@@ -101,6 +102,7 @@ module _ (before : List Line) (l : Line) where
         after-101 NoVariable p a = absurd (omega (arith, after-104 NoVariable p a))
         after-101 SpaceTooLong p a = absurd (omega (arith, after-104 SpaceTooLong p a))
         after-101 TextTooLong p a = absurd (omega (arith, after-104 TextTooLong p a))
+        after-101 NoRoom p a = absurd (omega (arith, after-104 NoRoom p a))
 
         module _ (rises : floorOf before ≤ leadingValue (l .bytes)) where
           not-102 : (p : Place) → Applies before l NotRising p → ⊥
@@ -116,6 +118,7 @@ module _ (before : List Line) (l : Line) where
           after-102 NoVariable p a = absurd (omega (arith, after-101 NoVariable p a))
           after-102 SpaceTooLong p a = absurd (omega (arith, after-101 SpaceTooLong p a))
           after-102 TextTooLong p a = absurd (omega (arith, after-101 TextTooLong p a))
+          after-102 NoRoom p a = absurd (omega (arith, after-101 NoRoom p a))
 
           not-105 : length before < mostLines → (p : Place) → Applies before l TooManyLines p → ⊥
           not-105 few p (tooMany h) = omega (arith, few, h)
@@ -129,6 +132,7 @@ module _ (before : List Line) (l : Line) where
           after-105 few NoVariable p a = omega (arith, after-102 NoVariable p a)
           after-105 few SpaceTooLong p a = omega (arith, after-102 SpaceTooLong p a)
           after-105 few TextTooLong p a = omega (arith, after-102 TextTooLong p a)
+          after-105 few NoRoom p a = omega (arith, after-102 NoRoom p a)
 
         judge-numbered : Judges before l (numbered (leadingValue (l .bytes)) (length before) (floorOf before))
         unfolding numbered

@@ -13,14 +13,14 @@ use Rattle.words.proofs.Choices.{by-test, both}
 use Rattle.loader.specs.Lines.{Line}
 use Rattle.loader.specs.Loading.{isPlain}
 use Rattle.loader.specs.declared.refusals.Refusal.{Refusal}
-use Rattle.loader.specs.declared.refusals.Refusal.the-variants.{NoVariable, SpaceTooLong, TextTooLong, LineTooLong, ForeignByte, BadNumber, NotRising, TooManyLines}
+use Rattle.loader.specs.declared.refusals.Refusal.the-variants.{NoVariable, SpaceTooLong, TextTooLong, LineTooLong, ForeignByte, BadNumber, NotRising, TooManyLines, NoRoom}
 use Rattle.promises.specs.Refusals.{Plain, AllPlain, beginsWithDigit, rowOf}
 
 -- ---- rows
 
 -- a row is known by its place in the table
 abbrev rowAt : ℕ → Refusal
-rowAt zero = NoVariable
+rowAt zero = NoRoom
 rowAt (suc zero) = NoVariable
 rowAt (suc (suc zero)) = SpaceTooLong
 rowAt (suc (suc (suc zero))) = TextTooLong
@@ -31,6 +31,7 @@ rowAt (suc (suc (suc (suc (suc (suc (suc zero))))))) = NotRising
 rowAt (suc (suc (suc (suc (suc (suc (suc (suc n)))))))) = TooManyLines
 
 row-back : (r : Refusal) → rowAt (rowOf r) ≡ r
+row-back NoRoom = refl
 row-back NoVariable = refl
 row-back SpaceTooLong = refl
 row-back TextTooLong = refl

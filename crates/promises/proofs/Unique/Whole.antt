@@ -48,3 +48,6 @@ print-text κs a p z z′ ws ws′ e e′ = (same e e′, refl)
 
 pub hex-text : Unique whole.hex_text.Kinds.ps whole.hex_text.Kinds.r whole.hex_text.Reads.Pre whole.hex_text.Reads.Post
 hex-text κs a p z z′ ws ws′ e e′ = (same e e′, refl)
+
+pub decimal-text : Unique whole.decimal_text.Kinds.ps whole.decimal_text.Kinds.r whole.decimal_text.Reads.Pre whole.decimal_text.Reads.Post
+decimal-text κs a p z z′ ws ws′ e e′ = (same e e′, refl)

@@ -1,0 +1,1 @@
+// What a call of a function is, over the contract that the toolchain makes of it: definitions alone.
