@@ -1,0 +1,126 @@
+// The lines that are printed, built in a buffer by value.
+ghost use mathlib.Core.Path.{_≡_};
+ghost use mathlib.Core.List.{List, [], _∷_, _++_};
+ghost use Prim.Native.Nat.{ℕ, _+_, _*_, _≤_};
+ghost use lib.ListN.{length};
+ghost use Rattle.whole.specs.Bytes.{bytes};
+ghost use Rattle.whole.specs.Texts.{held};
+ghost use Rattle.console.specs.Lines.{line};
+ghost use Rattle.sheet.specs.Totals.{codeLines, outcomeLines, stepLines, printedOf};
+ghost use Rattle.sheet.specs.Reports.{room, report};
+use crate::counting::Tally;
+use console::end_line;
+use console::put_bytes;
+use console::put_field;
+use means::mean_of;
+use space::Offset;
+use space::copy_in;
+use whole::Text;
+
+// Lines: their bytes stand first, zeros after them.
+pub struct Report {
+    pub bytes: [u8; Report::ROOM],
+    pub len: usize,
+}
+
+impl Report {
+    // Room for the totals of every tally: seven lines, and one for each of 256 error numbers.
+    pub const ROOM: usize = 12288;
+}
+
+fn empty_report() -> Report
+    ensures { λ r. ⌜ r ≡ report [] ⌝ }
+{
+    Report {
+        bytes: [0; Report::ROOM],
+        len: 0,
+    }
+}
+
+// A line more, where there is room for it.
+fn with_line(lines: Report, line: Text) -> Report
+    ensures { λ r. ⌜
+        ((l m : List ℕ) → lines ≡ report l → line ≡ held m → length m ≤ 255 → length l + length m ≤ room → r ≡ report (l ++ m))
+        ⌝ }
+{
+    let at = lines.len;
+    let text = line.bytes;
+    let count = line.len as usize;
+    if Report::ROOM - count < at {
+        return lines;
+    }
+    let mut bytes = lines.bytes;
+    copy_in(&mut bytes, Offset(at), &text[..count]);
+    Report {
+        bytes,
+        len: at + count,
+    }
+}
+
+fn count_line(word: &[u8], number: u64) -> Text
+    requires { ⌜ length (now word) ≤ 7 ⌝ }
+    ensures { λ r. ⌜ r ≡ held (line (now (word .entry)) (number ∷ [])) ⌝ }
+{
+    let begun = put_bytes(Text::empty(), word);
+    end_line(put_field(begun, number))
+}
+
+fn pair_line(word: &[u8], first: u64, second: u64) -> Text
+    requires { ⌜ length (now word) ≤ 7 ⌝ }
+    ensures { λ r. ⌜ r ≡ held (line (now (word .entry)) (first ∷ second ∷ [])) ⌝ }
+{
+    let begun = put_bytes(Text::empty(), word);
+    let half = put_field(begun, first);
+    end_line(put_field(half, second))
+}
+
+// Runs, and runs of each outcome.
+fn outcome_lines(tally: Tally) -> Report
+    ensures { λ r. ⌜ r ≡ report (outcomeLines tally) ⌝ }
+{
+    let runs = with_line(empty_report(), count_line(b"runs", tally.runs as u64));
+    let ended = with_line(runs, count_line(b"ended", tally.ended as u64));
+    let stopped = with_line(ended, count_line(b"stopped", tally.stopped as u64));
+    let out = with_line(stopped, count_line(b"out", tally.out as u64));
+    with_line(out, count_line(b"error", tally.error as u64))
+}
+
+// Runs of each error number met, in rising order.
+fn with_codes(lines: Report, codes: [u32; 256]) -> Report
+    ensures { λ r. ⌜ ((l : List ℕ) → lines ≡ report l → length l + 47 * 256 ≤ room → r ≡ report (l ++ codeLines 0 codes)) ⌝ }
+{
+    let mut longer = lines;
+    let mut code = 0;
+    while code < codes.len() {
+        let count = codes[code];
+        if count != 0 {
+            longer = with_line(longer, pair_line(b"code", code as u64, count as u64));
+        }
+        code += 1;
+    }
+    longer
+}
+
+// Total steps and mean steps.
+fn with_steps(lines: Report, tally: Tally) -> Report
+    ensures { λ r. ⌜ ((l : List ℕ) → lines ≡ report l → length l + 80 ≤ room → r ≡ report (l ++ stepLines tally)) ⌝ }
+{
+    let total = with_line(lines, count_line(b"steps", tally.steps));
+    let mean = mean_of(tally.steps, tally.runs as u64);
+    with_line(total, pair_line(b"mean", mean.total, mean.count))
+}
+
+// The totals.
+pub(crate) fn report_of(tally: Tally) -> Report
+    ensures { λ r. ⌜ r ≡ report (printedOf tally) ⌝ }
+{
+    let outcomes = outcome_lines(tally);
+    with_steps(with_codes(outcomes, tally.codes), tally)
+}
+
+// Only `refused`, tab and the record's number.
+pub(crate) fn refused_report(number: u32) -> Report
+    ensures { λ r. ⌜ r ≡ report (line (bytes "refused") (number ∷ [])) ⌝ }
+{
+    with_line(empty_report(), count_line(b"refused", number as u64))
+}
