@@ -10,8 +10,9 @@ use Rattle.words.specs.Spellings.{sameBytes, meaning}
 use Rattle.loader.specs.Lines.{linesFrom}
 use Rattle.console.specs.Arguments.{numberGiven}
 use Rattle.means.specs.Means.{commonUpTo, meanOf}
-use Rattle.sheet.specs.Records.{fieldsOf, figureOf, outcomeWords, recorded}
-use Rattle.sheet.specs.Totals.{howMany, allSteps, codesFrom, totalsOf, codeLines, outcomeLines, stepLines, printedOf}
+use Rattle.records.specs.Records.{fieldsOf, figureOf, outcomeWords, recorded}
+use Rattle.tallies.specs.Totals.{howMany, allSteps, codesFrom, totalsOf}
+use Rattle.sheet.specs.Printed.{codeLines, outcomeLines, stepLines, printedOf}
 use Rattle.sheet.specs.Sheet.{readFrom, sheetOf}
 
 pub record Example : Type 0 where

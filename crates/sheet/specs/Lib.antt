@@ -1,5 +1,4 @@
-pub mod Records
-pub mod Totals
+pub mod Printed
 pub mod Sheet
 pub mod Taking
 pub mod Reports

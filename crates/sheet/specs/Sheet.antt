@@ -6,19 +6,17 @@ use lib.Dec.{leb}
 use Rattle.whole.specs.Bytes.{bytes}
 use Rattle.loader.specs.Lines.{Line, linesOf}
 use Rattle.console.specs.Lines.{line}
-use Rattle.sheet.specs.Records.{recordOf}
-use Rattle.sheet.specs.Totals.{totalsOf, printedOf}
-use Rattle.sheet.specs.declared.records.Run.{Run}
-use Rattle.sheet.specs.declared.records.Recorded.{Recorded}
-use Rattle.sheet.specs.declared.records.Recorded.the-variants.{Is, Bad}
+use Rattle.records.specs.Records.{recordOf}
+use Rattle.tallies.specs.Totals.{mostRecords, totalsOf}
+use Rattle.sheet.specs.Printed.{printedOf}
+use Rattle.records.specs.declared.reading.Run.{Run}
+use Rattle.records.specs.declared.reading.Recorded.{Recorded}
+use Rattle.records.specs.declared.reading.Recorded.the-variants.{Is, Bad}
 
 -- the runs that all records tell, or the number of the first record that is refused, counted from 1
 pub data Reading : Type 0 where
   runs : List Run → Reading
   refused : ℕ → Reading
-
-abbrev pub mostRecords : ℕ
-mostRecords = 65535
 
 abbrev pub andRun : Run → Reading → Reading
 andRun run (runs rs) = runs (run ∷ rs)

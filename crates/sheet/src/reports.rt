@@ -6,15 +6,15 @@ ghost use lib.ListN.{length};
 ghost use Rattle.whole.specs.Bytes.{bytes};
 ghost use Rattle.whole.specs.Texts.{held};
 ghost use Rattle.console.specs.Lines.{line};
-ghost use Rattle.sheet.specs.Totals.{codeLines, outcomeLines, stepLines, printedOf};
+ghost use Rattle.sheet.specs.Printed.{codeLines, outcomeLines, stepLines, printedOf};
 ghost use Rattle.sheet.specs.Reports.{room, report};
-use crate::counting::Tally;
 use console::end_line;
 use console::put_bytes;
 use console::put_field;
 use means::mean_of;
 use space::Offset;
 use space::copy_in;
+use tallies::Tally;
 use whole::Text;
 
 // Lines: their bytes stand first, zeros after them.
@@ -114,8 +114,9 @@ fn with_steps(lines: Report, tally: Tally) -> Report
 pub(crate) fn report_of(tally: Tally) -> Report
     ensures { λ r. ⌜ r ≡ report (printedOf tally) ⌝ }
 {
+    let codes = tally.codes;
     let outcomes = outcome_lines(tally);
-    with_steps(with_codes(outcomes, tally.codes), tally)
+    with_steps(with_codes(outcomes, codes), tally)
 }
 
 // Only `refused`, tab and the record's number.

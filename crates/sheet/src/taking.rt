@@ -3,14 +3,14 @@ ghost use mathlib.Core.Path.{_≡_};
 ghost use Rattle.sheet.specs.Taking.{begun, contents, kept, endedLine, taken, lastCounted, finished};
 ghost use Rattle.sheet.specs.Reports.{report};
 ghost use lib.ListN.{length};
-use crate::counting::Count;
-use crate::counting::Standing;
-use crate::counting::Tally;
-use crate::counting::with_record;
-use crate::records::record_of;
 use crate::reports::Report;
 use crate::reports::refused_report;
 use crate::reports::report_of;
+use records::record_of;
+use tallies::Count;
+use tallies::Standing;
+use tallies::Tally;
+use tallies::with_record;
 use whole::Text;
 
 // What is held between two parts: the line that is not ended yet, as far as a text goes, and the count of those before it.

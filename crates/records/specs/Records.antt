@@ -9,16 +9,16 @@ use Rattle.words.specs.Spellings.{Spelt, _means_, meaning}
 use Rattle.console.specs.Arguments.{numberGiven}
 use Rattle.console.specs.declared.arguments.Given.{Given}
 use Rattle.console.specs.declared.arguments.Given.the-variants.{Number, TooLarge, NoNumber}
-use Rattle.sheet.specs.declared.records.Outcome.{Outcome}
-use Rattle.sheet.specs.declared.records.Outcome.the-variants as outcome
-use Rattle.sheet.specs.declared.records.OutcomeWord.{OutcomeWord}
-use Rattle.sheet.specs.declared.records.OutcomeWord.the-variants as word
-use Rattle.sheet.specs.declared.records.OutcomeFound.{OutcomeFound}
-use Rattle.sheet.specs.declared.records.OutcomeFound.the-variants as found
-use Rattle.sheet.specs.declared.records.Figure.{Figure}
-use Rattle.sheet.specs.declared.records.Figure.the-variants as figure
-use Rattle.sheet.specs.declared.records.Recorded.{Recorded}
-use Rattle.sheet.specs.declared.records.Recorded.the-variants.{Is, Bad}
+use Rattle.records.specs.declared.reading.Outcome.{Outcome}
+use Rattle.records.specs.declared.reading.Outcome.the-variants as outcome
+use Rattle.records.specs.declared.reading.OutcomeWord.{OutcomeWord}
+use Rattle.records.specs.declared.reading.OutcomeWord.the-variants as word
+use Rattle.records.specs.declared.reading.OutcomeFound.{OutcomeFound}
+use Rattle.records.specs.declared.reading.OutcomeFound.the-variants as found
+use Rattle.records.specs.declared.reading.Figure.{Figure}
+use Rattle.records.specs.declared.reading.Figure.the-variants as figure
+use Rattle.records.specs.declared.reading.Recorded.{Recorded}
+use Rattle.records.specs.declared.reading.Recorded.the-variants.{Is, Bad}
 
 -- ---- fields parted by tabs
 
@@ -66,11 +66,14 @@ wordOf field = meaning outcomeWords word.Unknown field
 abbrev pub without : Outcome → ℕ → OutcomeFound
 without o n = cond (eqb n 0) (found.Is o) found.None
 
+abbrev pub failedBy : ℕ → OutcomeFound
+failedBy n = cond (eqb n 0) found.None (found.Is (outcome.Error n))
+
 abbrev pub outcomeOf : OutcomeWord → ℕ → OutcomeFound
 outcomeOf word.Ended n = without outcome.Ended n
 outcomeOf word.Stopped n = without outcome.Stopped n
 outcomeOf word.Out n = without outcome.Out n
-outcomeOf word.Error n = cond (eqb n 0) found.None (found.Is (outcome.Error n))
+outcomeOf word.Error n = failedBy n
 outcomeOf word.Unknown n = found.None
 
 -- ---- records

@@ -1,9 +1,9 @@
 // The totals of the records so far, and the record that is refused.
 ghost use mathlib.Core.Path.{_≡_};
-ghost use Rattle.sheet.specs.Taking.{noRuns, oneMore, moreSteps, countedAs, withRun, withNext, withRecord};
-use crate::records::Outcome;
-use crate::records::Recorded;
-use crate::records::Run;
+ghost use Rattle.tallies.specs.Counting.{noRuns, oneMore, moreSteps, countedAs, withRun, withNext, withRecord};
+use records::Outcome;
+use records::Recorded;
+use records::Run;
 
 // How many runs there are, of each outcome and of each error number, and the steps of all.
 pub struct Tally {
@@ -131,7 +131,7 @@ fn with_next(tally: Tally, recorded: Recorded) -> Count
 }
 
 // Behind a record that is refused none counts.
-pub(crate) fn with_record(count: Count, recorded: Recorded) -> Count
+pub fn with_record(count: Count, recorded: Recorded) -> Count
     ensures { λ r. ⌜ r ≡ withRecord count recorded ⌝ }
 {
     let standing = count.standing;

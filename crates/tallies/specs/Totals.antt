@@ -1,19 +1,13 @@
--- Exact totals of some runs, and the lines that say them.
+-- Exact totals of some runs.
 use mathlib.Core.Bool.{Bool, true, false, cond}
-use mathlib.Core.List.{List, [], _∷_, _++_}
+use mathlib.Core.List.{List, [], _∷_}
 use Prim.Native.Nat.{ℕ, zero, suc, _+_}
 use lib.Dec.{eqb}
 use lib.ListN.{length}
-use Rattle.whole.specs.Bytes.{bytes}
-use Rattle.console.specs.Lines.{line}
-use Rattle.means.specs.Means.{meanOf}
-use Rattle.means.specs.declared.fractions.Mean.{Mean}
-use Rattle.sheet.specs.declared.records.Outcome.{Outcome}
-use Rattle.sheet.specs.declared.records.Outcome.the-variants.{Ended, Stopped, Out, Error}
-use Rattle.sheet.specs.declared.records.Run.{Run}
-use Rattle.sheet.specs.declared.counting.Tally.{Tally}
-
--- ---- counting
+use Rattle.records.specs.declared.reading.Outcome.{Outcome}
+use Rattle.records.specs.declared.reading.Outcome.the-variants.{Ended, Stopped, Out, Error}
+use Rattle.records.specs.declared.reading.Run.{Run}
+use Rattle.tallies.specs.declared.counting.Tally.{Tally}
 
 abbrev pub isEnded : Outcome → Bool
 isEnded Ended = true
@@ -74,30 +68,6 @@ totalsOf rs =
       steps = allSteps rs;
     }
 
--- ---- the lines
-
--- a line for an error number that was met
-abbrev pub codeLine : ℕ → ℕ → List ℕ
-codeLine c n = cond (eqb n 0) [] (line (bytes "code") (c ∷ n ∷ []))
-
--- in rising order, from c on
-unfoldable pub codeLines : ℕ → List ℕ → List ℕ
-codeLines c [] = []
-codeLines c (n ∷ ns) = codeLine c n ++ codeLines (c + 1) ns
-
--- runs, and runs of each outcome
-unfoldable pub outcomeLines : Tally → List ℕ
-outcomeLines t =
-    line (bytes "runs") (t .runs ∷ [])
-    ++ (line (bytes "ended") (t .ended ∷ [])
-    ++ (line (bytes "stopped") (t .stopped ∷ []) ++ (line (bytes "out") (t .out ∷ []) ++ line (bytes "error") (t .error ∷ []))))
-
-abbrev pub meanLine : Mean → List ℕ
-meanLine mean = line (bytes "mean") (mean .total ∷ mean .count ∷ [])
-
--- total steps, and the mean steps
-unfoldable pub stepLines : Tally → List ℕ
-stepLines t = line (bytes "steps") (t .steps ∷ []) ++ meanLine (meanOf (t .steps) (t .runs))
-
-unfoldable pub printedOf : Tally → List ℕ
-printedOf t = outcomeLines t ++ (codeLines 0 (t .codes) ++ stepLines t)
+-- at most 65,535 records
+abbrev pub mostRecords : ℕ
+mostRecords = 65535

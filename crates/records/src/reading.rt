@@ -4,7 +4,7 @@ ghost use Prim.Native.Nat.{_+_, _≤_};
 ghost use lib.ListN.{length, drop};
 ghost use Rattle.whole.specs.Bytes.{leading};
 ghost use Rattle.words.specs.Spellings.{sameBytes};
-ghost use Rattle.sheet.specs.Records.{isNoTab, leadsWithZero, figureOf, wordOf, outcomeOf, recorded, recordOf};
+ghost use Rattle.records.specs.Records.{isNoTab, leadsWithZero, figureOf, wordOf, without, failedBy, outcomeOf, recorded, recordOf};
 use console::Given;
 use console::number_given;
 use words::LineNumber;
@@ -61,6 +61,7 @@ const TAB: u8 = 9;
 fn field_end(line: &[u8], start: usize) -> usize
     requires { ⌜ start ≤ length (now line) ⌝ }
     ensures { λ r. ⌜ r ≡ start + length (leading isNoTab (drop start (now (line .entry)))) ⌝ }
+    ensures { λ r. ⌜ r ≤ length (now (line .entry)) ⌝ }
 {
     let mut at = start;
     while at < line.len() {
@@ -131,7 +132,9 @@ fn figure_of(field: &[u8], most: u32) -> Figure
 }
 
 // The number is 1 to 255 for error.
-fn failed(number: u8) -> OutcomeFound {
+fn failed(number: u8) -> OutcomeFound
+    ensures { λ r. ⌜ r ≡ failedBy number ⌝ }
+{
     if number == 0 {
         return OutcomeFound::None;
     }
@@ -139,7 +142,9 @@ fn failed(number: u8) -> OutcomeFound {
 }
 
 // The number is 0 otherwise.
-fn unfailed(outcome: Outcome, number: u8) -> OutcomeFound {
+fn unfailed(outcome: Outcome, number: u8) -> OutcomeFound
+    ensures { λ r. ⌜ r ≡ without outcome number ⌝ }
+{
     if number == 0 {
         return OutcomeFound::Is(outcome);
     }
@@ -159,7 +164,7 @@ fn outcome_of(word: OutcomeWord, number: u8) -> OutcomeFound
 }
 
 // The record that four fields make.
-fn recorded(word: &[u8], number: &[u8], line: &[u8], steps: &[u8]) -> Recorded
+fn record_from(word: &[u8], number: &[u8], line: &[u8], steps: &[u8]) -> Recorded
     ensures { λ r. ⌜ r ≡ recorded (now (word .entry)) (now (number .entry)) (now (line .entry)) (now (steps .entry)) ⌝ }
 {
     let Figure::Is(code) = figure_of(number, Run::LARGEST_CODE) else {
@@ -202,7 +207,7 @@ pub fn record_of(line: &[u8]) -> Recorded
     if field_end(line, steps) < line.len() {
         return Recorded::Bad;
     }
-    recorded(
+    record_from(
         &line[..word_end],
         &line[number..number_end],
         &line[place..place_end],
