@@ -3,7 +3,7 @@ use Rattle.sheet.proofs.taking.begin.Statement.{statement}
 use Rattle.sheet.proofs.taking.begin.Tie as tie
 use Rattle.sheet.proofs.taking.begin.Reads as reads
 use Rattle.sheet.proofs.taking.begin.Lts as lts
-use Rattle.sheet.proofs.counting.Tally.empty.Reads as counting-Tally-empty-reads
+use Rattle.tallies.proofs.counting.Tally.empty.Reads as counting-Tally-empty-reads
 use Rattle.whole.proofs.texts.Text.empty.Reads as texts-Text-empty-reads
 
 -- src/taking.rt:30:15
