@@ -6,7 +6,7 @@ ghost use lib.ListN.{length};
 ghost use Rattle.whole.specs.Bytes.{bytes};
 ghost use Rattle.whole.specs.Texts.{held};
 ghost use Rattle.console.specs.Lines.{line};
-ghost use Rattle.sheet.specs.Printed.{codeLines, outcomeLines, stepLines, printedOf};
+ghost use Rattle.sheet.specs.Printed.{codeLine, codeLines, outcomeLines, stepLines, printedOf};
 ghost use Rattle.sheet.specs.Reports.{room, report};
 use console::end_line;
 use console::put_bytes;
@@ -85,6 +85,16 @@ fn outcome_lines(tally: Tally) -> Report
     with_line(out, count_line(b"error", tally.error as u64))
 }
 
+// A line more for an error number that was met.
+fn with_code(lines: Report, code: u64, count: u32) -> Report
+    ensures { λ r. ⌜ ((l : List ℕ) → lines ≡ report l → length l + 47 ≤ room → r ≡ report (l ++ codeLine code count)) ⌝ }
+{
+    if count == 0 {
+        return lines;
+    }
+    with_line(lines, pair_line(b"code", code, count as u64))
+}
+
 // Runs of each error number met, in rising order.
 fn with_codes(lines: Report, codes: [u32; 256]) -> Report
     ensures { λ r. ⌜ ((l : List ℕ) → lines ≡ report l → length l + 47 * 256 ≤ room → r ≡ report (l ++ codeLines 0 codes)) ⌝ }
@@ -92,10 +102,7 @@ fn with_codes(lines: Report, codes: [u32; 256]) -> Report
     let mut longer = lines;
     let mut code = 0;
     while code < codes.len() {
-        let count = codes[code];
-        if count != 0 {
-            longer = with_line(longer, pair_line(b"code", code as u64, count as u64));
-        }
+        longer = with_code(longer, code as u64, codes[code]);
         code += 1;
     }
     longer

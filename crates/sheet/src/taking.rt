@@ -2,10 +2,13 @@
 ghost use mathlib.Core.Path.{_≡_};
 ghost use Rattle.sheet.specs.Taking.{begun, contents, kept, endedLine, taken, lastCounted, finished};
 ghost use Rattle.sheet.specs.Reports.{report};
-ghost use lib.ListN.{length};
+ghost use Prim.Native.Nat.{_≤_};
+ghost use lib.ListN.{length, take};
+ghost use Rattle.records.specs.Records.{recordOf};
 use crate::reports::Report;
 use crate::reports::refused_report;
 use crate::reports::report_of;
+use records::Recorded;
 use records::record_of;
 use tallies::Count;
 use tallies::Standing;
@@ -36,29 +39,37 @@ pub fn begin() -> Sheet
 }
 
 // How long a line is without a byte 13 at its end.
-fn kept_length(line: &[u8]) -> usize
-    ensures { λ r. ⌜ r ≡ length (kept (now (line .entry))) ⌝ }
+fn kept_length(line: Text) -> usize
+    ensures { λ r. ⌜ r ≡ length (kept (contents line)) ⌝ }
 {
-    let len = line.len();
+    let len = line.len as usize;
     if len == 0 {
         return 0;
     }
     let last = len - 1;
-    if line[last] == CARRIAGE_RETURN {
+    let bytes = line.bytes;
+    if bytes[last] == CARRIAGE_RETURN {
         last
     } else {
         len
     }
 }
 
+// The record that the first bytes of a line are.
+fn record_held(line: Text, len: usize) -> Recorded
+    requires { ⌜ len ≤ 255 ⌝ }
+    ensures { λ r. ⌜ r ≡ recordOf (take len (line .bytes)) ⌝ }
+{
+    let bytes = line.bytes;
+    record_of(&bytes[..len])
+}
+
 // A line that byte 10 ends is a record; one byte 13 just before it is dropped.
 fn ended_line(count: Count, line: Text) -> Count
     ensures { λ r. ⌜ r ≡ endedLine count line ⌝ }
 {
-    let bytes = line.bytes;
-    let len = line.len as usize;
-    let end = kept_length(&bytes[..len]);
-    with_record(count, record_of(&bytes[..end]))
+    let len = kept_length(line);
+    with_record(count, record_held(line, len))
 }
 
 // A part more of the sheet.
@@ -91,8 +102,7 @@ fn last_counted(sheet: Sheet) -> Count
     if len == 0 {
         return count;
     }
-    let bytes = line.bytes;
-    with_record(count, record_of(&bytes[..len]))
+    with_record(count, record_held(line, len))
 }
 
 // The end: the totals as lines, or the record that is refused.

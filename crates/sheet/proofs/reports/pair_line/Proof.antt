@@ -1,3 +1,7 @@
+use mathlib.Core.Path.{_≡_, refl, sym, ap, ap₂, _∙_}
+use mathlib.Core.List.{List, [], _∷_, _++_, append-assoc}
+use native.Mathlib.Omega.{arith}
+use Rattle.console.proofs.Writing.{line-put}
 use borrow.Author.Needs.{needs}
 use Rattle.sheet.proofs.reports.pair_line.Statement.{statement}
 use Rattle.sheet.proofs.reports.pair_line.Tie as tie
@@ -8,29 +12,23 @@ use Rattle.console.proofs.put_bytes.Reads as put-bytes-reads
 use Rattle.console.proofs.put_field.Reads as put-field-reads
 use Rattle.whole.proofs.texts.Text.empty.Reads as empty-reads
 
--- src/reports.rt:72:27
 empty-requires : tie.Need-empty-requires
 empty-requires c κs = search needs
 
--- src/reports.rt:72:9
 put-bytes-requires : tie.Need-put-bytes-requires
 put-bytes-requires c κs = search needs
 
--- src/reports.rt:73:9
 put-field-requires : tie.Need-put-field-requires
 put-field-requires c κs = search needs
 
--- src/reports.rt:74:14
 put-field-requires-2 : tie.Need-put-field-requires-2
 put-field-requires-2 c κs = search needs
 
--- src/reports.rt:74:5
 end-line-requires : tie.Need-end-line-requires
 end-line-requires c κs = search needs
 
--- src/reports.rt:68:1
 returns : tie.Need-returns
-returns c = ?
+returns c = rw (c .end-line .ensures, c .before .put-field2 .ensures, c .before .before .put-field .ensures, c .before .before .before .put-bytes .ensures, c .before .before .before .before .empty .ensures) (line-put (c .before .before .before .before .before .before .args .word .now) (c .before .before .before .before .before .before .args .first ∷ c .before .before .before .before .before .before .args .second ∷ []) (omega (arith, c .before .before .before .before .before .before .pre)))
 
 pub pair-line-spec : {M : Type 1} → statement M
 pair-line-spec =

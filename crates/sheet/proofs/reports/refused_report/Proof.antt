@@ -1,3 +1,8 @@
+use mathlib.Core.Path.{_≡_, refl, sym, ap, ap₂, _∙_}
+use mathlib.Core.List.{List, [], _∷_, _++_, append-assoc}
+use native.Mathlib.Omega.{arith}
+use Rattle.whole.specs.Bytes.{bytes}
+use Rattle.sheet.proofs.Reported.{count-length}
 use borrow.Author.Needs.{needs}
 use Rattle.sheet.proofs.reports.refused_report.Statement.{statement}
 use Rattle.sheet.proofs.reports.refused_report.Tie as tie
@@ -7,25 +12,21 @@ use Rattle.sheet.proofs.reports.count_line.Reads as count-line-reads
 use Rattle.sheet.proofs.reports.empty_report.Reads as empty-report-reads
 use Rattle.sheet.proofs.reports.with_line.Reads as with-line-reads
 
--- src/reports.rt:126:15
 empty-report-requires : tie.Need-empty-report-requires
 empty-report-requires c κs = search needs
 
--- src/reports.rt:126:42
 slice-aggregate-count-line : tie.Need-slice-aggregate-count-line
 slice-aggregate-count-line c = search needs
 
--- src/reports.rt:126:31
 count-line-requires : tie.Need-count-line-requires
 count-line-requires c κs = search needs
 
--- src/reports.rt:126:5
 with-line-requires : tie.Need-with-line-requires
 with-line-requires c κs = search needs
 
--- src/reports.rt:123:1
 returns : tie.Need-returns
-returns c = ?
+unfolding bytes
+returns c = let k = count-length (bytes "refused") (c .before .before .before .before .args .number) in c .with-line .ensures [] _ (c .before .before .before .empty-report .ensures) (c .before .count-line .ensures) (omega (arith, k)) (omega (arith, k))
 
 pub refused-report-spec : {M : Type 1} → statement M
 refused-report-spec =

@@ -1,59 +1,27 @@
+-- The loop keeps that the lines so far and those to come make up the whole.
+use mathlib.Core.Path.{_≡_}
+use mathlib.Core.List.{List}
+use Prim.Native.Nat.{ℕ, _+_, _-_, _*_, _≤_}
+use native.Mathlib.Omega.{arith}
+use borrow.Author.Needs.{needs}
+use lib.ListN.{length}
+use Rattle.sheet.specs.Reports.{room, report}
+use Rattle.sheet.proofs.Reported.{Lined, lined-first, lined-next, lined-last}
 use Rattle.sheet.proofs.reports.with_codes.Statement.{statement}
 use Rattle.sheet.proofs.reports.with_codes.Tie as tie
-use Rattle.sheet.proofs.reports.with_codes.Reads as reads
-use Rattle.sheet.proofs.reports.with_codes.Lts as lts
-use Rattle.sheet.proofs.reports.pair_line.Reads as pair-line-reads
-use Rattle.sheet.proofs.reports.with_line.Reads as with-line-reads
 
 abbrev Inv-loop : tie.InvT-loop
-Inv-loop codes longer₀ code₀ t7 longer code = ?
+Inv-loop codes longer₀ code₀ longer code =
+    (length codes ≡ 256) × ((l : List ℕ) → longer₀ ≡ report l → length l + 47 * 256 ≤ room → Lined l codes longer code)
 
 abbrev μ-loop : tie.MeasureT-loop
-μ-loop codes longer₀ code₀ t7 longer code = ?
+μ-loop codes longer₀ code₀ longer code = 256 - code
 
--- src/reports.rt:94:5
-loop-holds : tie.Need-loop-holds Inv-loop μ-loop
-loop-holds c = ?
-
--- src/reports.rt:95:21
-mul-count : tie.Need-mul-count Inv-loop μ-loop
-mul-count c = ?
-
--- src/reports.rt:95:21
-array-read-count : tie.Need-array-read-count Inv-loop μ-loop
-array-read-count c = ?
-
--- src/reports.rt:97:50
-slice-aggregate-pair-line : tie.Need-slice-aggregate-pair-line Inv-loop μ-loop
-slice-aggregate-pair-line c = ?
-
--- src/reports.rt:97:72
-cast-pair-line : tie.Need-cast-pair-line Inv-loop μ-loop
-cast-pair-line c = ?
-
--- src/reports.rt:97:40
-pair-line-requires : tie.Need-pair-line-requires Inv-loop μ-loop
-pair-line-requires c κs = ?
-
--- src/reports.rt:97:13
-with-line-requires : tie.Need-with-line-requires Inv-loop μ-loop
-with-line-requires c κs = ?
-
--- src/reports.rt:99:9
-add-code : tie.Need-add-code Inv-loop μ-loop
-add-code c = ?
-
--- src/reports.rt:94:5
-loop-less : tie.Need-loop-less Inv-loop μ-loop
-loop-less c = ?
-
--- src/reports.rt:94:5
 loop-again : tie.Need-loop-again Inv-loop μ-loop
-loop-again c = ?
-
--- src/reports.rt:89:1
-returns : tie.Need-returns Inv-loop μ-loop
-returns c = ?
+loop-again c =
+    let t = c .before .loop-test in
+    let v = c .before .before .loop .inv in
+    (v .0, λ l e h. lined-next l _ (t .taken) (omega (arith, v .0, t .taken)) (c .with-code .ensures) (v .1 l e h))
 
 pub with-codes-spec : {M : Type 1} → statement M
 with-codes-spec =
@@ -61,14 +29,11 @@ with-codes-spec =
     (tie.spec
     Inv-loop
     μ-loop
-    loop-holds
-    mul-count
-    array-read-count
-    slice-aggregate-pair-line
-    cast-pair-line
-    pair-line-requires
-    with-line-requires
-    add-code
-    loop-less
+    (λ c. (search needs, λ l e h. lined-first l _ e h))
+    (λ c. omega arith)
+    (λ c. omega arith)
+    (λ c κs. search needs)
+    (λ c. omega arith)
+    (λ c. omega arith)
     loop-again
-    returns)
+    (λ c. let v = c .before .loop .inv in λ l e h. lined-last l _ (omega (arith, v .0, c .loop-test .left)) (v .1 l e h)))

@@ -1,3 +1,12 @@
+use mathlib.Core.Path.{_≡_, refl, sym, ap, ap₂, _∙_}
+use mathlib.Core.List.{List, [], _∷_, _++_, append-assoc}
+use native.Mathlib.Omega.{arith}
+use Rattle.whole.specs.Bytes.{bytes}
+use Rattle.sheet.specs.Printed.{stepLines}
+use Rattle.sheet.specs.Reports.{report}
+use Rattle.sheet.proofs.Reported.{Filled, filled-more, count-length, pair-length}
+use native.Mathlib.Nat.{le-refl}
+use lib.ListN.{length}
 use borrow.Author.Needs.{needs}
 use Rattle.sheet.proofs.reports.with_steps.Statement.{statement}
 use Rattle.sheet.proofs.reports.with_steps.Tie as tie
@@ -8,41 +17,39 @@ use Rattle.sheet.proofs.reports.count_line.Reads as count-line-reads
 use Rattle.sheet.proofs.reports.pair_line.Reads as pair-line-reads
 use Rattle.sheet.proofs.reports.with_line.Reads as with-line-reads
 
--- src/reports.rt:108:45
 slice-aggregate-count-line : tie.Need-slice-aggregate-count-line
 slice-aggregate-count-line c = search needs
 
--- src/reports.rt:108:34
 count-line-requires : tie.Need-count-line-requires
 count-line-requires c κs = search needs
 
--- src/reports.rt:108:9
 with-line-requires : tie.Need-with-line-requires
 with-line-requires c κs = search needs
 
--- src/reports.rt:109:37
 cast-mean-of : tie.Need-cast-mean-of
 cast-mean-of c = search needs
 
--- src/reports.rt:109:9
 mean-of-requires : tie.Need-mean-of-requires
 mean-of-requires c κs = search needs
 
--- src/reports.rt:110:32
 slice-aggregate-pair-line : tie.Need-slice-aggregate-pair-line
 slice-aggregate-pair-line c = search needs
 
--- src/reports.rt:110:22
 pair-line-requires : tie.Need-pair-line-requires
 pair-line-requires c κs = search needs
 
--- src/reports.rt:110:5
 with-line-requires-2 : tie.Need-with-line-requires-2
 with-line-requires-2 c κs = search needs
 
--- src/reports.rt:105:1
 returns : tie.Need-returns
-returns c = ?
+unfolding bytes stepLines
+returns c =
+    λ l e h.
+    let t = c .before .before .before .before .before .before .before .before .args .tally in
+    let before : Filled (c .before .before .before .before .before .before .before .before .args .lines) l (length l) = record { is = e; most = le-refl (length l) } in
+    let steps = filled-more _ 27 (c .before .before .before .before .before .with-line .ensures) before (c .before .before .before .before .before .before .count-line .ensures) (count-length (bytes "steps") (t .steps)) (omega arith) (omega arith) in
+    let mean = filled-more _ 47 (c .with-line2 .ensures) steps (c .before .pair-line .ensures) (pair-length (bytes "mean") (c .before .before .before .mean-of .result .total) (c .before .before .before .mean-of .result .count)) (omega arith) (omega arith) in
+    mean .is ∙ ap report (append-assoc l _ _) ∙ rw (c .before .before .before .mean-of .ensures)
 
 pub with-steps-spec : {M : Type 1} → statement M
 with-steps-spec =

@@ -1,47 +1,33 @@
+use mathlib.Core.Path.{_≡_, refl, sym, ap, ap₂, _∙_}
+use mathlib.Core.List.{List, [], _∷_, _++_, append-assoc}
+use native.Mathlib.Omega.{arith}
+use Rattle.sheet.specs.Taking.{lastCounted}
+use borrow.Author.Tests.{ne-eqb}
 use borrow.Author.Needs.{needs}
 use Rattle.sheet.proofs.taking.last_counted.Statement.{statement}
 use Rattle.sheet.proofs.taking.last_counted.Tie as tie
 use Rattle.sheet.proofs.taking.last_counted.Reads as reads
 use Rattle.sheet.proofs.taking.last_counted.Lts as lts
-use Rattle.records.proofs.record_of.Reads as record-of-reads
+use Rattle.sheet.proofs.taking.record_held.Reads as record-held-reads
 use Rattle.tallies.proofs.with_record.Reads as with-record-reads
 
--- src/taking.rt:89:15
 cast-len : tie.Need-cast-len
 cast-len c = search needs
 
--- src/taking.rt:92:9
 returns : tie.Need-returns
-returns c = ?
+unfolding lastCounted
+returns c = rw (c .if1 .taken)
 
--- src/taking.rt:95:34
-array-share-prefix-bytes : tie.Need-array-share-prefix-bytes
-array-share-prefix-bytes c = ?
+record-held-requires : tie.Need-record-held-requires
+record-held-requires c κs = search needs
 
--- src/taking.rt:95:34
-slice-aggregate-record-of : tie.Need-slice-aggregate-record-of
-slice-aggregate-record-of c = ?
-
--- src/taking.rt:95:24
-record-of-requires : tie.Need-record-of-requires
-record-of-requires c κs = search needs
-
--- src/taking.rt:95:5
 with-record-requires : tie.Need-with-record-requires
 with-record-requires c κs = search needs
 
--- src/taking.rt:85:1
 returns-2 : tie.Need-returns-2
-returns-2 c = ?
+unfolding lastCounted
+returns-2 c = rw (ne-eqb _ 0 (c .before .before .if1 .left), c .with-record .ensures, c .before .record-held .ensures)
 
 pub last-counted-spec : {M : Type 1} → statement M
 last-counted-spec =
-    tie.close
-    (tie.spec
-    cast-len
-    returns
-    array-share-prefix-bytes
-    slice-aggregate-record-of
-    record-of-requires
-    with-record-requires
-    returns-2)
+    tie.close (tie.spec cast-len returns record-held-requires with-record-requires returns-2)

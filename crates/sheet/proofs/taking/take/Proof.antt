@@ -1,52 +1,35 @@
+-- The loop keeps what taking the bytes from the place reached on comes to.
+use mathlib.Core.Path.{_≡_, refl, sym, ap, ap₂, _∙_}
+use mathlib.Core.Logic.{⊎-elim}
+use Prim.Native.Nat.{_+_, _-_}
+use native.Mathlib.Omega.{arith}
+use borrow.Author.Needs.{needs}
+use lib.ListN.{length, drop}
+use Rattle.sheet.specs.Taking.{sheet, taken}
+use Rattle.sheet.proofs.Taken.{taken-end, taken-byte, taken-none}
 use Rattle.sheet.proofs.taking.take.Statement.{statement}
 use Rattle.sheet.proofs.taking.take.Tie as tie
-use Rattle.sheet.proofs.taking.take.Reads as reads
-use Rattle.sheet.proofs.taking.take.Lts as lts
-use Rattle.sheet.proofs.taking.ended_line.Reads as ended-line-reads
-use Rattle.whole.proofs.texts.Text.empty.Reads as empty-reads
-use Rattle.whole.proofs.texts.Text.put.Reads as put-reads
 
 abbrev Inv-loop : tie.InvT-loop
-Inv-loop part line₀ count₀ i₀ line count i = ?
+Inv-loop part line₀ count₀ i₀ line count i = taken (sheet line count) (drop i part) ≡ taken (sheet line₀ count₀) part
 
 abbrev μ-loop : tie.MeasureT-loop
-μ-loop part line₀ count₀ i₀ line count i = ?
+μ-loop part line₀ count₀ i₀ line count i = length part - i
 
--- src/taking.rt:71:5
-loop-holds : tie.Need-loop-holds Inv-loop μ-loop
-loop-holds c = ?
-
--- src/taking.rt:72:20
-shared-slice-read-byte : tie.Need-shared-slice-read-byte Inv-loop μ-loop
-shared-slice-read-byte c = ?
-
--- src/taking.rt:74:13
-ended-line-requires : tie.Need-ended-line-requires Inv-loop μ-loop
-ended-line-requires c κs = ?
-
--- src/taking.rt:75:13
-empty-requires : tie.Need-empty-requires Inv-loop μ-loop
-empty-requires c κs = ?
-
--- src/taking.rt:77:13
-put-requires : tie.Need-put-requires Inv-loop μ-loop
-put-requires c κs = ?
-
--- src/taking.rt:79:9
-add-i : tie.Need-add-i Inv-loop μ-loop
-add-i c = ?
-
--- src/taking.rt:71:5
-loop-less : tie.Need-loop-less Inv-loop μ-loop
-loop-less c = ?
-
--- src/taking.rt:71:5
 loop-again : tie.Need-loop-again Inv-loop μ-loop
-loop-again c = ?
+loop-again c =
+    let t = c .before .before .loop-test in
+    let v = c .before .before .before .loop in
+    let rest = drop (v .i + 1) (c .before .before .before .before .before .before .before .args .part .now) in
+    ⊎-elim
+    (λ w. ap₂ (λ l k. taken (sheet l k) rest) (w .3 ∙ w .2 .ensures) (w .4 ∙ w .1 .ensures)
+    ∙ taken-end _ _ _ _ (t .taken) (w .0 .taken) ∙ v .inv)
+    (λ w. ap₂ (λ l k. taken (sheet l k) rest) (w .2 ∙ w .1 .ensures) (w .3)
+    ∙ taken-byte _ _ _ _ (t .taken) (w .0 .left) ∙ v .inv)
+    (c .if1 .came)
 
--- src/taking.rt:65:1
 returns : tie.Need-returns Inv-loop μ-loop
-returns c = ?
+returns c = sym (taken-none _ _ _ (c .loop-test .left)) ∙ c .before .loop .inv
 
 pub take-spec : {M : Type 1} → statement M
 take-spec =
@@ -54,12 +37,12 @@ take-spec =
     (tie.spec
     Inv-loop
     μ-loop
-    loop-holds
-    shared-slice-read-byte
-    ended-line-requires
-    empty-requires
-    put-requires
-    add-i
-    loop-less
+    (λ c. refl)
+    (λ c. omega arith)
+    (λ c κs. search needs)
+    (λ c κs. search needs)
+    (λ c κs. search needs)
+    (λ c. omega arith)
+    (λ c. omega arith)
     loop-again
     returns)
