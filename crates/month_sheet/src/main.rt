@@ -13,33 +13,47 @@ use sheet::take;
 // The place of the argument; the program's own name is the first.
 const FILE: usize = 1;
 
-// More parts than any file has.
-const PARTS: usize = 18446744073709551615;
+// More parts than any file has, so that reading ends.
+const MOST_PARTS: usize = 18446744073709551615;
 
-// What came of reading a file to its end: its sheet, or nothing.
-enum SheetTaken {
-    Is(Sheet),
-    Nothing,
+// Whether a file was read to its end.
+enum Reading {
+    Whole,
+    Failed,
+}
+
+struct FileTaken {
+    sheet: Sheet,
+    reading: Reading,
 }
 
 // The sheet that an open file holds, read through a small buffer.
-fn take_from(fd: i32) -> SheetTaken {
-    let mut taken = begin();
+fn take_from(fd: i32) -> FileTaken {
+    let mut sheet = begin();
     let mut buffer = io::buffer();
-    let mut left = PARTS;
+    let mut left = MOST_PARTS;
     while left != 0 {
         let got = libc::read(fd, &mut buffer);
-        if got < 0 {
-            return SheetTaken::Nothing;
-        }
         if got == 0 {
-            return SheetTaken::Is(taken);
+            return FileTaken {
+                sheet,
+                reading: Reading::Whole,
+            };
+        }
+        if got < 0 {
+            return FileTaken {
+                sheet,
+                reading: Reading::Failed,
+            };
         }
         let count = io::count(got, &buffer);
-        taken = take(taken, &buffer[..count]);
+        sheet = take(sheet, &buffer[..count]);
         left -= 1;
     }
-    SheetTaken::Nothing
+    FileTaken {
+        sheet,
+        reading: Reading::Failed,
+    }
 }
 
 fn write_report(report: Report) {
@@ -56,9 +70,11 @@ fn total_path(path: &[u8]) {
         complain_of_reading(path);
         return;
     }
-    match take_from(fd) {
-        SheetTaken::Is(taken) => write_report(finish(taken)),
-        SheetTaken::Nothing => complain_of_reading(path),
+    let taken = take_from(fd);
+    let reading = taken.reading;
+    match reading {
+        Reading::Whole => write_report(finish(taken.sheet)),
+        Reading::Failed => complain_of_reading(path),
     }
     libc::close(fd);
 }

@@ -150,8 +150,15 @@ outcomes-most t =
     let stopped = line (bytes "stopped") (t .stopped ∷ []) in
     let out = line (bytes "out") (t .out ∷ []) in
     let error = line (bytes "error") (t .error ∷ []) in
-    omega
-    (arith, length-append runs (ended ++ (stopped ++ (out ++ error))), length-append ended (stopped ++ (out ++ error)),
-      length-append stopped (out ++ error), length-append out error, count-length (bytes "runs") (t .runs),
-      count-length (bytes "ended") (t .ended), count-length (bytes "stopped") (t .stopped), count-length (bytes "out") (t .out),
-      count-length (bytes "error") (t .error))
+    omega (
+      arith,
+      length-append runs (ended ++ (stopped ++ (out ++ error))),
+      length-append ended (stopped ++ (out ++ error)),
+      length-append stopped (out ++ error),
+      length-append out error,
+      count-length (bytes "runs") (t .runs),
+      count-length (bytes "ended") (t .ended),
+      count-length (bytes "stopped") (t .stopped),
+      count-length (bytes "out") (t .out),
+      count-length (bytes "error") (t .error),
+    )

@@ -1,50 +1,22 @@
-use mathlib.Core.Path.{_≡_, sym, ap, _∙_}
-use native.Mathlib.Omega.{arith}
+-- The words are compared in the order of their table.
+use borrow.Author.Needs.{needs}
 use Rattle.whole.specs.Bytes.{bytes}
 use Rattle.words.specs.Spellings.{meaning}
 use Rattle.records.specs.Records.{outcomeWords}
-use borrow.Author.Needs.{needs}
 use Rattle.records.proofs.reading.word_of.Statement.{statement}
 use Rattle.records.proofs.reading.word_of.Tie as tie
-use Rattle.records.proofs.reading.word_of.Reads as reads
-use Rattle.records.proofs.reading.word_of.Lts as lts
-use Rattle.records.proofs.reading.is_word.Reads as is-word-reads
-
-slice-aggregate-is-word : tie.Need-slice-aggregate-is-word
-slice-aggregate-is-word c = search needs
-
-is-word-requires : tie.Need-is-word-requires
-is-word-requires c κs = search needs
 
 returns : tie.Need-returns
 unfolding outcomeWords meaning bytes
 returns c = rw (← (c .before .is-word .ensures), c .if1 .taken)
 
-slice-aggregate-is-word-2 : tie.Need-slice-aggregate-is-word-2
-slice-aggregate-is-word-2 c = search needs
-
-is-word-requires-2 : tie.Need-is-word-requires-2
-is-word-requires-2 c κs = search needs
-
 returns-2 : tie.Need-returns-2
 unfolding outcomeWords meaning bytes
 returns-2 c = rw (← (c .before .before .before .before .is-word .ensures), c .before .before .before .if1 .left, ← (c .before .is-word2 .ensures), c .if2 .taken)
 
-slice-aggregate-is-word-3 : tie.Need-slice-aggregate-is-word-3
-slice-aggregate-is-word-3 c = search needs
-
-is-word-requires-3 : tie.Need-is-word-requires-3
-is-word-requires-3 c κs = search needs
-
 returns-3 : tie.Need-returns-3
 unfolding outcomeWords meaning bytes
 returns-3 c = rw (← (c .before .before .before .before .before .before .before .is-word .ensures), c .before .before .before .before .before .before .if1 .left, ← (c .before .before .before .before .is-word2 .ensures), c .before .before .before .if2 .left, ← (c .before .is-word3 .ensures), c .if3 .taken)
-
-slice-aggregate-is-word-4 : tie.Need-slice-aggregate-is-word-4
-slice-aggregate-is-word-4 c = search needs
-
-is-word-requires-4 : tie.Need-is-word-requires-4
-is-word-requires-4 c κs = search needs
 
 returns-4 : tie.Need-returns-4
 unfolding outcomeWords meaning bytes
@@ -58,16 +30,16 @@ pub word-of-spec : {M : Type 1} → statement M
 word-of-spec =
     tie.close
     (tie.spec
-    slice-aggregate-is-word
-    is-word-requires
+    (λ c. search needs)
+    (λ c κs. search needs)
     returns
-    slice-aggregate-is-word-2
-    is-word-requires-2
+    (λ c. search needs)
+    (λ c κs. search needs)
     returns-2
-    slice-aggregate-is-word-3
-    is-word-requires-3
+    (λ c. search needs)
+    (λ c κs. search needs)
     returns-3
-    slice-aggregate-is-word-4
-    is-word-requires-4
+    (λ c. search needs)
+    (λ c κs. search needs)
     returns-4
     returns-5)

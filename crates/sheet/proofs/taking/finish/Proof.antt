@@ -1,31 +1,11 @@
-use mathlib.Core.Path.{_≡_, refl, sym, ap, ap₂, _∙_}
-use native.Mathlib.Omega.{arith}
-use Rattle.sheet.specs.Taking.{finished, lines}
-use Rattle.sheet.specs.Reports.{report}
-use Rattle.tallies.specs.declared.counting.Count.{Count}
+-- The standing decides what is printed.
+use mathlib.Core.Path.{sym, ap, _∙_}
 use borrow.Author.Needs.{needs}
+use Rattle.tallies.specs.declared.counting.Count.{Count}
+use Rattle.sheet.specs.Reports.{report}
+use Rattle.sheet.specs.Taking.{finished, lines}
 use Rattle.sheet.proofs.taking.finish.Statement.{statement}
 use Rattle.sheet.proofs.taking.finish.Tie as tie
-use Rattle.sheet.proofs.taking.finish.Reads as reads
-use Rattle.sheet.proofs.taking.finish.Lts as lts
-use Rattle.sheet.proofs.reports.refused_report.Reads as refused-report-reads
-use Rattle.sheet.proofs.reports.report_of.Reads as report-of-reads
-use Rattle.sheet.proofs.taking.last_counted.Reads as last-counted-reads
-
-last-counted-requires : tie.Need-last-counted-requires
-last-counted-requires c κs = search needs
-
-enum-known-standing : tie.Need-enum-known-standing
-enum-known-standing c = search needs
-
-refused-report-requires : tie.Need-refused-report-requires
-refused-report-requires c κs = search needs
-
-enum-told : tie.Need-enum-told
-enum-told c = search needs
-
-report-of-requires : tie.Need-report-of-requires
-report-of-requires c κs = search needs
 
 returns : tie.Need-returns
 unfolding finished
@@ -39,10 +19,10 @@ pub finish-spec : {M : Type 1} → statement M
 finish-spec =
     tie.close
     (tie.spec
-    last-counted-requires
-    enum-known-standing
-    refused-report-requires
-    enum-told
-    report-of-requires
+    (λ c κs. search needs)
+    (λ c. search needs)
+    (λ c κs. search needs)
+    (λ c. search needs)
+    (λ c κs. search needs)
     returns
     returns-2)

@@ -1,14 +1,9 @@
-use mathlib.Core.Path.{_≡_, refl, sym, ap, _∙_}
-use borrow.Author.Tests.{le-leb, lt-leb, lt-ltb, le-ltb}
-use Rattle.tallies.specs.Counting.{oneMore}
+-- The test of the count decides.
 use borrow.Author.Needs.{needs}
+use borrow.Author.Tests.{lt-ltb, le-ltb}
+use Rattle.tallies.specs.Counting.{oneMore}
 use Rattle.tallies.proofs.counting.one_more.Statement.{statement}
 use Rattle.tallies.proofs.counting.one_more.Tie as tie
-use Rattle.tallies.proofs.counting.one_more.Reads as reads
-use Rattle.tallies.proofs.counting.one_more.Lts as lts
-
-add-result : tie.Need-add-result
-add-result c = search needs
 
 returns : tie.Need-returns
 unfolding oneMore
@@ -19,4 +14,4 @@ unfolding oneMore
 returns-2 c = rw (le-ltb _ _ (c .if1 .left))
 
 pub one-more-spec : {M : Type 1} → statement M
-one-more-spec = tie.close (tie.spec add-result returns returns-2)
+one-more-spec = tie.close (tie.spec (λ c. search needs) returns returns-2)
