@@ -5,7 +5,8 @@ use Rattle.sheet.specs.Taking.{taken, finished, allTaken}
 use Rattle.sheet.specs.Reports.{report}
 use Rattle.sheet.specs.declared.taking.Sheet.{Sheet}
 use Rattle.sheet.proofs.Cuttings.{cut-anywhere}
-use Rattle.sheet_promises.specs.Totals.{TakeCall, partOf, sheetAtEnd, Follow, callsTotal, TotalsAlways}
+use Rattle.sheet_promises.specs.Calls.{TakeCall, partOf, sheetAtEnd}
+use Rattle.sheet_promises.specs.Totals.{Follow, callsTotal, TotalsAlways}
 
 -- what calls answer, one after the other
 follow-taken : (cs : List TakeCall) (s e : Sheet) → Follow s cs e → e ≡ allTaken s (map partOf cs)

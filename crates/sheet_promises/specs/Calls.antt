@@ -7,6 +7,8 @@ use contract.Lifetimes.{Lfts}
 use denote.Triple.Clauses.{Lasts, atExit}
 use borrow.Fn.Kind.{PK, RK}
 use borrow.Fn.Kinds.{In, Out, Dens, resT, endedOf}
+use Rattle.sheet.specs.declared.taking.Sheet.{Sheet}
+use Rattle.sheet.proofs as sheet
 
 -- what is passed, what is answered, and what each `&mut` that was lent holds then
 pub record Call {n : ℕ} (parameters : List (PK n)) (result : RK n) (Post : Out n parameters result) : Type 0 where
@@ -31,3 +33,32 @@ Unique {n} parameters result Pre Post =
     → Post lifetimes passed answer (atExit (endedOf n parameters result) lifetimes passed left)
     → Post lifetimes passed answer′ (atExit (endedOf n parameters result) lifetimes passed left′)
     → (answer ≡ answer′) × (left ≡ left′)
+
+-- ---- `begin()`, `take(sheet, part)`, `finish(sheet)`
+
+abbrev pub BeginCall : Type 0
+BeginCall = Call sheet.begin.Kinds.ps sheet.begin.Kinds.r sheet.begin.Reads.Post
+
+abbrev pub TakeCall : Type 0
+TakeCall = Call sheet.take.Kinds.ps sheet.take.Kinds.r sheet.take.Reads.Post
+
+abbrev pub FinishCall : Type 0
+FinishCall = Call sheet.finish.Kinds.ps sheet.finish.Kinds.r sheet.finish.Reads.Post
+
+abbrev pub sheetPassed : TakeCall → Sheet
+sheetPassed c = c .passed .0
+
+abbrev pub partOf : TakeCall → List ℕ
+partOf c = c .passed .1 .0 .now
+
+abbrev pub sheetAtEnd : FinishCall → Sheet
+sheetAtEnd c = c .passed .0
+
+abbrev pub beginsAlways : Type 0
+beginsAlways = Always sheet.begin.Kinds.ps sheet.begin.Kinds.r sheet.begin.Reads.Post
+
+abbrev pub takesAlways : Type 0
+takesAlways = Always sheet.take.Kinds.ps sheet.take.Kinds.r sheet.take.Reads.Post
+
+abbrev pub finishesAlways : Type 0
+finishesAlways = Always sheet.finish.Kinds.ps sheet.finish.Kinds.r sheet.finish.Reads.Post
