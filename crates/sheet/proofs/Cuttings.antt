@@ -14,13 +14,13 @@ use Rattle.loader.specs.Lines.{endsLine}
 use Rattle.records.specs.Records.{recordOf}
 use Rattle.records.specs.declared.reading.Run.{Run}
 use Rattle.tallies.specs.Totals.{totalsOf}
-use Rattle.tallies.specs.Counting.{good, withRecord}
+use Rattle.tallies.specs.bridge.Counting.{good, withRecord}
 use Rattle.tallies.specs.declared.counting.Standing.the-variants.{Refused}
 use Rattle.tallies.specs.declared.counting.Count.{Count}
 use Rattle.tallies.proofs.Totals.{Few, few-none, totals-none}
 use Rattle.sheet.specs.Printed.{printedOf}
-use Rattle.sheet.specs.Sheet.{Reading, readFrom, refusedLine, told, sheetOf}
-use Rattle.sheet.specs.Taking.{contents, kept, endedLine, sheet, afterByte, begun, taken, lastCounted, lines, finished, joined, allTaken, cutAnywhere}
+use Rattle.sheet.specs.Sheet.{Reading, readFrom, refusedLine, told, sheetOf, joined}
+use Rattle.sheet.specs.bridge.Taking.{contents, kept, endedLine, sheet, afterByte, begun, taken, lastCounted, lines, finished, allTaken, cutAnywhere}
 use Rattle.sheet.specs.declared.taking.Sheet.{Sheet}
 use Rattle.sheet.proofs.Lines.{lineBytes, line-bytes, NoEnd, no-end-more, line-ended, line-last}
 use Rattle.sheet.proofs.Nexts.{after, after-none, Next, stops, goes, next, refused-stays, kept-held, last-held, byte-held}

@@ -10,7 +10,7 @@ use lib.Dec.{eqb}
 use lib.ListN.{length, getD, take}
 use lib.Seq.{length-take-le, take-take, getD-take}
 use Rattle.words.proofs.Choices.{by-test}
-use Rattle.sheet.specs.Taking.{kept}
+use Rattle.sheet.specs.bridge.Taking.{kept}
 
 last-place : (n : ℕ) → suc (suc n) - 1 ≡ suc (suc n - 1)
 last-place n = omega arith

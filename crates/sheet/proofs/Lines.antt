@@ -6,7 +6,7 @@ use Prim.Native.Nat.{ℕ, _+_}
 use lib.Dec.{eqb}
 use Rattle.words.proofs.Choices.{by-test}
 use Rattle.loader.specs.Lines.{Line, endsLine, dropped, inFront, startedAt, withByte, linesFrom}
-use Rattle.sheet.specs.Taking.{kept}
+use Rattle.sheet.specs.bridge.Taking.{kept}
 
 -- ---- without their places
 

@@ -18,12 +18,12 @@ use Rattle.records.specs.declared.reading.Recorded.the-variants.{Is, Bad}
 use Rattle.records.proofs.Sound.{Within, record-within}
 use Rattle.records.proofs.Long.{long-bad}
 use Rattle.tallies.specs.Totals.{mostRecords, totalsOf}
-use Rattle.tallies.specs.Counting.{good, withNext, withRecord}
+use Rattle.tallies.specs.bridge.Counting.{good, withNext, withRecord}
 use Rattle.tallies.specs.declared.counting.Standing.the-variants.{Refused}
 use Rattle.tallies.specs.declared.counting.Count.{Count}
 use Rattle.tallies.proofs.Totals.{Few, few-more, totals-more}
 use Rattle.sheet.specs.Sheet.{Reading, runs, refused, andRun, readFrom}
-use Rattle.sheet.specs.Taking.{contents, kept}
+use Rattle.sheet.specs.bridge.Taking.{contents, kept}
 
 -- ---- what was read before
 

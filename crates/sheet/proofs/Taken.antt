@@ -8,7 +8,7 @@ use Rattle.whole.specs.Texts.{held, withByte}
 use Rattle.whole.specs.declared.texts.Text.{Text}
 use Rattle.whole.proofs.Reading.{drop-next}
 use Rattle.tallies.specs.declared.counting.Count.{Count}
-use Rattle.sheet.specs.Taking.{endedLine, sheet, afterByte, taken}
+use Rattle.sheet.specs.bridge.Taking.{endedLine, sheet, afterByte, taken}
 use Rattle.sheet.specs.declared.taking.Sheet.{Sheet}
 
 module _ (part : List ℕ) (i : ℕ) (line : Text) (count : Count) where

@@ -1,5 +1,5 @@
 pub mod Printed
 pub mod Sheet
-pub mod Taking
 pub mod Reports
 pub mod Examples
+pub mod bridge

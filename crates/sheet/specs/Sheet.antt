@@ -1,6 +1,6 @@
 -- The month's sheet: records, one a line, read in their order, and what is printed.
 use mathlib.Core.Bool.{cond}
-use mathlib.Core.List.{List, [], _∷_, map}
+use mathlib.Core.List.{List, [], _∷_, _++_, map}
 use Prim.Native.Nat.{ℕ, _+_}
 use lib.Dec.{leb}
 use Rattle.whole.specs.Bytes.{bytes}
@@ -45,3 +45,8 @@ recordsIn sheet = map (λ (l : Line). l .bytes) (linesOf sheet)
 
 unfoldable pub sheetOf : List ℕ → List ℕ
 sheetOf sheet = told (readFrom 0 (recordsIn sheet))
+
+-- the whole of a sheet that comes in parts
+unfoldable pub joined : List (List ℕ) → List ℕ
+joined [] = []
+joined (part ∷ parts) = part ++ joined parts

@@ -1,6 +1,6 @@
 // A sheet that comes in parts: begun, taken part by part, and finished.
 ghost use mathlib.Core.Path.{_≡_};
-ghost use Rattle.sheet.specs.Taking.{begun, contents, kept, endedLine, taken, lastCounted, finished};
+ghost use Rattle.sheet.specs.bridge.Taking.{begun, contents, kept, endedLine, taken, lastCounted, finished};
 ghost use Rattle.sheet.specs.Reports.{report};
 ghost use Prim.Native.Nat.{_≤_};
 ghost use lib.ListN.{length, take};

@@ -1,7 +1,7 @@
 -- What the contracts of the three calls say, one after the other, is what `sheet` proves of its definitions.
 use mathlib.Core.Path.{_≡_, refl, sym, ap, _∙_}
 use mathlib.Core.List.{List, [], _∷_, map}
-use Rattle.sheet.specs.Taking.{taken, finished, allTaken}
+use Rattle.sheet.specs.bridge.Taking.{taken, finished, allTaken}
 use Rattle.sheet.specs.Reports.{report}
 use Rattle.sheet.specs.declared.taking.Sheet.{Sheet}
 use Rattle.sheet.proofs.Cuttings.{cut-anywhere}

@@ -1,8 +1,7 @@
 -- The month's sheet as statements about every call of the code.
 use mathlib.Core.Path.{_≡_}
 use mathlib.Core.List.{List, [], _∷_, map}
-use Rattle.sheet.specs.Sheet.{sheetOf}
-use Rattle.sheet.specs.Taking.{joined}
+use Rattle.sheet.specs.Sheet.{sheetOf, joined}
 use Rattle.sheet.specs.Reports.{report}
 use Rattle.sheet.specs.declared.taking.Sheet.{Sheet}
 use Rattle.sheet_promises.specs.Calls.{BeginCall, TakeCall, FinishCall, sheetPassed, partOf, sheetAtEnd, beginsAlways, takesAlways, finishesAlways}

@@ -15,7 +15,7 @@ use Rattle.records.specs.declared.reading.Outcome.the-variants.{Ended, Stopped,
 use Rattle.records.specs.declared.reading.Run.{Run}
 use Rattle.records.proofs.Sound.{CodeWithin}
 use Rattle.tallies.specs.Totals.{isEnded, isStopped, isOut, isError, isCode, ones, howMany, allSteps, codesFrom, totalsOf, mostRecords}
-use Rattle.tallies.specs.Counting.{noRuns, oneMore, moreSteps, tally, countedAs, withRun}
+use Rattle.tallies.specs.bridge.Counting.{noRuns, oneMore, moreSteps, tally, countedAs, withRun}
 
 -- ---- how many
 

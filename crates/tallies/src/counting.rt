@@ -1,6 +1,6 @@
 // The totals of the records so far, and the record that is refused.
 ghost use mathlib.Core.Path.{_≡_};
-ghost use Rattle.tallies.specs.Counting.{noRuns, oneMore, moreSteps, countedAs, withRun, withNext, withRecord};
+ghost use Rattle.tallies.specs.bridge.Counting.{noRuns, oneMore, moreSteps, countedAs, withRun, withNext, withRecord};
 use records::Outcome;
 use records::Recorded;
 use records::Run;

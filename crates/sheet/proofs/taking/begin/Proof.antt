@@ -1,6 +1,6 @@
 -- An empty text and no runs.
 use borrow.Author.Needs.{needs}
-use Rattle.sheet.specs.Taking.{begun}
+use Rattle.sheet.specs.bridge.Taking.{begun}
 use Rattle.sheet.proofs.taking.begin.Statement.{statement}
 use Rattle.sheet.proofs.taking.begin.Tie as tie
 

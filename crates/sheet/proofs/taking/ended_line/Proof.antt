@@ -4,7 +4,7 @@ use Prim.Native.Nat.{_≤_}
 use native.Mathlib.Omega.{arith}
 use borrow.Author.Needs.{needs}
 use lib.ListN.{length}
-use Rattle.sheet.specs.Taking.{endedLine}
+use Rattle.sheet.specs.bridge.Taking.{endedLine}
 use Rattle.sheet.proofs.Kept.{front-inside, front-kept}
 use Rattle.sheet.proofs.taking.ended_line.Statement.{statement}
 use Rattle.sheet.proofs.taking.ended_line.Tie as tie

@@ -3,7 +3,7 @@ use mathlib.Core.Path.{sym, ap, _∙_}
 use borrow.Author.Needs.{needs}
 use Rattle.tallies.specs.declared.counting.Count.{Count}
 use Rattle.sheet.specs.Reports.{report}
-use Rattle.sheet.specs.Taking.{finished, lines}
+use Rattle.sheet.specs.bridge.Taking.{finished, lines}
 use Rattle.sheet.proofs.taking.finish.Statement.{statement}
 use Rattle.sheet.proofs.taking.finish.Tie as tie
 

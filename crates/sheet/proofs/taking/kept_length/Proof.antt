@@ -4,7 +4,7 @@ use Prim.Native.Nat.{_≤_}
 use native.Mathlib.Omega.{arith}
 use borrow.Author.Needs.{needs}
 use lib.ListN.{length}
-use Rattle.sheet.specs.Taking.{kept}
+use Rattle.sheet.specs.bridge.Taking.{kept}
 use Rattle.sheet.proofs.Kept.{front-return, front-other}
 use Rattle.sheet.proofs.taking.kept_length.Statement.{statement}
 use Rattle.sheet.proofs.taking.kept_length.Tie as tie

@@ -1,7 +1,7 @@
 -- A text of no bytes is no line.
 use borrow.Author.Needs.{needs}
 use borrow.Author.Tests.{ne-eqb}
-use Rattle.sheet.specs.Taking.{lastCounted}
+use Rattle.sheet.specs.bridge.Taking.{lastCounted}
 use Rattle.sheet.proofs.taking.last_counted.Statement.{statement}
 use Rattle.sheet.proofs.taking.last_counted.Tie as tie
 

@@ -5,7 +5,7 @@ use Prim.Native.Nat.{_+_, _-_}
 use native.Mathlib.Omega.{arith}
 use borrow.Author.Needs.{needs}
 use lib.ListN.{length, drop}
-use Rattle.sheet.specs.Taking.{sheet, taken}
+use Rattle.sheet.specs.bridge.Taking.{sheet, taken}
 use Rattle.sheet.proofs.Taken.{taken-end, taken-byte, taken-none}
 use Rattle.sheet.proofs.taking.take.Statement.{statement}
 use Rattle.sheet.proofs.taking.take.Tie as tie

@@ -1,6 +1,6 @@
 -- Each outcome has its count.
 use borrow.Author.Needs.{needs}
-use Rattle.tallies.specs.Counting.{countedAs}
+use Rattle.tallies.specs.bridge.Counting.{countedAs}
 use Rattle.tallies.proofs.counting.counted_as.Statement.{statement}
 use Rattle.tallies.proofs.counting.counted_as.Tie as tie
 

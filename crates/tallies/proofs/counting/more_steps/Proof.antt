@@ -1,7 +1,7 @@
 -- The test of the total decides.
 use borrow.Author.Needs.{needs}
 use borrow.Author.Tests.{le-leb, lt-leb}
-use Rattle.tallies.specs.Counting.{moreSteps}
+use Rattle.tallies.specs.bridge.Counting.{moreSteps}
 use Rattle.tallies.proofs.counting.more_steps.Statement.{statement}
 use Rattle.tallies.proofs.counting.more_steps.Tie as tie
 

@@ -1,7 +1,7 @@
 -- The test of the count decides.
 use borrow.Author.Needs.{needs}
 use borrow.Author.Tests.{lt-ltb, le-ltb}
-use Rattle.tallies.specs.Counting.{oneMore}
+use Rattle.tallies.specs.bridge.Counting.{oneMore}
 use Rattle.tallies.proofs.counting.one_more.Statement.{statement}
 use Rattle.tallies.proofs.counting.one_more.Tie as tie
 

@@ -1,7 +1,7 @@
 -- One too many is refused before the record is looked at.
 use borrow.Author.Needs.{needs}
 use borrow.Author.Tests.{le-leb, lt-leb}
-use Rattle.tallies.specs.Counting.{withNext}
+use Rattle.tallies.specs.bridge.Counting.{withNext}
 use Rattle.tallies.proofs.counting.with_next.Statement.{statement}
 use Rattle.tallies.proofs.counting.with_next.Tie as tie
 

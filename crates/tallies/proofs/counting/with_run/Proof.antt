@@ -1,6 +1,6 @@
 -- The outcome's count, and the two that every run moves.
 use borrow.Author.Needs.{needs}
-use Rattle.tallies.specs.Counting.{withRun}
+use Rattle.tallies.specs.bridge.Counting.{withRun}
 use Rattle.tallies.proofs.counting.with_run.Statement.{statement}
 use Rattle.tallies.proofs.counting.with_run.Tie as tie
 

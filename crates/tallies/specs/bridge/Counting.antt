@@ -1,4 +1,4 @@
--- Records counted one after the other, from any tally: as long as no count is over what a sheet can hold, the totals are those of all runs.
+-- Bridge: records counted one after the other, from any tally. Of a sheet's own records the tally is `totalsOf` (tallies/proofs/Totals).
 use mathlib.Core.Bool.{cond}
 use mathlib.Core.List.{List}
 use Prim.Native.Nat.{ℕ, _+_}

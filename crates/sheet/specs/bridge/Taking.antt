@@ -1,7 +1,7 @@
--- A sheet taken in parts: what is held between two parts, and that it does not matter where the sheet is cut.
+-- Bridge: what is held of a sheet between two parts. `cutAnywhere` joins it with the definition of a sheet.
 use mathlib.Core.Path.{_≡_}
 use mathlib.Core.Bool.{cond}
-use mathlib.Core.List.{List, [], _∷_, _++_}
+use mathlib.Core.List.{List, [], _∷_}
 use Prim.Native.Nat.{ℕ}
 use Prim.Native.Char.{code}
 use lib.Dec.{eqb}
@@ -10,13 +10,13 @@ use Rattle.whole.specs.Texts.{held, withByte}
 use Rattle.whole.specs.declared.texts.Text.{Text}
 use Rattle.loader.specs.Lines.{endsLine}
 use Rattle.records.specs.Records.{recordOf}
-use Rattle.tallies.specs.Counting.{noRuns, good, withRecord}
+use Rattle.tallies.specs.bridge.Counting.{noRuns, good, withRecord}
 use Rattle.tallies.specs.declared.counting.Tally.{Tally}
 use Rattle.tallies.specs.declared.counting.Standing.{Standing}
 use Rattle.tallies.specs.declared.counting.Standing.the-variants.{Good, Refused}
 use Rattle.tallies.specs.declared.counting.Count.{Count}
 use Rattle.sheet.specs.Printed.{printedOf}
-use Rattle.sheet.specs.Sheet.{refusedLine, sheetOf}
+use Rattle.sheet.specs.Sheet.{refusedLine, sheetOf, joined}
 use Rattle.sheet.specs.declared.taking.Sheet.{Sheet}
 
 -- ---- a byte more
@@ -60,10 +60,6 @@ unfoldable pub finished : Sheet → List ℕ
 finished s = lines (lastCounted s .standing) (lastCounted s .tally)
 
 -- ---- however the sheet is cut
-
-unfoldable pub joined : List (List ℕ) → List ℕ
-joined [] = []
-joined (part ∷ parts) = part ++ joined parts
 
 unfoldable pub allTaken : Sheet → List (List ℕ) → Sheet
 allTaken s [] = s
