@@ -88,12 +88,15 @@ pub record Filled (r : Report) (l : List ℕ) (n : ℕ) : Type 0 where
   pub is : r ≡ report l
   pub most : length l ≤ n
 
--- a line more of at most k bytes, as `with_line` puts it
-pub filled-more : {r lines : Report} {text : Text} {l : List ℕ} {n : ℕ} (m : List ℕ) (k : ℕ)
-    → ((l m : List ℕ) → lines ≡ report l → text ≡ held m → length m ≤ 255 → length l + length m ≤ room → r ≡ report (l ++ m))
-    → Filled lines l n → text ≡ held m → length m ≤ k → k ≤ 255 → n + k ≤ room → Filled r (l ++ m) (n + k)
-filled-more {l = l} m k put f e h s w =
-    record { is = put l m (f .is) e (omega arith) (omega (arith, f .most)); most = omega (arith, f .most, length-append l m) }
+-- a line more of a word and a number, as `with_count` puts it
+pub counted : {r lines : Report} {l : List ℕ} {n : ℕ} (word : List ℕ) (number : ℕ)
+    → ((l : List ℕ) → lines ≡ report l → length l + 29 ≤ room → r ≡ report (l ++ line word (number ∷ [])))
+    → Filled lines l n → length word ≤ 7 → n + 29 ≤ room → Filled r (l ++ line word (number ∷ [])) (n + 29)
+counted {l = l} word number put f h w =
+    record {
+      is = put l (f .is) (omega (arith, f .most));
+      most = omega (arith, f .most, length-append l (line word (number ∷ [])), count-length word number);
+    }
 
 -- lines put one after the other
 pub in-order : (a b c d e : List ℕ) → (((([] ++ a) ++ b) ++ c) ++ d) ++ e ≡ a ++ (b ++ (c ++ (d ++ e)))
@@ -142,7 +145,7 @@ unfolding codeLines
 codes-most c [] = zero-le
 codes-most c (n ∷ ns) = omega (arith, length-append (codeLine c n) (codeLines (c + 1) ns), code-length c n, codes-most (c + 1) ns)
 
-pub outcomes-most : (t : Tally) → length (outcomeLines t) ≤ 134
+pub outcomes-most : (t : Tally) → length (outcomeLines t) ≤ 145
 unfolding outcomeLines bytes
 outcomes-most t =
     let runs = line (bytes "runs") (t .runs ∷ []) in

@@ -57,32 +57,40 @@ fn with_line(lines: Report, line: Text) -> Report
     }
 }
 
-fn count_line(word: &[u8], number: u64) -> Text
+// A line more of a word and a number.
+fn with_count(lines: Report, word: &[u8], number: u64) -> Report
     requires { ⌜ length (now word) ≤ 7 ⌝ }
-    ensures { λ r. ⌜ r ≡ held (line (now (word .entry)) (number ∷ [])) ⌝ }
+    ensures { λ r. ⌜
+        ((l : List ℕ) → lines ≡ report l → length l + 29 ≤ room → r ≡ report (l ++ line (now (word .entry)) (number ∷ [])))
+        ⌝ }
 {
     let begun = put_bytes(Text::empty(), word);
-    end_line(put_field(begun, number))
+    let counted = put_field(begun, number);
+    with_line(lines, end_line(counted))
 }
 
-fn pair_line(word: &[u8], first: u64, second: u64) -> Text
-    requires { ⌜ length (now word) ≤ 7 ⌝ }
-    ensures { λ r. ⌜ r ≡ held (line (now (word .entry)) (first ∷ second ∷ [])) ⌝ }
+// A line more of a word and two numbers.
+fn with_pair(lines: Report, word: &[u8], first: u64, second: u64) -> Report
+    requires { ⌜ length (now word) ≤ 4 ⌝ }
+    ensures { λ r. ⌜
+        ((l : List ℕ) → lines ≡ report l → length l + 47 ≤ room → r ≡ report (l ++ line (now (word .entry)) (first ∷ second ∷ [])))
+        ⌝ }
 {
     let begun = put_bytes(Text::empty(), word);
     let half = put_field(begun, first);
-    end_line(put_field(half, second))
+    let paired = put_field(half, second);
+    with_line(lines, end_line(paired))
 }
 
 // Runs, and runs of each outcome.
 fn outcome_lines(tally: Tally) -> Report
     ensures { λ r. ⌜ r ≡ report (outcomeLines tally) ⌝ }
 {
-    let runs = with_line(empty_report(), count_line(b"runs", tally.runs as u64));
-    let ended = with_line(runs, count_line(b"ended", tally.ended as u64));
-    let stopped = with_line(ended, count_line(b"stopped", tally.stopped as u64));
-    let out = with_line(stopped, count_line(b"out", tally.out as u64));
-    with_line(out, count_line(b"error", tally.error as u64))
+    let runs = with_count(empty_report(), b"runs", tally.runs as u64);
+    let ended = with_count(runs, b"ended", tally.ended as u64);
+    let stopped = with_count(ended, b"stopped", tally.stopped as u64);
+    let out = with_count(stopped, b"out", tally.out as u64);
+    with_count(out, b"error", tally.error as u64)
 }
 
 // A line more for an error number that was met.
@@ -92,7 +100,7 @@ fn with_code(lines: Report, code: u64, count: u32) -> Report
     if count == 0 {
         return lines;
     }
-    with_line(lines, pair_line(b"code", code, count as u64))
+    with_pair(lines, b"code", code, count as u64)
 }
 
 // Runs of each error number met, in rising order.
@@ -112,9 +120,9 @@ fn with_codes(lines: Report, codes: [u32; 256]) -> Report
 fn with_steps(lines: Report, tally: Tally) -> Report
     ensures { λ r. ⌜ ((l : List ℕ) → lines ≡ report l → length l + 80 ≤ room → r ≡ report (l ++ stepLines tally)) ⌝ }
 {
-    let total = with_line(lines, count_line(b"steps", tally.steps));
+    let total = with_count(lines, b"steps", tally.steps);
     let mean = mean_of(tally.steps, tally.runs as u64);
-    with_line(total, pair_line(b"mean", mean.total, mean.count))
+    with_pair(total, b"mean", mean.total, mean.count)
 }
 
 // The totals.
@@ -130,5 +138,5 @@ pub(crate) fn report_of(tally: Tally) -> Report
 pub(crate) fn refused_report(number: u32) -> Report
     ensures { λ r. ⌜ r ≡ report (line (bytes "refused") (number ∷ [])) ⌝ }
 {
-    with_line(empty_report(), count_line(b"refused", number as u64))
+    with_count(empty_report(), b"refused", number as u64)
 }

@@ -12,19 +12,45 @@ returns c = rw (← (c .before .is-word .ensures), c .if1 .taken)
 
 returns-2 : tie.Need-returns-2
 unfolding outcomeWords meaning bytes
-returns-2 c = rw (← (c .before .before .before .before .is-word .ensures), c .before .before .before .if1 .left, ← (c .before .is-word2 .ensures), c .if2 .taken)
+returns-2 c =
+    let at-is-word2 = c .before in
+    let at-if1 = at-is-word2 .before .before in
+    let at-is-word = at-if1 .before in
+    rw (← (at-is-word .is-word .ensures), at-if1 .if1 .left, ← (at-is-word2 .is-word2 .ensures), c .if2 .taken)
 
 returns-3 : tie.Need-returns-3
 unfolding outcomeWords meaning bytes
-returns-3 c = rw (← (c .before .before .before .before .before .before .before .is-word .ensures), c .before .before .before .before .before .before .if1 .left, ← (c .before .before .before .before .is-word2 .ensures), c .before .before .before .if2 .left, ← (c .before .is-word3 .ensures), c .if3 .taken)
+returns-3 c =
+    let at-is-word3 = c .before in
+    let at-if2 = at-is-word3 .before .before in
+    let at-is-word2 = at-if2 .before in
+    let at-if1 = at-is-word2 .before .before in
+    let at-is-word = at-if1 .before in
+    rw (← (at-is-word .is-word .ensures), at-if1 .if1 .left, ← (at-is-word2 .is-word2 .ensures), at-if2 .if2 .left, ← (at-is-word3 .is-word3 .ensures), c .if3 .taken)
 
 returns-4 : tie.Need-returns-4
 unfolding outcomeWords meaning bytes
-returns-4 c = rw (← (c .before .before .before .before .before .before .before .before .before .before .is-word .ensures), c .before .before .before .before .before .before .before .before .before .if1 .left, ← (c .before .before .before .before .before .before .before .is-word2 .ensures), c .before .before .before .before .before .before .if2 .left, ← (c .before .before .before .before .is-word3 .ensures), c .before .before .before .if3 .left, ← (c .before .is-word4 .ensures), c .if4 .taken)
+returns-4 c =
+    let at-is-word4 = c .before in
+    let at-if3 = at-is-word4 .before .before in
+    let at-is-word3 = at-if3 .before in
+    let at-if2 = at-is-word3 .before .before in
+    let at-is-word2 = at-if2 .before in
+    let at-if1 = at-is-word2 .before .before in
+    let at-is-word = at-if1 .before in
+    rw (← (at-is-word .is-word .ensures), at-if1 .if1 .left, ← (at-is-word2 .is-word2 .ensures), at-if2 .if2 .left, ← (at-is-word3 .is-word3 .ensures), at-if3 .if3 .left, ← (at-is-word4 .is-word4 .ensures), c .if4 .taken)
 
 returns-5 : tie.Need-returns-5
 unfolding outcomeWords meaning bytes
-returns-5 c = rw (← (c .before .before .before .before .before .before .before .before .before .before .is-word .ensures), c .before .before .before .before .before .before .before .before .before .if1 .left, ← (c .before .before .before .before .before .before .before .is-word2 .ensures), c .before .before .before .before .before .before .if2 .left, ← (c .before .before .before .before .is-word3 .ensures), c .before .before .before .if3 .left, ← (c .before .is-word4 .ensures), c .if4 .left)
+returns-5 c =
+    let at-is-word4 = c .before in
+    let at-if3 = at-is-word4 .before .before in
+    let at-is-word3 = at-if3 .before in
+    let at-if2 = at-is-word3 .before .before in
+    let at-is-word2 = at-if2 .before in
+    let at-if1 = at-is-word2 .before .before in
+    let at-is-word = at-if1 .before in
+    rw (← (at-is-word .is-word .ensures), at-if1 .if1 .left, ← (at-is-word2 .is-word2 .ensures), at-if2 .if2 .left, ← (at-is-word3 .is-word3 .ensures), at-if3 .if3 .left, ← (at-is-word4 .is-word4 .ensures), c .if4 .left)
 
 pub word-of-spec : {M : Type 1} → statement M
 word-of-spec =

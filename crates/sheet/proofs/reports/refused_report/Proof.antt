@@ -3,20 +3,12 @@ use mathlib.Core.List.{[]}
 use native.Mathlib.Omega.{arith}
 use borrow.Author.Needs.{needs}
 use Rattle.whole.specs.Bytes.{bytes}
-use Rattle.sheet.proofs.Reported.{count-length}
 use Rattle.sheet.proofs.reports.refused_report.Statement.{statement}
 use Rattle.sheet.proofs.reports.refused_report.Tie as tie
 
 returns : tie.Need-returns
 unfolding bytes
-returns c = let k = count-length (bytes "refused") (c .before .before .before .before .args .number) in c .with-line .ensures [] _ (c .before .before .before .empty-report .ensures) (c .before .count-line .ensures) (omega (arith, k)) (omega (arith, k))
+returns c = c .with-count .ensures [] (c .before .before .empty-report .ensures) (omega arith)
 
 pub refused-report-spec : {M : Type 1} → statement M
-refused-report-spec =
-    tie.close
-    (tie.spec
-    (λ c κs. search needs)
-    (λ c. search needs)
-    (λ c κs. search needs)
-    (λ c κs. search needs)
-    returns)
+refused-report-spec = tie.close (tie.spec (λ c κs. search needs) (λ c. search needs) (λ c κs. search needs) returns)

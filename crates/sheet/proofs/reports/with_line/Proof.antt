@@ -10,10 +10,18 @@ use Rattle.sheet.proofs.reports.with_line.Statement.{statement}
 use Rattle.sheet.proofs.reports.with_line.Tie as tie
 
 array-share-prefix-text : tie.Need-array-share-prefix-text
-array-share-prefix-text c = let long : length (c .before .before .before .before .before .args .line .bytes) ≡ 255 = search needs in let short : c .before .before .before .before .before .args .line .len ≤ 255 = search needs in omega (arith, long, short)
+array-share-prefix-text c =
+    let start = c .before .before .before .before .before in
+    let long : length (start .args .line .bytes) ≡ 255 = search needs in
+    let short : start .args .line .len ≤ 255 = search needs in
+    omega (arith, long, short)
 
 slice-aggregate-copy-in-2 : tie.Need-slice-aggregate-copy-in-2
-slice-aggregate-copy-in-2 c = let long : length (c .before .before .before .before .before .before .args .line .bytes) ≡ 255 = search needs in let short : c .before .before .before .before .before .before .args .line .len ≤ 255 = search needs in sym (length-take-le _ _ (omega (arith, long, short)))
+slice-aggregate-copy-in-2 c =
+    let start = c .before .before .before .before .before .before in
+    let long : length (start .args .line .bytes) ≡ 255 = search needs in
+    let short : start .args .line .len ≤ 255 = search needs in
+    sym (length-take-le _ _ (omega (arith, long, short)))
 
 pub with-line-spec : {M : Type 1} → statement M
 with-line-spec =

@@ -8,7 +8,10 @@ use Rattle.sheet.proofs.taking.record_held.Statement.{statement}
 use Rattle.sheet.proofs.taking.record_held.Tie as tie
 
 slice-aggregate-record-of : tie.Need-slice-aggregate-record-of
-slice-aggregate-record-of c = let long : length (c .before .before .args .line .bytes) ≡ 255 = search needs in sym (length-take-le _ _ (omega (arith, long, c .before .before .pre)))
+slice-aggregate-record-of c =
+    let start = c .before .before in
+    let long : length (start .args .line .bytes) ≡ 255 = search needs in
+    sym (length-take-le _ _ (omega (arith, long, start .pre)))
 
 pub record-held-spec : {M : Type 1} → statement M
 record-held-spec =
