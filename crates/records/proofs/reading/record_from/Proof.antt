@@ -27,7 +27,12 @@ returns-3 c =
     let at-figure-of2 = at-enum-told2 .before .before in
     let at-code = at-figure-of2 .before .before in
     let at-figure-of = at-code .before .before in
-    rw (sym (at-figure-of .figure-of .ensures) ∙ at-code .code .given .1, sym (at-figure-of2 .figure-of2 .ensures) ∙ at-enum-told2 .enum-told2 .given .1, sym (at-figure-of3 .figure-of3 .ensures) ∙ c .enum-told4 .given .1)
+    rw (
+      sym (at-figure-of .figure-of .ensures) ∙ at-code .code .given .1,
+      sym (at-figure-of2 .figure-of2 .ensures) ∙ at-enum-told2 .enum-told2
+          .given .1,
+      sym (at-figure-of3 .figure-of3 .ensures) ∙ c .enum-told4 .given .1,
+    )
 
 cast-outcome-of : tie.Need-cast-outcome-of
 cast-outcome-of c =
@@ -46,7 +51,15 @@ returns-4 c =
     let at-figure-of2 = at-enum-told2 .before .before in
     let at-code = at-figure-of2 .before .before in
     let at-figure-of = at-code .before .before in
-    rw (sym (at-figure-of .figure-of .ensures) ∙ at-code .code .given .1, sym (at-figure-of2 .figure-of2 .ensures) ∙ at-enum-told2 .enum-told2 .given .1, sym (at-figure-of3 .figure-of3 .ensures) ∙ at-count .count .given .1, ← (at-word-of .word-of .ensures), sym (at-outcome-of .outcome-of .ensures) ∙ c .enum-told5 .given .1)
+    rw (
+      sym (at-figure-of .figure-of .ensures) ∙ at-code .code .given .1,
+      sym (at-figure-of2 .figure-of2 .ensures) ∙ at-enum-told2 .enum-told2
+          .given .1,
+      sym (at-figure-of3 .figure-of3 .ensures) ∙ at-count .count .given .1,
+      ← (at-word-of .word-of .ensures),
+      sym
+          (at-outcome-of .outcome-of .ensures) ∙ c .enum-told5 .given .1,
+    )
 
 returns-5 : tie.Need-returns-5
 unfolding recorded
@@ -60,7 +73,15 @@ returns-5 c =
     let at-figure-of2 = at-enum-told2 .before .before in
     let at-code = at-figure-of2 .before .before in
     let at-figure-of = at-code .before .before in
-    rw (sym (at-figure-of .figure-of .ensures) ∙ at-code .code .given .1, sym (at-figure-of2 .figure-of2 .ensures) ∙ at-enum-told2 .enum-told2 .given .1, sym (at-figure-of3 .figure-of3 .ensures) ∙ at-count .count .given .1, ← (at-word-of .word-of .ensures), sym (at-outcome-of .outcome-of .ensures) ∙ at-outcome .outcome .given .1)
+    rw (
+      sym (at-figure-of .figure-of .ensures) ∙ at-code .code .given .1,
+      sym (at-figure-of2 .figure-of2 .ensures) ∙ at-enum-told2 .enum-told2
+          .given .1,
+      sym (at-figure-of3 .figure-of3 .ensures) ∙ at-count .count .given .1,
+      ← (at-word-of .word-of .ensures),
+      sym
+          (at-outcome-of .outcome-of .ensures) ∙ at-outcome .outcome .given .1,
+    )
 
 pub record-from-spec : {M : Type 1} → statement M
 record-from-spec =

@@ -13,7 +13,8 @@ returns-2 c =
     let at-field-end2 = c .before in
     let at-if1 = at-field-end2 .before in
     let at-field-end = at-if1 .before in
-    sym (two-fields _ _ (at-field-end .field-end .ensures .0) (omega (arith, at-if1 .if1 .left)) _ (at-field-end2 .field-end2 .ensures .0) (omega (arith, c .if2 .taken)))
+    sym (two-fields _ _ (at-field-end .field-end .ensures .0) (omega (arith, at-if1 .if1 .left)) _ (at-field-end2 .field-end2 .ensures .0)
+    (omega (arith, c .if2 .taken)))
 
 returns-3 : tie.Need-returns-3
 returns-3 c =
@@ -22,7 +23,8 @@ returns-3 c =
     let at-field-end2 = at-if2 .before in
     let at-if1 = at-field-end2 .before in
     let at-field-end = at-if1 .before in
-    sym (three-fields _ _ (at-field-end .field-end .ensures .0) (omega (arith, at-if1 .if1 .left)) _ (at-field-end2 .field-end2 .ensures .0) (omega (arith, at-if2 .if2 .left)) _ (at-field-end3 .field-end3 .ensures .0) (omega (arith, c .if3 .taken)))
+    sym (three-fields _ _ (at-field-end .field-end .ensures .0) (omega (arith, at-if1 .if1 .left)) _ (at-field-end2 .field-end2 .ensures .0)
+    (omega (arith, at-if2 .if2 .left)) _ (at-field-end3 .field-end3 .ensures .0) (omega (arith, c .if3 .taken)))
 
 returns-4 : tie.Need-returns-4
 returns-4 c =
@@ -33,7 +35,9 @@ returns-4 c =
     let at-field-end2 = at-if2 .before in
     let at-if1 = at-field-end2 .before in
     let at-field-end = at-if1 .before in
-    sym (more-fields _ _ (at-field-end .field-end .ensures .0) (omega (arith, at-if1 .if1 .left)) _ (at-field-end2 .field-end2 .ensures .0) (omega (arith, at-if2 .if2 .left)) _ (at-field-end3 .field-end3 .ensures .0) (omega (arith, at-if3 .if3 .left)) _ (at-field-end4 .field-end4 .ensures .0) (c .if4 .taken))
+    sym (more-fields _ _ (at-field-end .field-end .ensures .0) (omega (arith, at-if1 .if1 .left)) _ (at-field-end2 .field-end2 .ensures .0)
+    (omega (arith, at-if2 .if2 .left)) _ (at-field-end3 .field-end3 .ensures .0) (omega (arith, at-if3 .if3 .left)) _
+    (at-field-end4 .field-end4 .ensures .0) (c .if4 .taken))
 
 slice-aggregate-record-from : tie.Need-slice-aggregate-record-from
 slice-aggregate-record-from c =
@@ -50,7 +54,11 @@ returns-5 c =
     let at-field-end2 = at-if2 .before in
     let at-if1 = at-field-end2 .before in
     let at-field-end = at-if1 .before in
-    rw (c .record-from .ensures, part-from) (sym (four-fields _ _ (at-field-end .field-end .ensures .0) (omega (arith, at-if1 .if1 .left)) _ (at-field-end2 .field-end2 .ensures .0) (omega (arith, at-if2 .if2 .left)) _ (at-field-end3 .field-end3 .ensures .0) (omega (arith, at-if3 .if3 .left)) _ (at-field-end4 .field-end4 .ensures .0) (at-if4 .if4 .left)))
+    rw (c .record-from .ensures, part-from)
+    (sym
+    (four-fields _ _ (at-field-end .field-end .ensures .0) (omega (arith, at-if1 .if1 .left)) _ (at-field-end2 .field-end2 .ensures .0)
+    (omega (arith, at-if2 .if2 .left)) _ (at-field-end3 .field-end3 .ensures .0) (omega (arith, at-if3 .if3 .left)) _
+    (at-field-end4 .field-end4 .ensures .0) (at-if4 .if4 .left)))
 
 pub record-of-spec : {M : Type 1} → statement M
 record-of-spec =

@@ -26,7 +26,14 @@ returns-3 c =
     let at-is-word2 = at-if2 .before in
     let at-if1 = at-is-word2 .before .before in
     let at-is-word = at-if1 .before in
-    rw (← (at-is-word .is-word .ensures), at-if1 .if1 .left, ← (at-is-word2 .is-word2 .ensures), at-if2 .if2 .left, ← (at-is-word3 .is-word3 .ensures), c .if3 .taken)
+    rw (
+      ← (at-is-word .is-word .ensures),
+      at-if1 .if1 .left,
+      ← (at-is-word2 .is-word2 .ensures),
+      at-if2 .if2 .left,
+      ← (at-is-word3 .is-word3 .ensures),
+      c .if3 .taken,
+    )
 
 returns-4 : tie.Need-returns-4
 unfolding outcomeWords meaning bytes
@@ -38,7 +45,16 @@ returns-4 c =
     let at-is-word2 = at-if2 .before in
     let at-if1 = at-is-word2 .before .before in
     let at-is-word = at-if1 .before in
-    rw (← (at-is-word .is-word .ensures), at-if1 .if1 .left, ← (at-is-word2 .is-word2 .ensures), at-if2 .if2 .left, ← (at-is-word3 .is-word3 .ensures), at-if3 .if3 .left, ← (at-is-word4 .is-word4 .ensures), c .if4 .taken)
+    rw (
+      ← (at-is-word .is-word .ensures),
+      at-if1 .if1 .left,
+      ← (at-is-word2 .is-word2 .ensures),
+      at-if2 .if2 .left,
+      ← (at-is-word3 .is-word3 .ensures),
+      at-if3 .if3 .left,
+      ← (at-is-word4 .is-word4 .ensures),
+      c .if4 .taken,
+    )
 
 returns-5 : tie.Need-returns-5
 unfolding outcomeWords meaning bytes
@@ -50,7 +66,16 @@ returns-5 c =
     let at-is-word2 = at-if2 .before in
     let at-if1 = at-is-word2 .before .before in
     let at-is-word = at-if1 .before in
-    rw (← (at-is-word .is-word .ensures), at-if1 .if1 .left, ← (at-is-word2 .is-word2 .ensures), at-if2 .if2 .left, ← (at-is-word3 .is-word3 .ensures), at-if3 .if3 .left, ← (at-is-word4 .is-word4 .ensures), c .if4 .left)
+    rw (
+      ← (at-is-word .is-word .ensures),
+      at-if1 .if1 .left,
+      ← (at-is-word2 .is-word2 .ensures),
+      at-if2 .if2 .left,
+      ← (at-is-word3 .is-word3 .ensures),
+      at-if3 .if3 .left,
+      ← (at-is-word4 .is-word4 .ensures),
+      c .if4 .left,
+    )
 
 pub word-of-spec : {M : Type 1} → statement M
 word-of-spec =
