@@ -1,8 +1,8 @@
 -- The greatest number that divides two others: it does, none that does is greater, and Euclid's turns keep what divides both.
-use mathlib.Core.Path.{_≡_, refl, sym, ap, _∙_}
+use mathlib.Core.Path.{_≡_, sym, _∙_}
 use mathlib.Core.Logic.{⊎-elim}
 use mathlib.Core.Bool.{true, false, false≢true, _&&_}
-use Prim.Native.Nat.{ℕ, zero, suc, _+_, _%_, _≤_, _<_, _∣_}
+use Prim.Native.Nat.{ℕ, zero, suc, _%_, _≤_, _<_, _∣_}
 use native.Mathlib.Nat.{one-dvd, dvd-refl, dvd-zero, dvd-mod-iff, le-of-dvd, le-antisymm, mod-eq-zero-of-dvd, dvd-of-mod-eq-zero}
 use native.Mathlib.Omega.{arith}
 use borrow.Author.Tests.{eq-eqb, eqb-true}

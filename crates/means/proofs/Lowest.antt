@@ -4,7 +4,7 @@ use Prim.Native.Nat.{ℕ, zero, suc, _*_, _/_, _≤_, _<_, _∣_}
 use native.Mathlib.Nat.{div-mul-cancel, mul-comm, mul-assoc, mul-dvd-mul, dvd-refl, le-of-dvd, le-of-mul-le-mul-right, zero-mul, one-mul, pos-of-dvd-of-pos}
 use native.Mathlib.Omega.{arith}
 use borrow.Author.Tests.{ne-eqb}
-use Rattle.means.specs.Means.{greatestCommon, over, meanOf, Lowest, meansAreLowest}
+use Rattle.means.specs.Means.{greatestCommon, over, meanOf, meansAreLowest}
 use Rattle.means.proofs.Common.{common-divides, common-some, common-most}
 
 left-some : (d g : ℕ) → 0 < d * g → 0 < d

@@ -1,18 +1,15 @@
 -- The fields of a line, joined with how the code walks them: a field goes to the next tab, or to the line's end.
-use mathlib.Core.Path.{_≡_, refl, sym, ap, _∙_}
-use mathlib.Core.Bool.{Bool, true, false, not, cond}
+use mathlib.Core.Path.{_≡_, refl, ap, _∙_}
 use mathlib.Core.List.{List, [], _∷_}
-use Prim.Native.Nat.{ℕ, zero, suc, _+_, _-_, _≤_, _<_}
+use Prim.Native.Nat.{ℕ, suc, _+_, _-_, _≤_, _<_}
 use native.Mathlib.Omega.{arith}
-use native.Mathlib.Numerals.{add-one}
-use borrow.Author.Tests.{eq-eqb, ne-eqb}
+use borrow.Author.Tests.{ne-eqb}
 use lib.ListN.{length, getD, take, drop, length-drop, drop-of-length-le}
-use lib.Seq.{drop-drop, take-length}
+use lib.Seq.{drop-drop}
 use Rattle.whole.specs.Bytes.{leading}
 use Rattle.whole.proofs.Reading.{drop-next, leading-inside}
 use Rattle.words.proofs.Choices.{by-test}
 use Rattle.records.specs.Records.{isNoTab, inFirst, fieldsOf, recorded, ofFields, recordOf}
-use Rattle.records.specs.declared.reading.Recorded.{Recorded}
 use Rattle.records.specs.declared.reading.Recorded.the-variants.{Bad}
 
 -- ---- byte by byte

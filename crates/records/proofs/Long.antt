@@ -1,7 +1,6 @@
 -- No record has more than 40 bytes: a sheet need not hold more of a line than that.
-use mathlib.Core.Path.{_≡_, refl, ap, _∙_}
+use mathlib.Core.Path.{_≡_, refl, ap}
 use mathlib.Core.Logic.{⊎-elim}
-use mathlib.Core.Bool.{true, false}
 use mathlib.Core.List.{List, [], _∷_}
 use Prim.Native.Nat.{ℕ, suc, _+_, _≤_}
 use native.Mathlib.Omega.{arith}
@@ -9,7 +8,7 @@ use lib.ListN.{length}
 use Rattle.whole.proofs.Numbers.{less}
 use Rattle.words.specs.Places.{largestLineNumber}
 use Rattle.words.proofs.Choices.{by-test}
-use Rattle.records.specs.Records.{isNoTab, inFirst, fieldsOf, largestCode, largestSteps, figureOf, wordOf, outcomeOf, byFigure, byOutcome, recorded, ofFields, recordOf}
+use Rattle.records.specs.Records.{isNoTab, inFirst, fieldsOf, largestCode, largestSteps, figureOf, outcomeOf, byFigure, byOutcome, recorded, ofFields, recordOf}
 use Rattle.records.specs.declared.reading.Figure.{Figure}
 use Rattle.records.specs.declared.reading.Figure.the-variants as figure
 use Rattle.records.specs.declared.reading.Recorded.{Recorded}

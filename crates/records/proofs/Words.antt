@@ -9,11 +9,11 @@ use lib.Dec.{eqb}
 use lib.ListN.{length, getD, drop, drop-of-length-le}
 use Rattle.whole.specs.Bytes.{bytes}
 use Rattle.whole.proofs.Reading.{drop-next}
-use Rattle.words.specs.Spellings.{sameBytes, meaning}
+use Rattle.words.specs.Spellings.{Spelt, sameBytes, meaning}
 use Rattle.records.specs.Records.{outcomeWords, wordOf}
 use Rattle.records.specs.declared.reading.OutcomeWord.the-variants.{Unknown}
 
-and-false : (t : Bool) → t && false ≡ false
+pub and-false : (t : Bool) → t && false ≡ false
 and-false true = refl
 and-false false = refl
 
@@ -40,6 +40,16 @@ module _ (s t : List ℕ) (i : ℕ) where
   pub bytes-passed : length s ≤ i → length t ≤ i → sameBytes (drop i s) (drop i t) ≡ true
   unfolding sameBytes
   bytes-passed h k = rw (drop-of-length-le s h, drop-of-length-le t k)
+
+-- a table's first entry, met or passed over
+module _ {A : Type 0} (e : Spelt A) (es : List (Spelt A)) (other : A) (w : List ℕ) where
+  pub met : sameBytes w (e .spelling) ≡ true → meaning (e ∷ es) other w ≡ e .thing
+  unfolding meaning
+  met t = rw t
+
+  pub passed-over : sameBytes w (e .spelling) ≡ false → meaning (e ∷ es) other w ≡ meaning es other w
+  unfolding meaning
+  passed-over t = rw t
 
 -- no outcome word has more than seven letters
 pub long-word : (s : List ℕ) → 8 ≤ length s → wordOf s ≡ Unknown

@@ -1,8 +1,8 @@
 -- However a sheet is cut, what comes out is the sheet of all its bytes.
-use mathlib.Core.Path.{_≡_, refl, sym, ap, ap₂, _∙_}
+use mathlib.Core.Path.{_≡_, refl, sym, ap, _∙_}
 use mathlib.Core.Bool.{true, false}
 use mathlib.Core.List.{List, [], _∷_, _++_, append-assoc, append-nil}
-use Prim.Native.Nat.{ℕ, suc, _+_, _≤_}
+use Prim.Native.Nat.{ℕ, _+_}
 use native.Mathlib.Omega.{arith}
 use borrow.Author.Tests.{eqb-true, ne-eqb}
 use lib.Dec.{eqb}
@@ -19,7 +19,7 @@ use Rattle.tallies.specs.declared.counting.Standing.the-variants.{Refused}
 use Rattle.tallies.specs.declared.counting.Count.{Count}
 use Rattle.tallies.proofs.Totals.{Few, few-none, totals-none}
 use Rattle.sheet.specs.Printed.{printedOf}
-use Rattle.sheet.specs.Sheet.{Reading, readFrom, refusedLine, told, sheetOf, joined}
+use Rattle.sheet.specs.Sheet.{readFrom, refusedLine, told, sheetOf, joined}
 use Rattle.sheet.specs.bridge.Taking.{contents, kept, endedLine, sheet, afterByte, begun, taken, lastCounted, lines, finished, allTaken, cutAnywhere}
 use Rattle.sheet.specs.declared.taking.Sheet.{Sheet}
 use Rattle.sheet.proofs.Lines.{lineBytes, line-bytes, NoEnd, no-end-more, line-ended, line-last}

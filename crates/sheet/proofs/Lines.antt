@@ -1,10 +1,12 @@
 -- The lines of a sheet by their bytes alone, and how they begin where the front of one is held already.
-use mathlib.Core.Path.{_≡_, refl, sym, ap, _∙_}
-use mathlib.Core.Bool.{Bool, true, false, cond, _&&_}
+use mathlib.Core.Path.{_≡_, refl, ap, _∙_}
+use mathlib.Core.Bool.{Bool, true, false, cond}
 use mathlib.Core.List.{List, [], _∷_, _++_, map}
 use Prim.Native.Nat.{ℕ, _+_}
 use lib.Dec.{eqb}
 use Rattle.words.proofs.Choices.{by-test}
+use Rattle.records.specs.Records.{inFirst}
+use Rattle.records.proofs.Words.{and-false}
 use Rattle.loader.specs.Lines.{Line, endsLine, dropped, inFront, startedAt, withByte, linesFrom}
 use Rattle.sheet.specs.bridge.Taking.{kept}
 
@@ -12,10 +14,6 @@ use Rattle.sheet.specs.bridge.Taking.{kept}
 
 abbrev bytesIn : List Line → List (List ℕ)
 bytesIn ls = map (λ (l : Line). l .bytes) ls
-
-abbrev inFirst : ℕ → List (List ℕ) → List (List ℕ)
-inFirst b [] = (b ∷ []) ∷ []
-inFirst b (l ∷ ls) = (b ∷ l) ∷ ls
 
 -- a byte, whether it is a byte 13 to drop, and the lines that follow
 abbrev front : ℕ → Bool → List (List ℕ) → List (List ℕ)
@@ -54,10 +52,6 @@ NoEnd (b ∷ s) = (endsLine b ≡ false) × NoEnd s
 pub no-end-more : (l : List ℕ) (b : ℕ) → NoEnd l → endsLine b ≡ false → NoEnd (l ++ (b ∷ []))
 no-end-more [] b h e = (e, tt)
 no-end-more (c ∷ l) b h e = (h .0, no-end-more l b (h .1) e)
-
-and-false : (t : Bool) → t && false ≡ false
-and-false true = refl
-and-false false = refl
 
 -- a byte 13 that no byte 10 follows is not dropped
 stays : (b c : ℕ) (t : List ℕ) → endsLine c ≡ false → dropped b (c ∷ t) ≡ false

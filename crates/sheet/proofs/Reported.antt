@@ -1,15 +1,12 @@
 -- A report that grows line by line in its buffer, and how long its lines can be.
 use mathlib.Core.Path.{_≡_, refl, sym, ap, ap₂, _∙_}
-use mathlib.Core.Bool.{true, false}
 use mathlib.Core.List.{List, [], _∷_, _++_, append-assoc, append-nil}
 use Prim.Native.Nat.{ℕ, zero, suc, _+_, _-_, _*_, _≤_, _<_, zero-le}
 use native.Mathlib.Nat.{sub-zero}
 use native.Mathlib.Omega.{arith}
-use native.Mathlib.Numerals.{add-one}
-use borrow.Author.Tests.{eq-eqb, ne-eqb}
 use lib.Dec.{eqb}
 use lib.ListN.{length, getD, take, drop, replicate, length-append, length-replicate, drop-of-length-le}
-use lib.Seq.{take-append-seam, drop-append-add, drop-cons}
+use lib.Seq.{take-append-seam, drop-append-add}
 use Rattle.whole.specs.Bytes.{bytes}
 use Rattle.whole.specs.Texts.{held}
 use Rattle.whole.specs.declared.texts.Text.{Text}

@@ -1,7 +1,6 @@
 -- Worked examples, computed by the checker: the request's own, and sheets that are refused.
 use mathlib.Core.Path.{_≡_, refl}
 use mathlib.Core.List.{List, [], _∷_, map}
-use Prim.Native.Nat.{ℕ}
 use Prim.Native.String.{String}
 use Rattle.whole.specs.Bytes.{bytes, leading}
 use Rattle.whole.specs.Digits.{isDigit, valueFrom}
