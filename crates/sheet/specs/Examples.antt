@@ -1,6 +1,7 @@
 -- Worked examples, computed by the checker: the request's own, and sheets that are refused.
 use mathlib.Core.Path.{_≡_, refl}
 use mathlib.Core.List.{List, [], _∷_, map}
+use Prim.Native.Nat.{ℕ}
 use Prim.Native.String.{String}
 use Rattle.whole.specs.Bytes.{bytes, leading}
 use Rattle.whole.specs.Digits.{isDigit, valueFrom}
@@ -12,7 +13,8 @@ use Rattle.means.specs.Means.{commonUpTo, meanOf}
 use Rattle.records.specs.Records.{fieldsOf, figureOf, outcomeWords, recorded}
 use Rattle.tallies.specs.Totals.{howMany, allSteps, codesFrom, totalsOf}
 use Rattle.sheet.specs.Printed.{codeLines, outcomeLines, stepLines, printedOf}
-use Rattle.sheet.specs.Sheet.{readFrom, sheetOf}
+use Rattle.records.specs.declared.reading.Outcome.the-variants.{Ended}
+use Rattle.sheet.specs.Sheet.{runs, refused, readFrom, sheetOf}
 
 pub record Example : Type 0 where
   pub sheet : String
@@ -50,3 +52,21 @@ sheets =
 pub sheets-hold : map (λ (e : Example). sheetOf (bytes (e .sheet))) sheets ≡ map (λ (e : Example). bytes (e .lines)) sheets
 unfolding sheets bytes leading isDigit valueFrom places trimmed digitByte numeral sameBytes meaning linesFrom numberGiven commonUpTo meanOf fieldsOf figureOf outcomeWords recorded howMany allSteps codesFrom totalsOf codeLines outcomeLines stepLines printedOf readFrom sheetOf
 sheets-hold = refl
+
+-- ---- the most records
+
+pub good-record : List ℕ
+good-record = bytes "ended\t0\t0\t6"
+
+-- the 65,535th is taken, and the 65,536th refused, be it good or bad
+pub last-taken : readFrom 65534 (good-record ∷ []) ≡ runs (record { outcome = Ended; steps = 6 } ∷ [])
+unfolding good-record bytes leading isDigit valueFrom sameBytes meaning numberGiven fieldsOf figureOf outcomeWords recorded readFrom
+last-taken = refl
+
+pub too-many : readFrom 65534 (good-record ∷ good-record ∷ []) ≡ refused 65536
+unfolding good-record bytes leading isDigit valueFrom sameBytes meaning numberGiven fieldsOf figureOf outcomeWords recorded readFrom
+too-many = refl
+
+pub bad-before : readFrom 65534 ([] ∷ good-record ∷ []) ≡ refused 65535
+unfolding bytes leading isDigit valueFrom sameBytes meaning numberGiven fieldsOf figureOf outcomeWords recorded readFrom
+bad-before = refl
