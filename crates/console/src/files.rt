@@ -36,7 +36,7 @@ fn take_from(fd: i32, bytes: &mut [u8]) -> Taken
     taken_of(count, count == bytes.len(), more)
 }
 
-fn complain_of_reading(path: &[u8]) {
+pub fn complain_of_reading(path: &[u8]) {
     io::write_all(STDERR_FILENO, b"cannot read ");
     os::fail(path);
 }

@@ -11,6 +11,7 @@ pub use arguments::number_given;
 pub use complaints::complain;
 pub use complaints::complain_of;
 pub use files::Taken;
+pub use files::complain_of_reading;
 pub use files::recipe_room;
 pub use files::take_file;
 pub use files::take_front;

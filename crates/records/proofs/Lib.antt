@@ -1,0 +1,5 @@
+pub mod Fields
+pub mod Words
+pub mod Figures
+pub mod Long
+pub mod Sound

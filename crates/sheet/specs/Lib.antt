@@ -1,0 +1,5 @@
+pub mod Printed
+pub mod Sheet
+pub mod Reports
+pub mod Examples
+pub mod bridge
