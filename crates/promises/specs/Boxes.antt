@@ -2,13 +2,17 @@
 -- statement has the proof of its name, with hyphens, in `proofs/Boxes.antt`.
 use mathlib.Core.Path.{_≡_}
 use mathlib.Core.Bool.{true, false}
-use mathlib.Core.List.{[], _∷_}
+use mathlib.Core.List.{List, [], _∷_, _++_}
 use mathlib.Core.Logic.{_↔_}
 use Prim.Native.Nat.{ℕ, _+_, _≤_}
-use lib.ListN.{length}
+use lib.ListN.{length, getD}
+use Rattle.whole.specs.Whole.{num}
+use Rattle.host.specs.Answers.{extendedOf}
+use Rattle.runner.specs.Run.{runOf}
 use Rattle.promises.specs.Calls.{
   RunBox,
   textIn,
+  inputIn,
   spaceIn,
   spaceOut,
   roomIn,
@@ -28,11 +32,15 @@ use Rattle.promises.specs.Calls.{
   passedWord,
   AskBox,
   boxAsksAlways,
+  blockAsked,
   spaceAsked,
+  nameIn,
+  foundWords,
   foundWord,
 }
 use Rattle.promises.specs.Demands.{RefusedFor}
 use Rattle.promises.specs.Passing.{sparedNumbers, oneOf}
+use Rattle.promises.specs.Questions.{Reply, number, string, noName, answerFor}
 
 -- Every check and every question of a box has an answer that its contract allows, whatever bytes are lent. It does not say how long a call
 -- takes, and not the same of a run: that is `answersAlways` of `run`, and the toolchain's own theorem that `quernhem_run` ends and meets its
@@ -88,3 +96,26 @@ pub record AskedWell (c : AskBox) : Type 0 where
 -- It does not say that block and space are those of one run. Ruled out: a part that ends a byte behind the space; a refusal by another number.
 abbrev pub boxAsksWell : Type 0
 boxAsksWell = (c : AskBox) → AskedWell c
+
+-- the words say a variable's value: a number in 64 bits of two's complement, a string by the part of the space that holds exactly its bytes;
+-- what is no name is 111
+pub data Told (space words : List ℕ) : Reply → Type 0 where
+  itsNumber : (w : ℕ) → getD words 0 0 ≡ 0 → getD words 1 0 ≡ 0 → getD words 2 0 ≡ extendedOf (num w) → Told space words (number w)
+  itsPart : (front bytes back : List ℕ) → space ≡ front ++ (bytes ++ back) → getD words 0 0 ≡ 0 → getD words 1 0 ≡ 1
+      → getD words 3 0 ≡ length front → getD words 4 0 ≡ length bytes → Told space words (string bytes)
+  noVariable : getD words 0 0 ≡ 111 → Told space words noName
+
+-- a question that is put to the block and the space that a run left which was not refused
+pub record AskedAfterBox (c : RunBox) (a : AskBox) : Type 0 where
+  pub taken : outcomeWord c ≡ refusedWord → ⊥
+  pub block : blockAsked a ≡ blockOut c
+  pub space : spaceAsked a ≡ spaceOut c
+
+-- After every run of a box that was not refused, and for whatever is given as a name, the words that a box is told are those of the variable's
+-- value when the run was over. It says nothing of a block or a space that were changed in between. Ruled out: a block whose words have the high
+-- byte first; a negative number told in 16 bits.
+abbrev pub boxAsksAfterRuns : Type 0
+boxAsksAfterRuns =
+    (c : RunBox) (a : AskBox) → AskedAfterBox c a
+    → Told (spaceAsked a) (foundWords a)
+    (answerFor (runOf (textIn c) (inputIn c) (lentIn c) (budgetIn c) .machine .variables) (nameIn a))

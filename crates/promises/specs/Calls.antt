@@ -83,6 +83,9 @@ RunBox = Call host.quernhem_run.Kinds.ps host.quernhem_run.Kinds.r host.quernhem
 abbrev pub textIn : RunBox → List ℕ
 textIn c = c .passed .0 .now
 
+abbrev pub inputIn : RunBox → List ℕ
+inputIn c = c .passed .1 .0 .now
+
 abbrev pub spaceIn : RunBox → List ℕ
 spaceIn c = c .passed .1 .1 .0 .now
 
@@ -146,9 +149,18 @@ AskBox = Call host.quernhem_ask.Kinds.ps host.quernhem_ask.Kinds.r host.quernhem
 abbrev pub boxAsksAlways : Type 0
 boxAsksAlways = Always host.quernhem_ask.Kinds.ps host.quernhem_ask.Kinds.r host.quernhem_ask.Reads.Post
 
+abbrev pub blockAsked : AskBox → List ℕ
+blockAsked c = c .passed .0 .now
+
 abbrev pub spaceAsked : AskBox → List ℕ
 spaceAsked c = c .passed .1 .0 .now
 
--- number (0 or 111), kind, value, start and length in the space
+abbrev pub nameIn : AskBox → List ℕ
+nameIn c = c .passed .1 .1 .0 .now
+
+-- number (0 or 111), kind (0 whole, 1 text), value, start and length in the space
+abbrev pub foundWords : AskBox → List ℕ
+foundWords c = c .left .1 .1 .1 .0
+
 abbrev pub foundWord : AskBox → ℕ → ℕ
-foundWord c i = getD (c .left .1 .1 .1 .0) i 0
+foundWord c i = getD (foundWords c) i 0
