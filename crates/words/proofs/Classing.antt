@@ -1,14 +1,16 @@
--- The class of a run of bytes, by one test that antt computes, one byte after the other.
+-- The classes by numbers, and the rule of a table of them.
 use mathlib.Core.Path.{_≡_, refl, sym, ap, _∙_}
-use mathlib.Core.Bool.{Bool, true, false, _||_, _&&_}
-use Prim.Native.Nat.{ℕ, zero, suc, _+_, _≤_, _<_}
+use mathlib.Core.Bool.{Bool, true, _&&_}
+use mathlib.Core.List.{List, [], _∷_}
+use Prim.Native.Nat.{ℕ, zero, suc, _+_, _<_}
 use native.Mathlib.Omega.{arith}
-use borrow.Author.Tests.{eqb-true, eqb-false, ne-eqb}
+use borrow.Author.Tests.{eqb-true}
 use lib.Dec.{eqb}
+use lib.ListN.{length, getD}
 use Rattle.words.specs.Classes.{classOf}
 use Rattle.words.specs.declared.classes.ByteClass.{ByteClass}
 use Rattle.words.specs.declared.classes.ByteClass.the-variants.{Letter, Digit, Blank, Sign, Quote, Other}
-use Rattle.words.proofs.Choices.{both, by-test}
+use Rattle.words.proofs.Choices.{both}
 
 -- ---- classes told apart by numbers
 
@@ -40,28 +42,32 @@ rank-back Other = refl
 pub same-rank : (j k : ByteClass) → rank j ≡ rank k → j ≡ k
 same-rank j k e = sym (rank-back j) ∙ ap ranked e ∙ rank-back k
 
--- ---- a run of bytes, but for the three that stand alone
+-- what none of the first five numbers tells is another byte
+pub other-left : {n : ℕ} (k : ByteClass) → ((((Unit {0} × (n ≡ 0 → ⊥)) × (n ≡ 1 → ⊥)) × (n ≡ 2 → ⊥)) × (n ≡ 3 → ⊥)) × (n ≡ 4 → ⊥) → n ≡ rank k → Other ≡ k
+unfolding rank
+other-left Letter h e = absurd (h .0 .0 .0 .0 .1 e)
+other-left Digit h e = absurd (h .0 .0 .0 .1 e)
+other-left Blank h e = absurd (h .0 .0 .1 e)
+other-left Sign h e = absurd (h .0 .1 e)
+other-left Quote h e = absurd (h .1 e)
+other-left Other h e = refl
 
-unfoldable pub alone : ℕ → Bool
-alone b = eqb b 32 || (eqb b 34 || eqb b 92)
+-- ---- a table of them, by one test that antt computes, one entry after the other
 
-unfoldable pub allOf : ByteClass → ℕ → ℕ → Bool
-allOf k lo zero = true
-allOf k lo (suc n) = (alone lo || eqb (rank (classOf lo)) (rank k)) && allOf k (suc lo) n
+-- each entry, from the byte i on, is its byte's class
+unfoldable pub rightFrom : ℕ → List ℕ → Bool
+rightFrom i [] = true
+rightFrom i (x ∷ xs) = eqb x (rank (classOf i)) && rightFrom (suc i) xs
 
-not-alone : (b : ℕ) → (b ≡ 32 → ⊥) → (b ≡ 34 → ⊥) → (b ≡ 92 → ⊥) → alone b ≡ false
-unfolding alone
-not-alone b x y z = rw (ne-eqb b 32 x, ne-eqb b 34 y, ne-eqb b 92 z)
+right-at : (xs : List ℕ) (i : ℕ) → rightFrom i xs ≡ true → (k : ℕ) → k < length xs → getD xs k 0 ≡ rank (classOf (i + k))
+unfolding rightFrom
+right-at [] i t k h = absurd (omega arith)
+right-at (x ∷ xs) i t zero h =
+    let e : i + 0 ≡ i = omega arith in rw e (eqb-true x (rank (classOf i)) (both (eqb x (rank (classOf i))) (rightFrom (suc i) xs) t .0))
+right-at (x ∷ xs) i t (suc k) h =
+    let e : i + suc k ≡ suc i + k = omega arith in
+    rw e (right-at xs (suc i) (both (eqb x (rank (classOf i))) (rightFrom (suc i) xs) t .1) k (omega arith))
 
-pub class-in : (k : ByteClass) (lo n b : ℕ) → allOf k lo n ≡ true → lo ≤ b → b < lo + n
-    → ((Unit {0} × (b ≡ 32 → ⊥)) × (b ≡ 34 → ⊥)) × (b ≡ 92 → ⊥) → k ≡ classOf b
-unfolding allOf
-class-in k lo zero b t l h d = absurd (omega arith)
-class-in k lo (suc n) b t l h d =
-    let w = both (alone lo || eqb (rank (classOf lo)) (rank k)) (allOf k (suc lo) n) t in
-    by-test (eqb lo b)
-    (λ e.
-    let same : lo ≡ b = eqb-true lo b e in
-    let here : eqb (rank (classOf b)) (rank k) ≡ true = rw (same, not-alone b (d .0 .0 .1) (d .0 .1) (d .1)) at (w .0) in
-    sym (same-rank (classOf b) k (eqb-true _ _ here)))
-    (λ e. class-in k (suc lo) n b (w .1) (let u : lo ≡ b → ⊥ = eqb-false lo b e in omega arith) (omega arith) d)
+-- and so is what a look finds
+pub looked : (xs : List ℕ) → rightFrom 0 xs ≡ true → length xs ≡ 256 → (b : ℕ) → b < 256 → getD xs b 0 ≡ rank (classOf b)
+looked xs t l b h = let e : 0 + b ≡ b = omega arith in rw e at (right-at xs 0 t b (omega arith))

@@ -5,6 +5,12 @@ ghost use Rattle.words.specs.Classes.{capitalOf, isLetter, signOf, class
 use crate::places::Place;
 use crate::symbols::Sign;
 use crate::symbols::Token;
+use crate::table::BLANK;
+use crate::table::CLASSES;
+use crate::table::DIGIT;
+use crate::table::LETTER;
+use crate::table::QUOTE;
+use crate::table::SIGN;
 use whole::Operator;
 
 // What the reader tells a byte apart by.
@@ -74,17 +80,17 @@ pub fn sign_of(byte: u8) -> SignFound
     SignFound::Is(token)
 }
 
-// The class of a byte.
+// The class of a byte: one look into the table.
 pub fn class_of(byte: u8) -> ByteClass
     ensures { λ r. ⌜ r ≡ classOf byte ⌝ }
 {
-    match byte {
-        b'A'..=b'Z' | b'a'..=b'z' => ByteClass::Letter,
-        b'0'..=b'9' => ByteClass::Digit,
-        b' ' => ByteClass::Blank,
-        b'"' => ByteClass::Quote,
-        b'(' | b')' | b',' | b';' | b':' | b'?' | b'=' | b'<' | b'>' | b'+' | b'-' | b'*' | b'\\' =>
-            { ByteClass::Sign }
+    let i = byte as usize;
+    match CLASSES[i] {
+        LETTER => ByteClass::Letter,
+        DIGIT => ByteClass::Digit,
+        BLANK => ByteClass::Blank,
+        SIGN => ByteClass::Sign,
+        QUOTE => ByteClass::Quote,
         _ => ByteClass::Other,
     }
 }

@@ -3,6 +3,7 @@ mod classes;
 mod names;
 mod places;
 mod symbols;
+mod table;
 mod vocabulary;
 
 pub use classes::ByteClass;
