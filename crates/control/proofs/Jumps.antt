@@ -1,18 +1,21 @@
 -- GOTO, GOSUB and RETURN: the lines that a number leads to, a record more, and the records dropped.
 use mathlib.Core.Path.{_≡_, refl, sym, ap, _∙_}
-use mathlib.Core.Bool.{true, false, false≢true}
+use mathlib.Core.Bool.{Bool, true, false, false≢true}
 use mathlib.Core.List.{List, _∷_}
 use Prim.Native.Nat.{ℕ, zero, suc, _+_, _≤_, _<_}
 use native.Mathlib.Omega.{arith}
 use native.Mathlib.Numerals.{add-one}
 use borrow.Author.Tests.{le-leb, lt-leb}
+use lib.Dec.{leb}
 use lib.ListN.{length, set, getD}
-use Rattle.whole.specs.declared.errors.Error.the-variants.{UndefinedLine, ReturnWithoutGosub}
+use Rattle.whole.proofs.Never.{never}
+use Rattle.whole.specs.declared.errors.Error.the-variants.{OutOfMemory, UndefinedLine, ReturnWithoutGosub}
 use Rattle.words.specs.declared.places.LineNumber.{LineNumber}
 use Rattle.words.proofs.Choices.{by-test}
 use Rattle.space.proofs.Bounds.{by-bound}
 use Rattle.loader.specs.Lines.{Line, linesOf, fromNumber, findLine}
 use Rattle.loader.specs.declared.lines.LineSpan.{LineSpan}
+use Rattle.loader.specs.declared.lines.LineFound.{LineFound}
 use Rattle.loader.specs.declared.lines.LineFound.the-variants.{Is, None}
 use Rattle.grammar.specs.Trees as tree
 use Rattle.machine.specs.Machine as spec
@@ -31,7 +34,8 @@ use Rattle.machine.proofs.Standing.{found-begins, found-none}
 use Rattle.turns.specs.Steps as step
 use Rattle.turns.specs.Steps.{goesOn, enters, toLine, pushed, returned, doStatement}
 use Rattle.turns.specs.bridge.Turns.{turnedTo, Comes, Turns, anyRecords, FoundBelow, withDepth}
-use Rattle.control.specs.bridge.Answers.{pushedTurn}
+use Rattle.control.specs.bridge.Answers.{pushedTurn, callingOf}
+use Rattle.control.specs.declared.jumping.Calling.the-variants as calling
 use Rattle.turns.proofs.Keeping.{leaves-unprinted}
 use Rattle.turns.proofs.Leading.{Led, turns-fails, turns-enters, turns-unwritten}
 
@@ -139,6 +143,39 @@ module _ {text : List ℕ} {m : State} {input space room : List ℕ} (number : L
       turns-pushed (callRecord back) (next.Enter (span .place)) (spec.call (positionOf text back)) (call-held text (m .tables .numbers .names) back) (λ o. enters o (linesAt text (span .place .0))) sound refl refl refl (call-placed text (m .tables .numbers .count) back p)
       (λ o S s. (f .begins, (refl, s)))
       (λ rs l t n s. record { machine = n; is = rw (← f .lines, f .begins .here); same = s })
+
+  -- where no record is left
+  pub gosub-full : (at : ℕ) (back : Position) {span : LineSpan} → Positioned text back → findLine text number ≡ Is span
+      → leb mostRecords (m .depth) ≡ true
+      → Turns text m input space room anyRecords (λ n. doStatement text at (tree.gosub number) n (positionOf text back))
+      (turnedTo m (next.Fails OutOfMemory)) space room
+  gosub-full at back p e full = rw full at (gosub-found at back p e)
+
+-- ---- what became of a GOSUB tells of its line and of room
+
+pub calls-none : (f : LineFound) (full : Bool) → callingOf f full ≡ calling.NoLine → f ≡ None
+calls-none None full e = refl
+calls-none (Is span) true e = never (cc)
+calls-none (Is span) false e = never (cc)
+
+pub record FullAt (f : LineFound) (full : Bool) : Type 0 where
+  pub span : LineSpan
+  pub is : f ≡ Is span
+  pub so : full ≡ true
+
+pub calls-full : (f : LineFound) (full : Bool) → callingOf f full ≡ calling.NoRecord → FullAt f full
+calls-full None full e = never (cc)
+calls-full (Is span) true e = record { span = span; is = refl; so = refl }
+calls-full (Is span) false e = never (cc)
+
+pub record Finds (f : LineFound) : Type 0 where
+  pub span : LineSpan
+  pub is : f ≡ Is span
+
+pub calls-to : (f : LineFound) (full : Bool) → callingOf f full ≡ calling.Goes → Finds f
+calls-to None full e = never (cc)
+calls-to (Is span) true e = never (cc)
+calls-to (Is span) false e = record { span = span; is = refl }
 
 -- ---- the nearest GOSUB's record
 

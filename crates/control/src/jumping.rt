@@ -10,7 +10,9 @@ ghost use Rattle.machine.specs.bridge.Wanted.{Told};
 ghost use Rattle.rows.specs.bridge.Rows.{Tabled, Ordered};
 ghost use Rattle.turns.specs.Steps.{doStatement};
 ghost use Rattle.turns.specs.bridge.Turns.{turnOf, afterOf, Turns, anyRecords, FoundBelow};
-ghost use Rattle.control.specs.bridge.Answers.{pushedTurn};
+ghost use Rattle.loader.specs.declared.lines.LineFound.the-variants.{Is};
+ghost use Rattle.loader.specs.declared.lines.LineSpan.{LineSpan};
+ghost use Rattle.control.specs.bridge.Answers.{pushedTurn, callingOf};
 use loader::LineFound;
 use machine::Found;
 use machine::Machine;
@@ -66,7 +68,37 @@ pub(crate) fn push(machine: Machine, held: Record, next: Next) -> Turned
     }
 }
 
+// What becomes of a GOSUB: its line is missing, or no record is left, or it goes there.
+pub enum Calling {
+    NoLine,
+    NoRecord,
+    Goes,
+}
+
 // The line is tested before room for a record.
+fn called(found: LineFound, full: bool) -> Calling
+    ensures { λ r. ⌜ r ≡ callingOf found full ⌝ }
+{
+    match found {
+        LineFound::None => Calling::NoLine,
+        LineFound::Is(_) => if full {
+            Calling::NoRecord
+        } else {
+            Calling::Goes
+        },
+    }
+}
+
+// Where a line begins that was found.
+fn place_of(found: LineFound) -> Place
+    ensures { λ r. ⌜ ((span : LineSpan) → found ≡ Is span → r ≡ span .place) ⌝ }
+{
+    match found {
+        LineFound::None => Place(0),
+        LineFound::Is(span) => span.place,
+    }
+}
+
 pub fn gosub(
     rows: &Rows,
     number: LineNumber,
@@ -84,12 +116,14 @@ pub fn gosub(
         (turnOf r names words labels lengths) space room)
         ⌝ }
 {
-    match line_numbered(rows, number) {
-        LineFound::None => fails(machine, Error::UndefinedLine),
-        LineFound::Is(span) => {
+    let full = Machine::RECORDS <= machine.depth;
+    let found = line_numbered(rows, number);
+    match called(found, full) {
+        Calling::NoLine => fails(machine, Error::UndefinedLine),
+        Calling::NoRecord => fails(machine, Error::OutOfMemory),
+        Calling::Goes => {
             let held = Record::calls(after(here, ahead));
-            let place = span.place;
-            push(machine, held, Next::Enter(place))
+            push(machine, held, Next::Enter(place_of(found)))
         }
     }
 }

@@ -12,6 +12,7 @@ use mir.Val.{Fits, SFits, toZ, ofZ}
 use mir.Facts.{toZ-ofZ, toZ-pos}
 use Rattle.whole.specs.declared.arithmetic.Answer.{Answer}
 use Rattle.whole.specs.Whole.{num, fit, say}
+use Rattle.whole.specs.bridge.Wide.{back}
 use Rattle.whole.proofs.Numbers.{num-either, num-small}
 
 -- ---- how large a result is
@@ -74,10 +75,6 @@ rem-small x y p q = omega (arith, mag-rem x y)
 
 -- ---- a number in 32 bits
 
--- what the machine reads back of the bits of z
-abbrev pub back : ℤ → ℤ
-back z = toZ w32 (ofZ w32 z)
-
 pub back-is : (z : ℤ) → mag z < 2 ^ 31 → back z ≡ z
 back-is z h = toZ-ofZ (record { sfits = h })
 
@@ -100,6 +97,9 @@ small {w} o = num-small w (o .fits .fits)
 back-num : {w : ℕ} {x : ℤ} → Of w x → back x ≡ num w
 back-num {w} o = ap back (o .is) ∙ back-is (num w) (omega (arith, small o))
 
+pub read-back : {a b : ℕ} {x y : ℤ} → Of a x × Of b y → Of a (back x) × Of b (back y)
+read-back s = (record { fits = s .0 .fits; is = back-num (s .0) }, record { fits = s .1 .fits; is = back-num (s .1) })
+
 -- of the two sides of an operator
 module _ {a b : ℕ} {x y : ℤ} (sides : Of a x × Of b y) where
   module _ (op : ℤ → ℤ → ℤ) (s : Small op) where
@@ -110,8 +110,15 @@ module _ {a b : ℕ} {x y : ℤ} (sides : Of a x × Of b y) where
     pub op-fits : SFits w32 (op (back x) (back y))
     op-fits = rw (back-num (sides .0), back-num (sides .1)) (record { sfits = within })
 
+    op-back : back (op (back x) (back y)) ≡ op (num a) (num b)
+    op-back = ap back (ap₂ op (back-num (sides .0)) (back-num (sides .1))) ∙ back-is (op (num a) (num b)) within
+
     pub op-ends : {ans : Answer} → ans ≡ fit (back (op (back x) (back y))) → ans ≡ fit (op (num a) (num b))
-    op-ends e = e ∙ ap fit (ap back (ap₂ op (back-num (sides .0)) (back-num (sides .1))) ∙ back-is (op (num a) (num b)) within)
+    op-ends e = e ∙ ap fit op-back
+
+    -- where a function of its own works it out
+    pub call-ends : {q : ℤ} → q ≡ back (op (back x) (back y)) → {ans : Answer} → ans ≡ fit (back q) → ans ≡ fit (op (num a) (num b))
+    call-ends f e = e ∙ ap fit (ap back (f ∙ op-back) ∙ back-is (op (num a) (num b)) within)
 
   -- a comparison says what it says of the numbers
   pub test-ends : (test : ℤ → ℤ → Bool) {ans : Answer} → ans ≡ say (test (back x) (back y)) → ans ≡ say (test (num a) (num b))

@@ -4,3 +4,4 @@ pub mod Whole
 pub mod Texts
 pub mod Digits
 pub mod Examples
+pub mod bridge

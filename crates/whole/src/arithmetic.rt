@@ -1,6 +1,8 @@
 // The operators on whole numbers. A word is taken to its number, worked on as a wider one, and taken back where it fits.
 ghost use mathlib.Core.Path.{_≡_};
+ghost use lib.Signed.{quotZ, remZ};
 ghost use Rattle.whole.specs.Whole.{num, fit, say, applied, negated, magnitude, signum, flipped};
+ghost use Rattle.whole.specs.bridge.Wide.{back, Divides};
 use crate::errors::Error;
 
 // What an operation gives: a whole number, as its word, or the error that ends the run.
@@ -68,6 +70,22 @@ fn truth(holds: bool) -> Answer
     }
 }
 
+// Cut toward zero.
+fn quotient(x: i32, y: i32) -> i32
+    requires { ⌜ Divides x y ⌝ }
+    ensures { λ r. ⌜ r ≡ back (quotZ (back x) (back y)) ⌝ }
+{
+    x / y
+}
+
+// With the sign of the left side.
+fn rest(x: i32, y: i32) -> i32
+    requires { ⌜ Divides x y ⌝ }
+    ensures { λ r. ⌜ r ≡ back (remZ (back x) (back y)) ⌝ }
+{
+    x % y
+}
+
 // The answer of an operator at its left and right sides.
 pub fn apply(operator: Operator, left: u16, right: u16) -> Answer
     ensures { λ r. ⌜ r ≡ applied operator left right ⌝ }
@@ -79,12 +97,12 @@ pub fn apply(operator: Operator, left: u16, right: u16) -> Answer
         Operator::Divide => if right == 0 {
             Answer::Fault(Error::DivisionByZero)
         } else {
-            fitted(x / y)
+            fitted(quotient(x, y))
         },
         Operator::Modulo => if right == 0 {
             Answer::Fault(Error::DivisionByZero)
         } else {
-            fitted(x % y)
+            fitted(rest(x, y))
         },
         Operator::Add => fitted(x + y),
         Operator::Subtract => fitted(x - y),

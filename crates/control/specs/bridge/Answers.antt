@@ -34,6 +34,10 @@ use Rattle.machine.specs.declared.records.Found.{Found}
 use Rattle.machine.specs.declared.records.Found.the-variants as found
 use Rattle.variables.specs.Variables.{mostVariables}
 use Rattle.variables.specs.bridge.Memory.{numbersOf}
+use Rattle.loader.specs.declared.lines.LineFound.{LineFound}
+use Rattle.loader.specs.declared.lines.LineFound.the-variants as line
+use Rattle.control.specs.declared.jumping.Calling.{Calling}
+use Rattle.control.specs.declared.jumping.Calling.the-variants as calling
 use Rattle.turns.specs.bridge.Turns.{Turn, turnedTo, withTables, withDepth, numberSet}
 
 -- a record more, written above the others, if there is room
@@ -41,6 +45,12 @@ abbrev pub pushedTurn : State → Record → Next → Turn
 pushedTurn m held n =
     cond (leb mostRecords (m .depth)) (turnedTo m (next.Fails OutOfMemory))
     (record { state = withDepth m (m .depth + 1); next = n; slot = m .depth; held = held })
+
+-- what becomes of a GOSUB: its line is tested before room for a record
+abbrev pub callingOf : LineFound → Bool → Calling
+callingOf line.None full = calling.NoLine
+callingOf (line.Is span) true = calling.NoRecord
+callingOf (line.Is span) false = calling.Goes
 
 -- a part of the line is entered, or the line is over
 abbrev pub takenTurn : State → Place → Start → Turn

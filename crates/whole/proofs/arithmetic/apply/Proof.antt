@@ -3,7 +3,7 @@ use borrow.Author.Needs.{needs}
 use borrow.Author.Tests.{eq-eqb, ne-eqb}
 use lib.IntN.{_+ℤ_, _-ℤ_, _*ℤ_}
 use lib.Signed.{quotZ, remZ, ltZ, leZ}
-use Rattle.whole.proofs.Sizes.{Of, op-fits, op-ends, test-ends, divisor, add-small, sub-small, mul-small, quot-small, rem-small}
+use Rattle.whole.proofs.Sizes.{Of, read-back, op-fits, op-ends, call-ends, test-ends, divisor, add-small, sub-small, mul-small, quot-small, rem-small}
 use Rattle.whole.proofs.arithmetic.apply.Statement.{statement}
 use Rattle.whole.proofs.arithmetic.apply.Tie as tie
 
@@ -24,10 +24,10 @@ apply-spec =
     (λ c. op-fits (sides (c .before .before)) _*ℤ_ mul-small)
     (λ c κs. search needs)
     (λ c. search needs)
-    (λ c. let s = sides (c .before .before .before) in (divisor (s .1) (c .if1 .left), op-fits s quotZ quot-small))
+    (λ c κs. let s = read-back (sides (c .before .before .before)) in (divisor (s .1) (c .if1 .left), op-fits s quotZ quot-small))
     (λ c κs. search needs)
     (λ c. search needs)
-    (λ c. let s = sides (c .before .before .before) in (divisor (s .1) (c .if2 .left), op-fits s quotZ quot-small))
+    (λ c κs. let s = read-back (sides (c .before .before .before)) in (divisor (s .1) (c .if2 .left), op-fits s quotZ quot-small))
     (λ c κs. search needs)
     (λ c. search needs)
     (λ c. op-fits (sides (c .before .before)) _+ℤ_ add-small)
@@ -54,9 +54,11 @@ apply-spec =
     (λ c. search needs)
     (λ c. rw (c .before .enum-told .given .1) (op-ends (sides (c .before .before .before)) _*ℤ_ mul-small (c .fitted .ensures)))
     (λ c. rw (c .before .enum-told2 .given .1, eq-eqb _ _ (c .if1 .taken)))
-    (λ c. rw (c .before .before .enum-told2 .given .1, ne-eqb _ 0 (c .before .if1 .left)) (op-ends (sides (c .before .before .before .before)) quotZ quot-small (c .fitted2 .ensures)))
+    (λ c. rw (c .before .before .before .enum-told2 .given .1, ne-eqb _ 0 (c .before .before .if1 .left))
+    (call-ends (read-back (sides (c .before .before .before .before .before))) quotZ quot-small (c .before .quotient .ensures) (c .fitted2 .ensures)))
     (λ c. rw (c .before .enum-told3 .given .1, eq-eqb _ _ (c .if2 .taken)))
-    (λ c. rw (c .before .before .enum-told3 .given .1, ne-eqb _ 0 (c .before .if2 .left)) (op-ends (sides (c .before .before .before .before)) remZ rem-small (c .fitted3 .ensures)))
+    (λ c. rw (c .before .before .before .enum-told3 .given .1, ne-eqb _ 0 (c .before .before .if2 .left))
+    (call-ends (read-back (sides (c .before .before .before .before .before))) remZ rem-small (c .before .rest .ensures) (c .fitted3 .ensures)))
     (λ c. rw (c .before .enum-told4 .given .1) (op-ends (sides (c .before .before .before)) _+ℤ_ add-small (c .fitted4 .ensures)))
     (λ c. rw (c .before .enum-told5 .given .1) (op-ends (sides (c .before .before .before)) _-ℤ_ sub-small (c .fitted5 .ensures)))
     (λ c. rw (c .before .enum-told6 .given .1) (c .truth .ensures))

@@ -6,8 +6,9 @@ use lib.IntN.{pos, _+ℤ_}
 use lib.Signed.{mag}
 use mir.Facts.{toZ-ofZ}
 use Rattle.whole.specs.Whole.{word}
+use Rattle.whole.specs.bridge.Wide.{back}
 use Rattle.whole.proofs.Numbers.{size-over, size-under, size-within, word-below, word-above, fit-in, fit-out}
-use Rattle.whole.proofs.Sizes.{back, word-back}
+use Rattle.whole.proofs.Sizes.{word-back}
 use Rattle.whole.proofs.arithmetic.fitted.Statement.{statement}
 use Rattle.whole.proofs.arithmetic.fitted.Tie as tie
 
