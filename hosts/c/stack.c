@@ -61,10 +61,19 @@ static void append(const char *part, size_t count) {
     while (count--) strcat(line, part);
 }
 
-static void measure_made(void) {
-    text = (const uint8_t *)line;
-    text_len = strlen(line);
+static void measure_text(const char *bytes) {
+    text = (const uint8_t *)bytes;
+    text_len = strlen(bytes);
     measure();
+}
+
+/* The line alone, and behind a FOR that is skipped, which looks for its NEXT there. */
+static void measure_made(void) {
+    static char behind[LONGEST_LINE + 16];
+    measure_text(line);
+    strcpy(behind, "0FORI=1TO 0\n1");
+    strcat(behind, line + 1);
+    measure_text(behind);
 }
 
 /* A line of one thing over and over, as often as it fits; with as many parentheses that close it, or with none. */

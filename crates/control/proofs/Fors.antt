@@ -1,6 +1,6 @@
--- FOR: its formulas are worked out, its variable is set, an older loop of it is dropped, and a record is made.
+-- FOR: its formulas are worked out, its variable is set, an older loop of it is dropped, and its body is skipped or a record is made.
 use mathlib.Core.Path.{_≡_, refl, sym, ap, _∙_}
-use mathlib.Core.Bool.{Bool, true, false}
+use mathlib.Core.Bool.{Bool, true, false, false≢true, cond}
 use mathlib.Core.List.{List}
 use Prim.Native.Nat.{ℕ, _≤_, _<_}
 use native.Mathlib.Omega.{arith}
@@ -28,12 +28,14 @@ use Rattle.variables.proofs.Names.{alike-is}
 use Rattle.variables.proofs.StoredNumbers.{number-stored}
 use Rattle.variables.specs.declared.values.Worked.the-variants.{Whole}
 use Rattle.machine.specs.Machine as spec
-use Rattle.machine.specs.Machine.{isLoopOf, noting, roomOf}
-use Rattle.machine.specs.bridge.Holding.{positionOf, Positioned, loopRecord, recordOf, Placed, Settled, Sound, Same, State}
+use Rattle.machine.specs.Machine.{isLoopOf, noting, roomOf, passed}
+use Rattle.machine.specs.bridge.Holding.{linesAt, positionOf, Positioned, loopRecord, recordOf, Placed, Settled, Sound, Same, State}
 use Rattle.machine.specs.bridge.Wanted.{Told}
 use Rattle.machine.specs.declared.positions.Position.{Position}
 use Rattle.turns.specs.bridge.Turns.{Turn, turnedTo, afterOf, Turns, Formed, Valued, FoundBelow, numberSet, Storage}
+use Rattle.machine.specs.declared.positions.Next.{Next}
 use Rattle.machine.specs.declared.positions.Next.the-variants as next
+use Rattle.order.specs.Order.{nextFor}
 use Rattle.machine.specs.declared.records.Record.{Record}
 use Rattle.machine.specs.declared.records.Found.{Found}
 use Rattle.machine.specs.declared.records.Found.the-variants as found
@@ -41,13 +43,15 @@ use Rattle.machine.proofs.Stacking.{loop-back, loop-held}
 use Rattle.machine.proofs.Searching.{told-kept}
 use Rattle.turns.specs.Steps as step
 use Rattle.turns.specs.Steps.{goesOn, pushed, cleared, begun, fromStep, fromStart, doStatement}
-use Rattle.control.specs.bridge.Answers.{Counts, pushedTurn, droppedTo, loopTurn, stepOf, Stepped, Limited}
+use Rattle.control.specs.bridge.Answers.{Counts, pushedTurn, droppedTo, stepOf, Stepped, Limited}
+use Rattle.control.specs.bridge.Skipping.{Skips, LoopBegun}
 use Rattle.turns.proofs.Keeping.{sound-kept, same-noting, leaves-unprinted}
-use Rattle.turns.proofs.Leading.{turns-fails, turns-then}
+use Rattle.turns.proofs.Leading.{Led, turns-unwritten, turns-fails, turns-then}
 use Rattle.turns.proofs.Storing.{number-settled, leads-number, sound-tables}
 use Rattle.control.proofs.Jumps.{sound-depth, same-fewer, turns-pushed}
 use Rattle.turns.proofs.Wholes.{turns-as, turns-whole}
 use Rattle.control.proofs.One.{one}
+use Rattle.control.proofs.Skips.{skip-comes}
 
 -- ---- a FOR, taken apart
 
@@ -203,55 +207,102 @@ module _ (text : List ℕ) {m : State} {space : List ℕ} (name : Telling) (from
   loop-placed p =
       rw (dropped-tables (made .state) f) (record { back = rw (loop-back (made .slot) limit by back) p; known = λ _. made-slot .0 })
 
-module _ {text : List ℕ} {m : State} {input space room : List ℕ} (entry : Record) (name : Telling) (from limit by : ℕ) (back : Position) (f : Found)
-    (sound : Sound m input space room) (low : FoundBelow (m .depth) f) (p : Positioned text back) where
-  pub turns-loop : Turns text m input space room (Told text (m .tables .numbers .names) (isLoopOf name) (m .depth) f entry) (begun name (positionOf text back) from limit by) (loopTurn m name from limit by back f) space room
+module _ {text : List ℕ} {m : State} {input space room : List ℕ} (entry : Record) (at : Place) (name : Telling) (from limit by : ℕ) (back : Position) (f : Found)
+    (sound : Sound m input space room) (low : FoundBelow (m .depth) f) (p : Positioned text back) {r : Turn} (b : LoopBegun text at m name from limit by back f r) where
+  abbrev told : List Record → Type 0
+  told = Told text (m .tables .numbers .names) (isLoopOf name) (m .depth) f entry
+
+  -- what the definition does once they are
+  abbrev after-clearing : spec.Machine → step.Next
+  after-clearing q =
+      cond (passed from limit by)
+      (step.skipped name (nextFor (at .0) (linesAt text (back .line .0))) q)
+      (pushed q (spec.loop name limit by (positionOf text back)) (λ o. goesOn o (positionOf text back)))
+
+  -- the variable is set, and an older loop of it is dropped
+  module _ (yes : numberSet m name from .ok ≡ true) where
+    abbrev under : State
+    under = droppedTo (numberSet m name from .state) f
+
+    sound-under : Sound under input space room
+    sound-under = sound-dropped f low (sound-set name from sound)
+
+    -- whatever the definition does then
+    leads-cleared : (go : spec.Machine → step.Next)
+        → Led text m input space room told (λ n. step.storeNumber n name from (λ q. go (cleared name q))) under space room go
+    leads-cleared go rs l t n s =
+        let k = rw yes at (leads-number name from (sound .settled) s (λ q. go (cleared name q))) in
+        let kept = number-stored (m .tables .numbers) name from (sound .settled .numbers) in
+        let names = numberSet m name from .state .tables .numbers .names in
+        let u = told-kept text (m .tables .numbers .names) names (m .tables .numbers .count) (kept .names) rs (isLoopOf name) (m .depth)
+        (λ i h. s .placed i h .known) f entry t in
+        record { machine = _; is = k .is; same = same-dropped entry name (k .same) f u }
+
+    turns-skipped : passed from limit by ≡ true
+        → Turns text m input space room told (begun name (at .0) (positionOf text back) from limit by) (turnedTo under (b .skip)) space room
+    turns-skipped q =
+        turns-unwritten (leaves-unprinted sound-under refl (dropped-steps (numberSet m name from .state) f) (dropped-printer (numberSet m name from .state) f))
+        (λ rs l t n s. let k = leads-cleared after-clearing rs l t n s in rw (k .is, q) (skip-comes text name (nextFor (at .0) (linesAt text (back .line .0))) (b .skip) _ (b .skips yes q) (k .same)))
+
+    turns-made : passed from limit by ≡ false
+        → Turns text m input space room told (begun name (at .0) (positionOf text back) from limit by)
+        (pushedTurn under (loopRecord (numberSet m name from .slot) limit by back) (next.On back)) space room
+    turns-made q =
+        let set = numberSet m name from in
+        turns-pushed (loopRecord (set .slot) limit by back) (next.On back) (spec.loop name limit by (positionOf text back)) (loop-is text name from limit by back f (sound .settled) yes)
+        (λ r. goesOn r (positionOf text back)) sound-under refl (dropped-steps (set .state) f) (dropped-printer (set .state) f) (loop-placed text name from limit by back f (sound .settled) yes p) (λ o S s. (p, (refl, s)))
+        (λ rs l t n s. let k = leads-cleared after-clearing rs l t n s in record { machine = k .machine; is = k .is ∙ rw q; same = k .same })
+
+  pub turns-loop : Turns text m input space room told (begun name (at .0) (positionOf text back) from limit by) r space room
   turns-loop =
-      let set = numberSet m name from in
-      let h : Sound (set .state) input space room = sound-set name from sound in
-      let kept = number-stored (m .tables .numbers) name from (sound .settled .numbers) in
-      let go : spec.Machine → step.Next =
-      (λ q. pushed (cleared name q) (spec.loop name limit by (positionOf text back)) (λ r. goesOn r (positionOf text back))) in
-      by-test (set .ok)
-      (λ e. rw e
-      (turns-pushed (loopRecord (set .slot) limit by back) (next.On back) (spec.loop name limit by (positionOf text back)) (loop-is text name from limit by back f (sound .settled) e)
-      (λ r. goesOn r (positionOf text back)) (sound-dropped f low h) refl
-      (dropped-steps (set .state) f) (dropped-printer (set .state) f) (loop-placed text name from limit by back f (sound .settled) e p) (λ o S s. (p, (refl, s)))
-      (λ rs l t n s. let k = rw e at (leads-number name from (sound .settled) s go) in
-      let u = told-kept text (m .tables .numbers .names) (set .state .tables .numbers .names) (m .tables .numbers .count) (kept .names) rs (isLoopOf name) (m .depth)
-      (λ i b. s .placed i b .known) f entry t in
-      record { machine = _; is = k .is; same = same-dropped entry name (k .same) f u })))
-      (λ e. rw e (turns-fails (leaves-unprinted h refl refl refl) (λ rs l t n s. rw e at (leads-number name from (sound .settled) s go))))
+      by-test (numberSet m name from .ok)
+      (λ e. by-test (passed from limit by)
+      (λ q. let is : r ≡ turnedTo (under e) (b .skip) = b .is ∙ rw (e, q) in rw is (turns-skipped e q))
+      (λ q. let is : r ≡ pushedTurn (under e) (loopRecord (numberSet m name from .slot) limit by back) (next.On back) = b .is ∙ rw (e, q) in
+      rw is (turns-made e q)))
+      (λ e. let is : r ≡ turnedTo (numberSet m name from .state) (next.Fails OutOfMemory) = b .is ∙ rw e in rw is
+      (turns-fails (leaves-unprinted (sound-set name from sound) refl refl refl)
+      (λ rs l t n s. rw e at (leads-number name from (sound .settled) s (λ q. after-clearing (cleared name q))))))
 
   -- the step that is left out is 1
-  pub turns-by-one : by ≡ 1 → Turns text m input space room (Told text (m .tables .numbers .names) (isLoopOf name) (m .depth) f entry)
-      (fromStep name (positionOf text back) (number 1) from limit) (loopTurn m name from limit by back f) space room
+  pub turns-by-one : by ≡ 1 → Turns text m input space room told (fromStep name (at .0) (positionOf text back) (number 1) from limit) r space room
   turns-by-one e =
       turns-then (leaves-unprinted {r = turnedTo m next.Ends} sound refl refl refl)
       (λ rs l t n s.
       record { machine = noting n (roomOf n); is = rw (one (n .variables) (roomOf n), e); same = same-noting s (roomOf n) })
       turns-loop
 
--- what the code makes, by whether there was room for the variable
-module _ (m : State) (name : Telling) (from limit by : ℕ) (back : Position) (f : Found) {s : Storage} (e : s ≡ numberSet m name from) where
-  pub loop-full : s .ok ≡ false → turnedTo (s .state) (next.Fails OutOfMemory) ≡ loopTurn m name from limit by back f
-  loop-full h = let k : numberSet m name from .ok ≡ false = rw e at h in rw (k, e)
+-- what the code makes, by whether there was room for the variable, and whether the body is skipped
+module _ (text : List ℕ) (at : Place) (m : State) (name : Telling) (from limit by : ℕ) (back : Position) (f : Found) {s : Storage} (e : s ≡ numberSet m name from) where
+  pub begun-full : s .ok ≡ false → LoopBegun text at m name from limit by back f (turnedTo (s .state) (next.Fails OutOfMemory))
+  begun-full h =
+      let k : numberSet m name from .ok ≡ false = rw e at h in
+      record { skip = next.Ends; skips = λ ok q. absurd (false≢true (sym k ∙ ok)); is = rw (k, e) }
 
-  pub loop-made : s .ok ≡ true → {b : Position} → b ≡ back → {d : State} → d ≡ droppedTo (s .state) f → {held : Record} → held ≡ loopRecord (s .slot) limit by b
-      → {r : Turn} → r ≡ pushedTurn d held (next.On b) → r ≡ loopTurn m name from limit by back f
-  loop-made h same low made is = let k : numberSet m name from .ok ≡ true = rw e at h in is ∙ rw (made, low, same, k, e)
+  pub begun-skips : s .ok ≡ true → passed from limit by ≡ true → {d : State} → d ≡ droppedTo (s .state) f → {skip : Next}
+      → Skips text name skip (nextFor (at .0) (linesAt text (back .line .0))) → {r : Turn} → r ≡ turnedTo d skip
+      → LoopBegun text at m name from limit by back f r
+  begun-skips h q low {skip} skips is =
+      let k : numberSet m name from .ok ≡ true = rw e at h in
+      record { skip = skip; skips = λ _ _. skips; is = is ∙ rw (low, k, q, e) }
+
+  pub begun-made : s .ok ≡ true → passed from limit by ≡ false → {b : Position} → b ≡ back → {d : State} → d ≡ droppedTo (s .state) f
+      → {held : Record} → held ≡ loopRecord (s .slot) limit by b → {r : Turn} → r ≡ pushedTurn d held (next.On b)
+      → LoopBegun text at m name from limit by back f r
+  begun-made h q same low made is =
+      let k : numberSet m name from .ok ≡ true = rw e at h in
+      record { skip = next.Ends; skips = λ _ so. absurd (false≢true (sym q ∙ so)); is = is ∙ rw (made, low, same, k, q, e) }
 
 -- with the step that was worked out
-module _ {text : List ℕ} {m : State} {input space room : List ℕ} (entry : Record) (name : Telling) (from limit : ℕ) (here : Place) (f : Found)
+module _ {text : List ℕ} {m : State} {input space room : List ℕ} (entry : Record) (at : Place) (name : Telling) (from limit : ℕ) (here : Place) (f : Found)
     (sound : Sound m input space room) (low : FoundBelow (m .depth) f) where
-  pub turns-stepped : {by : Formula} {w : ℕ} {u x : Scanned} {space′ : List ℕ} → Positioned text (afterOf here u)
-      → Valued m by u space (Whole w x) space′
-      → Turns text m input space room (Told text (m .tables .numbers .names) (isLoopOf name) (m .depth) f entry) (fromStep name (positionOf text (afterOf here u)) by from limit)
-      (loopTurn m name from limit w (afterOf here x) f) space′ room
-  turns-stepped {w = w} {u = u} p v =
-      rw (v .goes)
-      (turns-whole (begun name (positionOf text (afterOf here u)) from limit) sound v
-      (turns-loop entry name from limit w (afterOf here u) f (sound-kept (v .framed .long) sound) low p))
+  pub turns-stepped : {by : Formula} {w : ℕ} {u x : Scanned} {space′ : List ℕ} {r : Turn} → Positioned text (afterOf here u)
+      → Valued m by u space (Whole w x) space′ → LoopBegun text at m name from limit w (afterOf here x) f r
+      → Turns text m input space room (Told text (m .tables .numbers .names) (isLoopOf name) (m .depth) f entry)
+      (fromStep name (at .0) (positionOf text (afterOf here u)) by from limit) r space′ room
+  turns-stepped {w = w} {u = u} p v b =
+      turns-whole (begun name (at .0) (positionOf text (afterOf here u)) from limit) sound v
+      (turns-loop entry at name from limit w (afterOf here u) f (sound-kept (v .framed .long) sound) low p (rw (v .goes) at b))
 
 -- ---- the whole statement
 
@@ -264,6 +315,6 @@ module _ {text : List ℕ} {m : State} {input space room : List ℕ} {told : Lis
       turns-fails (leaves-unprinted h refl refl refl) (λ rs l t n s. record { machine = n; is = rw e; same = s })
 
   pub for-whole : {space′ : List ℕ} {r : Turn} → v .kind ≡ kind.Whole
-      → Turns text m input space room told (λ n. fromStart (v .telling) after a b c n) r space′ room
+      → Turns text m input space room told (λ n. fromStart (v .telling) at after a b c n) r space′ room
       → Turns text m input space room told (λ n. doStatement text at (tree.for v a b c) n after) r space′ room
   for-whole e t = turns-as (λ n. rw e) t

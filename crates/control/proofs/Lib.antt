@@ -1,4 +1,5 @@
 pub mod Branches
+pub mod Skips
 pub mod Fors
 pub mod Jumps
 pub mod Led

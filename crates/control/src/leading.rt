@@ -4,6 +4,7 @@ ghost use Prim.Native.Nat.{ℕ, _≤_};
 ghost use lib.ListN.{length};
 ghost use Rattle.machine.specs.bridge.Holding.{stateOf, Settled, Sound};
 ghost use Rattle.turns.specs.bridge.Turns.{turnOf, FoundBelow};
+ghost use Rattle.order.specs.bridge.Walking.{Lined};
 ghost use Rattle.rows.specs.bridge.Rows.{Tabled, Ordered};
 ghost use Rattle.words.specs.declared.symbols.Word.the-variants as led;
 ghost use Rattle.statements.specs.Statements.{byWord};
@@ -32,8 +33,10 @@ use words::Token;
 
 // A name, the equals sign and what is counted through.
 pub fn count(
+    text: &[u8],
     line: &[u8],
     here: Place,
+    at: Place,
     target: Scanned,
     machine: Machine,
     names: &mut NameTable,
@@ -43,18 +46,20 @@ pub fn count(
     found: Found,
     space: &mut [u8],
 ) -> Turned
-    requires { ⌜ Begins (byWord (now line) led.For target) × ((length (now line) ≤ longestLine) × (Settled (stateOf machine (now names) (now words) (now labels) (now lengths)) (now space) × FoundBelow (machine .depth) found)) ⌝ }
+    requires { ⌜ Begins (byWord (now line) led.For target) × ((length (now line) ≤ longestLine) × (Settled (stateOf machine (now names) (now words) (now labels) (now lengths)) (now space) × (FoundBelow (machine .depth) found × Lined (now text) (here .0)))) ⌝ }
     ensures { λ r. ⌜
-        ((text input room : List ℕ) (at : ℕ) (entry : Record) → Sound (stateOf machine (now (names .entry)) (now (words .entry)) (now (labels .entry)) (now (lengths .entry))) input (now (space .entry)) room
-        → Does text (now (line .entry)) here at (stateOf machine (now (names .entry)) (now (words .entry)) (now (labels .entry)) (now (lengths .entry))) found entry input (now (space .entry)) room (turnOf r (now (names .exit)) (now (words .exit)) (now (labels .entry)) (now (lengths .entry))) (now (space .exit)) room (byWord (now (line .entry)) led.For target))
+        ((input room : List ℕ) (entry : Record) → Sound (stateOf machine (now (names .entry)) (now (words .entry)) (now (labels .entry)) (now (lengths .entry))) input (now (space .entry)) room
+        → Does (now (text .entry)) (now (line .entry)) here (at .0) (stateOf machine (now (names .entry)) (now (words .entry)) (now (labels .entry)) (now (lengths .entry))) found entry input (now (space .entry)) room (turnOf r (now (names .exit)) (now (words .exit)) (now (labels .entry)) (now (lengths .entry))) (now (space .exit)) room (byWord (now (line .entry)) led.For target))
         ⌝ }
 {
     let token = target.token;
     let equals = token_at(line, target.next);
     match token {
         Token::Named(name) => for_loop(
+            text,
             line,
             here,
+            at,
             name,
             equals,
             machine,

@@ -3,6 +3,7 @@ mod branching;
 mod jumping;
 mod leading;
 mod looping;
+mod skipping;
 
 pub use branching::choose;
 pub use jumping::come_back;

@@ -14,10 +14,13 @@ ghost use Rattle.machine.specs.Machine.{sought, isLoopOf};
 ghost use Rattle.machine.specs.bridge.Holding.{stateOf, positionOf, Positioned, Settled, Sound};
 ghost use Rattle.machine.specs.bridge.Wanted.{Told};
 ghost use Rattle.machine.specs.declared.records.Found.the-variants as found;
+ghost use Rattle.order.specs.bridge.Walking.{Lined};
 ghost use Rattle.turns.specs.Steps.{fromStep, fromLimit, nextOn, doStatement};
 ghost use Rattle.turns.specs.bridge.Turns.{turnOf, afterOf, Turns, FoundBelow};
-ghost use Rattle.control.specs.bridge.Answers.{Counts, Stepped, Limited, LoopsOnly, stepOf, droppedTo, loopTurn, wordIn, wordsSet};
+ghost use Rattle.control.specs.bridge.Answers.{Counts, Stepped, Limited, LoopsOnly, stepOf, droppedTo, wordIn, wordsSet};
+ghost use Rattle.control.specs.bridge.Skipping.{LoopBegun};
 use crate::jumping::push;
+use crate::skipping::skip_body;
 use grammar::is_keyword;
 use machine::Found;
 use machine::Machine;
@@ -64,9 +67,11 @@ fn dropped_to(machine: Machine, found: Found) -> Machine
     }
 }
 
-// The variable is set, an older loop of it is dropped, then a record is made.
+// The variable is set, an older loop of it is dropped, then the body is skipped or a record is made.
 fn begin_loop(
+    text: &[u8],
     here: Place,
+    at: Place,
     name: Telling,
     from: u16,
     limit: u16,
@@ -77,9 +82,10 @@ fn begin_loop(
     words: &mut [u16; Tables::MOST],
     found: Found,
 ) -> Turned
+    requires { ⌜ Lined (now text) (here .0) ⌝ }
     ensures { λ r. ⌜
-        ((labels lengths : List ℕ) → turnOf r (now (names .exit)) (now (words .exit)) labels lengths
-        ≡ loopTurn (stateOf machine (now (names .entry)) (now (words .entry)) labels lengths) name from limit step (afterOf here ahead) found)
+        ((labels lengths : List ℕ) → LoopBegun (now (text .entry)) at (stateOf machine (now (names .entry)) (now (words .entry)) labels lengths) name from limit step (afterOf here ahead) found
+        (turnOf r (now (names .exit)) (now (words .exit)) labels lengths))
         ⌝ }
 {
     let stored = with_number(machine, names, words, name, from);
@@ -87,15 +93,21 @@ fn begin_loop(
     if !stored.ok {
         return fails(set, Error::OutOfMemory);
     }
+    let under = dropped_to(set, found);
+    if passed(from, limit, step) {
+        return turned_to(under, skip_body(text, here, at, name));
+    }
     let back = after(here, ahead);
     let held = Record::counts(stored.slot, limit, step, back);
-    push(dropped_to(set, found), held, Next::On(back))
+    push(under, held, Next::On(back))
 }
 
 // From what follows the limit on.
 fn with_step(
+    text: &[u8],
     line: &[u8],
     here: Place,
+    at: Place,
     name: Telling,
     from: u16,
     limit: u16,
@@ -108,18 +120,20 @@ fn with_step(
     found: Found,
     space: &mut [u8],
 ) -> Turned
-    requires { ⌜ Stepped (now line) follow × (Settled (stateOf machine (now names) (now words) (now labels) (now lengths)) (now space) × FoundBelow (machine .depth) found) ⌝ }
+    requires { ⌜ Stepped (now line) follow × (Settled (stateOf machine (now names) (now words) (now labels) (now lengths)) (now space) × (FoundBelow (machine .depth) found × Lined (now text) (here .0))) ⌝ }
     ensures { λ r. ⌜
-        ((text input room : List ℕ) (by : Formula) (u : Scanned) → Sound (stateOf machine (now (names .entry)) (now (words .entry)) (now (labels .entry)) (now (lengths .entry))) input (now (space .entry)) room → Positioned text (afterOf here u)
+        ((input room : List ℕ) (by : Formula) (u : Scanned) → Sound (stateOf machine (now (names .entry)) (now (words .entry)) (now (labels .entry)) (now (lengths .entry))) input (now (space .entry)) room → Positioned (now (text .entry)) (afterOf here u)
         → stepOf (now (line .entry)) follow ≡ formulas.good by u → (entry : Record)
-        → Turns text (stateOf machine (now (names .entry)) (now (words .entry)) (now (labels .entry)) (now (lengths .entry))) input (now (space .entry)) room (Told text (now (names .entry)) (isLoopOf name) (machine .depth) found entry)
-        (fromStep name (positionOf text (afterOf here u)) by from limit) (turnOf r (now (names .exit)) (now (words .exit)) (now (labels .entry)) (now (lengths .entry))) (now (space .exit)) room)
+        → Turns (now (text .entry)) (stateOf machine (now (names .entry)) (now (words .entry)) (now (labels .entry)) (now (lengths .entry))) input (now (space .entry)) room (Told (now (text .entry)) (now (names .entry)) (isLoopOf name) (machine .depth) found entry)
+        (fromStep name (at .0) (positionOf (now (text .entry)) (afterOf here u)) by from limit) (turnOf r (now (names .exit)) (now (words .exit)) (now (labels .entry)) (now (lengths .entry))) (now (space .exit)) room)
         ⌝ }
 {
     let token = follow.token;
     if !is_keyword(Word::Step, token) {
         return begin_loop(
+            text,
             here,
+            at,
             name,
             from,
             limit,
@@ -137,7 +151,9 @@ fn with_step(
         return fails(machine, mismatch(worked));
     };
     begin_loop(
+        text,
         here,
+        at,
         name,
         from,
         limit,
@@ -152,8 +168,10 @@ fn with_step(
 
 // From the limit on.
 fn with_limit(
+    text: &[u8],
     line: &[u8],
     here: Place,
+    at: Place,
     name: Telling,
     from: u16,
     first: Scanned,
@@ -165,13 +183,13 @@ fn with_limit(
     found: Found,
     space: &mut [u8],
 ) -> Turned
-    requires { ⌜ Limited (now line) first × (Settled (stateOf machine (now names) (now words) (now labels) (now lengths)) (now space) × FoundBelow (machine .depth) found) ⌝ }
+    requires { ⌜ Limited (now line) first × (Settled (stateOf machine (now names) (now words) (now labels) (now lengths)) (now space) × (FoundBelow (machine .depth) found × Lined (now text) (here .0))) ⌝ }
     ensures { λ r. ⌜
-        ((text input room : List ℕ) (to by : Formula) (t u : Scanned) → Sound (stateOf machine (now (names .entry)) (now (words .entry)) (now (labels .entry)) (now (lengths .entry))) input (now (space .entry)) room
-        → Positioned text (afterOf here u) → formulaOf (now (line .entry)) first ≡ formulas.good to t
+        ((input room : List ℕ) (to by : Formula) (t u : Scanned) → Sound (stateOf machine (now (names .entry)) (now (words .entry)) (now (labels .entry)) (now (lengths .entry))) input (now (space .entry)) room
+        → Positioned (now (text .entry)) (afterOf here u) → formulaOf (now (line .entry)) first ≡ formulas.good to t
         → stepOf (now (line .entry)) t ≡ formulas.good by u → (entry : Record)
-        → Turns text (stateOf machine (now (names .entry)) (now (words .entry)) (now (labels .entry)) (now (lengths .entry))) input (now (space .entry)) room (Told text (now (names .entry)) (isLoopOf name) (machine .depth) found entry)
-        (fromLimit name (positionOf text (afterOf here u)) to by from) (turnOf r (now (names .exit)) (now (words .exit)) (now (labels .entry)) (now (lengths .entry))) (now (space .exit)) room)
+        → Turns (now (text .entry)) (stateOf machine (now (names .entry)) (now (words .entry)) (now (labels .entry)) (now (lengths .entry))) input (now (space .entry)) room (Told (now (text .entry)) (now (names .entry)) (isLoopOf name) (machine .depth) found entry)
+        (fromLimit name (at .0) (positionOf (now (text .entry)) (afterOf here u)) to by from) (turnOf r (now (names .exit)) (now (words .exit)) (now (labels .entry)) (now (lengths .entry))) (now (space .exit)) room)
         ⌝ }
 {
     let worked = value(line, first, machine, names, words, labels, lengths, space);
@@ -179,8 +197,10 @@ fn with_limit(
         return fails(machine, mismatch(worked));
     };
     with_step(
+        text,
         line,
         here,
+        at,
         name,
         from,
         limit,
@@ -197,8 +217,10 @@ fn with_limit(
 
 // The name's type is tested first, then start, limit and step as each is worked out.
 pub fn for_loop(
+    text: &[u8],
     line: &[u8],
     here: Place,
+    at: Place,
     name: Name,
     equals: Scanned,
     machine: Machine,
@@ -209,13 +231,13 @@ pub fn for_loop(
     found: Found,
     space: &mut [u8],
 ) -> Turned
-    requires { ⌜ Counts (now line) name equals × (Settled (stateOf machine (now names) (now words) (now labels) (now lengths)) (now space) × FoundBelow (machine .depth) found) ⌝ }
+    requires { ⌜ Counts (now line) name equals × (Settled (stateOf machine (now names) (now words) (now labels) (now lengths)) (now space) × (FoundBelow (machine .depth) found × Lined (now text) (here .0))) ⌝ }
     ensures { λ r. ⌜
-        ((text input room : List ℕ) (at : ℕ) (a b c : Formula) (u : Scanned) → Sound (stateOf machine (now (names .entry)) (now (words .entry)) (now (labels .entry)) (now (lengths .entry))) input (now (space .entry)) room → Positioned text (afterOf here u)
+        ((input room : List ℕ) (a b c : Formula) (u : Scanned) → Sound (stateOf machine (now (names .entry)) (now (words .entry)) (now (labels .entry)) (now (lengths .entry))) input (now (space .entry)) room → Positioned (now (text .entry)) (afterOf here u)
         → forAt (now (line .entry)) (variableOf (now (line .entry)) name) equals ≡ done (tree.for (variableOf (now (line .entry)) name) a b c) u
-        → (entry : Record) → Turns text (stateOf machine (now (names .entry)) (now (words .entry)) (now (labels .entry)) (now (lengths .entry))) input (now (space .entry)) room
-        (Told text (now (names .entry)) (isLoopOf (tellingOf (nameBytes (now (line .entry)) name))) (machine .depth) found entry)
-        (λ n. doStatement text at (tree.for (variableOf (now (line .entry)) name) a b c) n (positionOf text (afterOf here u))) (turnOf r (now (names .exit)) (now (words .exit)) (now (labels .entry)) (now (lengths .entry))) (now (space .exit)) room)
+        → (entry : Record) → Turns (now (text .entry)) (stateOf machine (now (names .entry)) (now (words .entry)) (now (labels .entry)) (now (lengths .entry))) input (now (space .entry)) room
+        (Told (now (text .entry)) (now (names .entry)) (isLoopOf (tellingOf (nameBytes (now (line .entry)) name))) (machine .depth) found entry)
+        (λ n. doStatement (now (text .entry)) (at .0) (tree.for (variableOf (now (line .entry)) name) a b c) n (positionOf (now (text .entry)) (afterOf here u))) (turnOf r (now (names .exit)) (now (words .exit)) (now (labels .entry)) (now (lengths .entry))) (now (space .exit)) room)
         ⌝ }
 {
     let kind = name.kind;
@@ -230,8 +252,10 @@ pub fn for_loop(
     };
     let limit = token_at(line, to.next);
     with_limit(
+        text,
         line,
         here,
+        at,
         telling,
         from,
         limit,

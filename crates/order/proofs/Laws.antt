@@ -144,6 +144,31 @@ module _ (P : Statement → Type 0) where
       every-join StandThroughout (placed ls (beyond at (partsIn ls))) (stands (nextLine ls))
       (placed-throughout ls (beyond at (partsIn ls)) (beyond-throughout at (partsIn ls) (in-throughout ls h))) (next-throughout ls h)
 
+-- ---- and what holds of some lines and of all after each of them holds of the lines of each that stands in them
+
+module _ (P : List Line → Type 0) (after : (l : Line) (ls : List Line) → P (l ∷ ls) → P ls) where
+  placed-lines : (ls : List Line) (ps : List Part) → P ls → Every (λ x. P (x .lines)) (placed ls ps)
+  unfolding placed
+  placed-lines ls [] h = tt
+  placed-lines ls (p ∷ ps) h = (h, placed-lines ls ps h)
+
+  stands-lines : (ls : List Line) → P ls → Every (λ x. P (x .lines)) (stands ls)
+  unfolding stands
+  stands-lines [] h = tt
+  stands-lines (l ∷ ls) h =
+      every-join (λ x. P (x .lines)) (standsIn (l ∷ ls)) (stands ls) (placed-lines (l ∷ ls) (partsIn (l ∷ ls)) h) (stands-lines ls (after l ls h))
+
+  next-lines : (ls : List Line) → P ls → Every (λ x. P (x .lines)) (stands (nextLine ls))
+  unfolding stands
+  next-lines [] h = tt
+  next-lines (l ∷ ls) h = stands-lines ls (after l ls h)
+
+  pub later-lines : (at : ℕ) (ls : List Line) → P ls → Every (λ x. P (x .lines)) (later at ls)
+  unfolding later
+  later-lines at ls h =
+      every-join (λ x. P (x .lines)) (placed ls (beyond at (partsIn ls))) (stands (nextLine ls))
+      (placed-lines ls (beyond at (partsIn ls)) h) (next-lines ls h)
+
 -- ---- a partner is one of the statements searched
 
 one-by : (P : Stand → Type 0) (y x : Stand) (go : ℕ → Partner) → P y → ((n : ℕ) → go n ≡ some x → P x) → (b : Bracket) (k : ℕ)
@@ -159,6 +184,21 @@ module _ (P : Stand → Type 0) (test : Statement → Bracket) where
   partner-one k [] a x e = never (cc)
   partner-one k (y ∷ ys) a x e =
       one-by P y x (λ n. partner test n ys) (a .0) (λ n f. partner-one n ys (a .1) x f) (test (headOf (y .part))) k e
+
+-- and closes
+
+closes-by : (test : Statement → Bracket) (y x : Stand) (go : ℕ → Partner) → ((n : ℕ) → go n ≡ some x → test (headOf (x .part)) ≡ Closes)
+    → (b : Bracket) (k : ℕ) → test (headOf (y .part)) ≡ b → paired b k y go ≡ some x → test (headOf (x .part)) ≡ Closes
+closes-by test y x go others Opens k b e = others (suc k) e
+closes-by test y x go others Closes zero b e = let f : y ≡ x = cc in rw (← f) b
+closes-by test y x go others Closes (suc k) b e = others k e
+closes-by test y x go others Neither k b e = others k e
+
+pub partner-closes : (test : Statement → Bracket) (k : ℕ) (xs : List Stand) (x : Stand) → partner test k xs ≡ some x → test (headOf (x .part)) ≡ Closes
+unfolding partner
+partner-closes test k [] x e = never (cc)
+partner-closes test k (y ∷ ys) x e =
+    closes-by test y x (λ n. partner test n ys) (λ n f. partner-closes test n ys x f) (test (headOf (y .part))) k refl e
 
 -- ---- pairs nest
 

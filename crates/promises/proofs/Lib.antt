@@ -1,4 +1,5 @@
 pub mod Records
+pub mod Loops
 pub mod Numbers
 pub mod Limits
 pub mod Fourteen

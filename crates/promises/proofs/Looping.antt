@@ -27,12 +27,14 @@ use Rattle.variables.specs.Variables.{NumberVariable, wordOf, setNumber, hasNum
 use Rattle.operators.specs.Values.{valueOf}
 use Rattle.machine.specs.Machine.{Position, Record, loop, call, Machine, mostRecords, fresh, roomOf, withStep, noting, write, commaBlanks, isCall, isLoop, isLoopOf, Search, missing, found, sought, passed, longestInputLine}
 use Rattle.statements.specs.Parts.{Rest, nothing, part, headOf, tailOf, placeOf}
-use Rattle.turns.specs.Steps.{Next, goesOn, enters, ends, stops, fails, wholeOnly, worked, workedWhole, withNumber, storeNumber, storeString, assigned, written, printItems, toLine, pushed, returned, cleared, begun, turned, nextOn, takeLine, filled, inputLine, isWholeKind, doStatement}
+use Rattle.order.specs.Order.{Partner, none, some, nextFor}
+use Rattle.turns.specs.Steps.{Next, goesOn, enters, ends, stops, fails, wholeOnly, worked, workedWhole, withNumber, storeNumber, storeString, assigned, written, printItems, toLine, pushed, returned, cleared, begun, turned, nextOn, takeLine, filled, inputLine, isWholeKind, doStatement, namesOther, skipped}
 use Rattle.runner.specs.Run.{lineNumberOf, Entered, over, faulty, opened, enter, Standing, finished, at, byEntered, entering, onward, following, turn}
 use Rattle.promises.specs.Passing.{standsAfter, isNext, lacksRoom, nextHasRoom}
 use Rattle.promises.proofs.Checked.Operators.{by-choice}
 use Rattle.promises.proofs.Records as records
 use Rattle.promises.proofs.Records.{sought-each, below-each}
+use Rattle.promises.proofs.Loops.{looped}
 
 -- ---- variables
 
@@ -148,11 +150,17 @@ returned-made : (m : Machine) (s : Search) → SearchMade (m .variables .numbers
 returned-made m missing h = tt
 returned-made m (found r under) h = h .1
 
-begun-made : (name : Telling) (after : Position) (start limit step : ℕ) → Continues (begun name after start limit step)
-begun-made name after start limit step m r =
-    number-stored m name start (λ n. pushed (cleared name n) (loop name limit step after) (λ o. goesOn o after)) r
-    (λ n q h. pushed-made (cleared name n) (loop name limit step after) (λ o. goesOn o after)
-    (below-each (RecordMade (n .variables .numbers)) (isLoopOf name) (n .records) q) h (λ o s. s))
+skipped-made : (name : Telling) (s : Partner) → Continues (skipped name s)
+skipped-made name none m r = tt
+skipped-made name (some x) m r = by-choice NextMade (namesOther name (headOf (x .part))) tt r
+
+begun-made : (name : Telling) (place : ℕ) (after : Position) (start limit step : ℕ) → Continues (begun name place after start limit step)
+begun-made name place after start limit step m r =
+    number-stored m name start (looped name place after start limit step) r (λ n q h.
+    let clear = below-each (RecordMade (n .variables .numbers)) (isLoopOf name) (n .records) q in
+    by-choice NextMade (passed start limit step)
+    (skipped-made name (nextFor place (after .lines)) (cleared name n) clear)
+    (pushed-made (cleared name n) (loop name limit step after) (λ o. goesOn o after) clear h (λ o s. s)))
 
 turned-made : (m : Machine) (v : Telling) (limit step : ℕ) (back : Position) (under : List Record) (after : Position) (a : Answer)
     → RecordsMade (m .variables .numbers) under → NextMade (turned m v limit step back under after a)
@@ -201,7 +209,7 @@ statement-made program place (tree.for v from to by) m after r =
     (whole-worked from m _ r λ a n rn.
     whole-worked to n _ rn λ b o ro.
     whole-worked by o _ ro λ s q rq.
-    begun-made (v .telling) after a b s q rq)
+    begun-made (v .telling) place after a b s q rq)
     tt
 statement-made program place tree.next m after r = next-made isLoop m after r
 statement-made program place (tree.nextOf v) m after r =

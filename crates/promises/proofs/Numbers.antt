@@ -22,6 +22,7 @@ use Rattle.whole.specs.declared.errors.Error.the-variants.{
   StringTooLong,
   FormulaTooComplex,
   LineBufferOverflow,
+  ForWithoutNext,
   InputPastEnd,
   OutputFull,
 }
@@ -67,7 +68,8 @@ errorOf n =
     (cond (eqb n 15) StringTooLong
     (cond (eqb n 16) FormulaTooComplex
     (cond (eqb n 23) LineBufferOverflow
-    (cond (eqb n 62) InputPastEnd OutputFull)))))))))))))
+    (cond (eqb n 26) ForWithoutNext
+    (cond (eqb n 62) InputPastEnd OutputFull))))))))))))))
 
 error-back : (e : Error) → errorOf (errorNumber e) ≡ e
 unfolding errorOf
@@ -84,6 +86,7 @@ error-back OutOfStringSpace = refl
 error-back StringTooLong = refl
 error-back FormulaTooComplex = refl
 error-back LineBufferOverflow = refl
+error-back ForWithoutNext = refl
 error-back InputPastEnd = refl
 error-back OutputFull = refl
 
@@ -104,6 +107,7 @@ error-some OutOfStringSpace = omega arith
 error-some StringTooLong = omega arith
 error-some FormulaTooComplex = omega arith
 error-some LineBufferOverflow = omega arith
+error-some ForWithoutNext = omega arith
 error-some InputPastEnd = omega arith
 error-some OutputFull = omega arith
 

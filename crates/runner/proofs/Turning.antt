@@ -95,7 +95,7 @@ module _ {text : List ℕ} {span : LineSpan} {at : Place} (w : Stood text span a
   pub stood-line : Standing text (lineIn text span) (span .place)
   stood-line =
       let t = stood-told in
-      record { short = rw (t .body) (t .short); begins = w .begins; is = t .body }
+      record { loads = w .loads; short = rw (t .body) (t .short); begins = w .begins; is = t .body }
 
   stood-reads : partOf (lineIn text span) true (at .0) ≡ goodPart (w .reads .of) (w .reads .end)
   stood-reads = rw (stood-told .body) (w .reads .is)

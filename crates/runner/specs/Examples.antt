@@ -1,4 +1,4 @@
--- Document 01's worked examples, computed by the checker.
+-- Document 01's worked examples, and loops that are skipped, computed by the checker.
 use mathlib.Core.Path.{_≡_, refl}
 use mathlib.Core.List.{List, [], _∷_, map}
 use Prim.Native.Nat.{ℕ}
@@ -7,7 +7,7 @@ use Rattle.whole.specs.Bytes.{bytes, leading}
 use Rattle.whole.specs.Digits.{isDigit, valueFrom, signedValue}
 use Rattle.whole.specs.Whole.{num, fit}
 use Rattle.whole.specs.Texts.{places, trimmed, digitByte, numeral, signedNumeral}
-use Rattle.whole.specs.declared.errors.Error.the-variants.{Overflow, OutOfStringSpace}
+use Rattle.whole.specs.declared.errors.Error.the-variants.{NextWithoutFor, Overflow, OutOfStringSpace, ForWithoutNext}
 use Rattle.words.specs.Spellings.{sameBytes, meaning}
 use Rattle.words.specs.Classes.{capitalOf, isLetter, isHex, hexDigit, signs, pairs, classOf}
 use Rattle.words.specs.Vocabulary.{reserved}
@@ -26,6 +26,7 @@ use Rattle.variables.specs.Variables.{wordOf, bytesOf, stringBytes, hasNumber, 
 use Rattle.strings.specs.Functions.{argument, startsWith, found, placeOf}
 use Rattle.operators.specs.Values.{isBefore, wantAt, valueOf, valuesOf}
 use Rattle.machine.specs.Machine.{Lent, columnAfter, write, sought, passed}
+use Rattle.order.specs.Order.{beyond, placed, stands, later, partner}
 use Rattle.turns.specs.Steps.{printItems}
 use Rattle.runner.specs.Run.{Ran, enter, running, runOf}
 use Rattle.runner.specs.declared.running.Outcome.{Outcome}
@@ -79,6 +80,27 @@ examples =
 pub examples-hold : map (λ (e : Example). summed (runOf (bytes (e .recipe)) [] (lending (e .space)) 1000)) examples ≡ map (λ (e : Example). e .run) examples
 unfolding examples bytes leading isDigit valueFrom sameBytes meaning capitalOf isLetter isHex hexDigit signs pairs classOf reserved tellingOf markOf wordToken numberToken hexFrom hexToken textToken signToken tokenAt linesFrom numberOf isPlain numbered judged loadLines loadOf formFor anyFor countOf formulaAt climbAt operandAt argumentsAt formulaOf depthOf deepestOf itemsAt printAt forAt inputAt begunAt partAt readLine deepest partsOf heads deepestIn signedValue num fit places trimmed digitByte numeral signedNumeral fromNumber make letGo letAllGo produced wordOf bytesOf stringBytes argument startsWith found placeOf isBefore wantAt valueOf valuesOf hasNumber hasString setNumber setString columnAfter write printItems sought passed enter running runOf joinedStrings
 examples-hold = refl
+
+-- a FOR whose start is past its limit (document 02, M-102)
+pub skippedLoops : List Example
+skippedLoops =
+    example "10 FOR I=1 TO 0\n20 PRINT \"PULSE\"\n30 NEXT I\n40 PRINT I" 0 Ended " 1 \r\n" 2 ""
+    -- an inner FOR is paired first, whatever its NEXT names
+    ∷ example "10 FOR I=1 TO 0:FOR J=1 TO 9:NEXT K:NEXT:PRINT 5" 0 Ended " 5 \r\n" 2 ""
+    -- branches count, and a line that does not read is passed over
+    ∷ example "10 FOR I=1 TO 0\n20 NEXT)\n30 IF A THEN NEXT I ELSE NEXT" 0 Ended "" 1 ""
+    ∷ example "10 FOR I=1 TO 0" 0 (Failed ForWithoutNext (lineNumber 10)) "" 1 ""
+    ∷ example "10 FOR I=1 TO 0:NEXT J" 0 (Failed NextWithoutFor (lineNumber 10)) "" 1 ""
+    ∷ example "10 FOR I=1 TO 0:NEXT I$" 0 (Failed NextWithoutFor (lineNumber 10)) "" 1 ""
+    -- a start that is the limit is not past it, and step 0 never is
+    ∷ example "10 FOR I=5 TO 5 STEP -1:PRINT I:NEXT" 0 Ended " 5 \r\n" 3 ""
+    ∷ example "10 FOR I=2 TO 1 STEP 0:PRINT I" 0 Ended " 2 \r\n" 2 ""
+    ∷ []
+
+pub skipped-loops-hold : map (λ (e : Example). summed (runOf (bytes (e .recipe)) [] (lending (e .space)) 1000)) skippedLoops
+    ≡ map (λ (e : Example). e .run) skippedLoops
+unfolding skippedLoops bytes leading isDigit valueFrom sameBytes meaning capitalOf isLetter isHex hexDigit signs pairs classOf reserved tellingOf markOf wordToken numberToken hexFrom hexToken textToken signToken tokenAt linesFrom numberOf isPlain numbered judged loadLines loadOf formFor anyFor countOf formulaAt climbAt operandAt argumentsAt formulaOf depthOf deepestOf itemsAt printAt forAt inputAt begunAt partAt readLine deepest partsOf heads deepestIn signedValue num fit places trimmed digitByte numeral signedNumeral fromNumber make letGo letAllGo produced wordOf bytesOf stringBytes argument startsWith found placeOf isBefore wantAt valueOf valuesOf hasNumber hasString setNumber setString columnAfter write printItems sought passed enter running runOf joinedStrings beyond placed stands later partner
+skipped-loops-hold = refl
 
 -- eight functions in one another, a comparison and a `+` waiting at each: 28 unfinished strings, the most that there can be
 pub nested : String

@@ -113,8 +113,10 @@ pub fn do_statement(
             Word::Gosub => call(rows, line, here, from, machine),
             Word::Return => come_back(machine, found, entry),
             Word::For => count(
+                text,
                 line,
                 here,
+                at,
                 from,
                 machine,
                 names,

@@ -1,5 +1,5 @@
 -- What each statement does, in the order of the paper's tests. `after` is where the run goes on after the statement.
-use mathlib.Core.Bool.{Bool, true, false, cond}
+use mathlib.Core.Bool.{Bool, true, false, cond, not}
 use mathlib.Core.List.{List, [], _∷_}
 use Prim.Native.Nat.{ℕ, _+_, _-_}
 use lib.Dec.{ltb, leb, eqb}
@@ -17,9 +17,11 @@ use Rattle.whole.specs.declared.errors.Error.the-variants.{
   UndefinedLine,
   TypeMismatch,
   LineBufferOverflow,
+  ForWithoutNext,
   InputPastEnd,
   OutputFull,
 }
+use Rattle.words.specs.Names.{alike}
 use Rattle.words.specs.declared.names.Kind.{Kind}
 use Rattle.words.specs.declared.names.Kind.the-variants as kind
 use Rattle.words.specs.declared.names.Telling.{Telling}
@@ -30,7 +32,8 @@ use Rattle.variables.specs.Strings.{Value, whole, text, Outcome, value, fault, 
 use Rattle.variables.specs.Variables.{wordOf, setNumber, setString, numbersFull, stringsFull}
 use Rattle.operators.specs.Values.{valueOf}
 use Rattle.machine.specs.Machine.{Position, Record, loop, call, Machine, mostRecords, roomOf, withVariables, withRecords, withInput, noting, Printed, full, printed, write, commaBlanks, isCall, isLoop, isLoopOf, backOf, Search, missing, found, sought, below, passed, longestInputLine}
-use Rattle.statements.specs.Parts.{nothing, part}
+use Rattle.order.specs.Order.{Partner, none, some, past, nextFor}
+use Rattle.statements.specs.Parts.{nothing, part, headOf}
 
 -- what a statement comes to: the run goes on at a place, or at a line's start, or it ends
 pub data Next : Type 0 where
@@ -52,6 +55,10 @@ wholeOnly (text b) m go = fails TypeMismatch m
 
 abbrev pub workedWhole : Formula → Machine → (ℕ → Machine → Next) → Next
 workedWhole f m go = worked m (valueOf f (m .variables) (roomOf m)) (λ v n. wholeOnly v n (λ w. go w n))
+
+abbrev pub isWholeKind : Kind → Bool
+isWholeKind kind.Whole = true
+isWholeKind kind.Text = false
 
 -- ---- assignment: the type is tested after the formula, then room for a new variable
 
@@ -117,20 +124,47 @@ returned m (found r under) = goesOn (withRecords m under) (backOf r)
 abbrev pub cleared : Telling → Machine → Machine
 cleared name m = withRecords m (below (m .records) (sought (isLoopOf name) (m .records)))
 
--- FOR with its start, limit and step: the variable is stored, an older loop of it is dropped, and a record is made
-abbrev pub begun : Telling → Position → ℕ → ℕ → ℕ → Machine → Next
-begun name after start limit step m =
-    storeNumber m name start (λ n. pushed (cleared name n) (loop name limit step after) (λ o. goesOn o after))
+-- whether a NEXT names another variable than this one; a string is another
+abbrev pub namesOther : Telling → Statement → Bool
+namesOther name tree.empty = false
+namesOther name (tree.assign v f) = false
+namesOther name (tree.print is) = false
+namesOther name (tree.ifThen c p) = false
+namesOther name (tree.ifElse c p q) = false
+namesOther name (tree.goto l) = false
+namesOther name (tree.gosub l) = false
+namesOther name tree.return = false
+namesOther name (tree.for v from to by) = false
+namesOther name tree.next = false
+namesOther name (tree.nextOf v) = cond (isWholeKind (v .kind)) (not (alike (v .telling) name)) true
+namesOther name (tree.lineInput t v) = false
+namesOther name tree.end = false
+namesOther name tree.stop = false
+namesOther name tree.remark = false
+
+-- a body is skipped: the run goes on after the loop's NEXT; none is 26, one that names another variable is 1
+abbrev pub skipped : Telling → Partner → Machine → Next
+skipped name none m = fails ForWithoutNext m
+skipped name (some s) m = cond (namesOther name (headOf (s .part))) (fails NextWithoutFor m) (goesOn m (past s))
+
+-- FOR at a place of its line with its start, limit and step: the variable is stored, and an older loop of it is dropped; then the body is
+-- skipped if the start is already past the limit in the step's direction, or a record is made
+abbrev pub begun : Telling → ℕ → Position → ℕ → ℕ → ℕ → Machine → Next
+begun name at after start limit step m =
+    storeNumber m name start (λ n.
+    cond (passed start limit step)
+    (skipped name (nextFor at (after .lines)) (cleared name n))
+    (pushed (cleared name n) (loop name limit step after) (λ o. goesOn o after)))
 
 -- these are worked out one after another: FOR from its step on, from its limit on, and from its start on
-abbrev pub fromStep : Telling → Position → Formula → ℕ → ℕ → Machine → Next
-fromStep name after by start limit m = workedWhole by m (λ w n. begun name after start limit w n)
+abbrev pub fromStep : Telling → ℕ → Position → Formula → ℕ → ℕ → Machine → Next
+fromStep name at after by start limit m = workedWhole by m (λ w n. begun name at after start limit w n)
 
-abbrev pub fromLimit : Telling → Position → Formula → Formula → ℕ → Machine → Next
-fromLimit name after to by start m = workedWhole to m (λ w n. fromStep name after by start w n)
+abbrev pub fromLimit : Telling → ℕ → Position → Formula → Formula → ℕ → Machine → Next
+fromLimit name at after to by start m = workedWhole to m (λ w n. fromStep name at after by start w n)
 
-abbrev pub fromStart : Telling → Position → Formula → Formula → Formula → Machine → Next
-fromStart name after from to by m = workedWhole from m (λ w n. fromLimit name after to by w n)
+abbrev pub fromStart : Telling → ℕ → Position → Formula → Formula → Formula → Machine → Next
+fromStart name at after from to by m = workedWhole from m (λ w n. fromLimit name at after to by w n)
 
 -- one turn more, or the loop ends; the variable, which its FOR has made, is stored as an assignment stores it
 abbrev pub turned : Machine → Telling → ℕ → ℕ → Position → List Record → Position → Answer → Next
@@ -180,10 +214,6 @@ inputLine (b ∷ s) m v go = lineTaken m v (takeLine (b ∷ s)) go
 
 -- ---- all statements
 
-abbrev pub isWholeKind : Kind → Bool
-isWholeKind kind.Whole = true
-isWholeKind kind.Text = false
-
 -- a part of an IF is entered on the same line
 abbrev pub branch : Machine → List Line → Part → Next
 branch m lines p = goesOn m (record { lines = lines; rest = part p })
@@ -192,7 +222,7 @@ branch m lines p = goesOn m (record { lines = lines; rest = part p })
 abbrev pub lineOver : Machine → List Line → Next
 lineOver m lines = goesOn m (record { lines = lines; rest = nothing })
 
--- what a statement of a program does that stands at a place of its line; what those of the paper do hangs on no place
+-- what a statement of a program does that stands at a place of its line
 abbrev pub doStatement : List ℕ → ℕ → Statement → Machine → Position → Next
 doStatement program at tree.empty m after = goesOn m after
 doStatement program at (tree.assign v f) m after =
@@ -207,7 +237,7 @@ doStatement program at (tree.gosub l) m after =
     toLine m (fromNumber (l .0) (linesOf program)) (λ ls. pushed m (call after) (λ n. enters n ls))
 doStatement program at tree.return m after = returned m (sought isCall (m .records))
 doStatement program at (tree.for v from to by) m after =
-    cond (isWholeKind (v .kind)) (fromStart (v .telling) after from to by m) (fails TypeMismatch m)
+    cond (isWholeKind (v .kind)) (fromStart (v .telling) at after from to by m) (fails TypeMismatch m)
 doStatement program at tree.next m after = nextOn m (sought isLoop (m .records)) after
 doStatement program at (tree.nextOf v) m after =
     cond (isWholeKind (v .kind)) (nextOn m (sought (isLoopOf (v .telling)) (m .records)) after) (fails TypeMismatch m)

@@ -15,6 +15,7 @@ use Rattle.whole.specs.declared.errors.Error.the-variants.{
   StringTooLong,
   FormulaTooComplex,
   LineBufferOverflow,
+  ForWithoutNext,
   InputPastEnd,
   OutputFull,
 }
@@ -33,5 +34,6 @@ errorNumber OutOfStringSpace = 14
 errorNumber StringTooLong = 15
 errorNumber FormulaTooComplex = 16
 errorNumber LineBufferOverflow = 23
+errorNumber ForWithoutNext = 26
 errorNumber InputPastEnd = 62
 errorNumber OutputFull = 110

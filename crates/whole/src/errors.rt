@@ -16,6 +16,7 @@ pub enum Error {
     StringTooLong,
     FormulaTooComplex,
     LineBufferOverflow,
+    ForWithoutNext,
     InputPastEnd,
     OutputFull,
 }
@@ -38,6 +39,7 @@ pub fn number_of(error: Error) -> u8
         Error::StringTooLong => 15,
         Error::FormulaTooComplex => 16,
         Error::LineBufferOverflow => 23,
+        Error::ForWithoutNext => 26,
         Error::InputPastEnd => 62,
         Error::OutputFull => 110,
     }

@@ -23,7 +23,7 @@ use Rattle.statements.specs.Statements.{done, variableOf, forAt}
 use Rattle.reader.specs.declared.branches.Start.{Start}
 use Rattle.reader.specs.declared.branches.Start.the-variants as branch
 use Rattle.formulas.specs.bridge.Memory.{Scans}
-use Rattle.machine.specs.Machine.{mostRecords}
+use Rattle.machine.specs.Machine.{mostRecords, passed}
 use Rattle.machine.specs.Machine as spec
 use Rattle.machine.specs.bridge.Holding.{loopRecord, State}
 use Rattle.machine.specs.declared.positions.Position.{Position}
@@ -64,12 +64,13 @@ abbrev pub droppedTo : State → Found → State
 droppedTo m (found.At i) = withDepth m i
 droppedTo m found.None = m
 
--- the variable is set, an older loop of it is dropped, then a record is made
-abbrev pub loopTurn : State → Telling → ℕ → ℕ → ℕ → Position → Found → Turn
-loopTurn m name from limit step back f =
+-- the variable is set, an older loop of it is dropped, then the body is skipped or a record is made
+abbrev pub loopTurn : State → Telling → ℕ → ℕ → ℕ → Position → Found → Next → Turn
+loopTurn m name from limit step back f skip =
     let set = numberSet m name from in
+    let under = droppedTo (set .state) f in
     cond (set .ok)
-    (pushedTurn (droppedTo (set .state) f) (loopRecord (set .slot) limit step back) (next.On back))
+    (cond (passed from limit step) (turnedTo under skip) (pushedTurn under (loopRecord (set .slot) limit step back) (next.On back)))
     (turnedTo (set .state) (next.Fails OutOfMemory))
 
 -- ---- NEXT

@@ -15,6 +15,7 @@ use Rattle.checker.specs.declared.checking.Soundness.the-variants.{Sound, Fault
 use Rattle.checker.specs.declared.checking.Verdict.{Verdict}
 use Rattle.checker.specs.declared.checking.Verdict.the-variants.{Passed}
 use Rattle.machine.specs.Machine.{Position, Record, backOf}
+use Rattle.order.proofs.Laws.{Every, every-front, every-back, LinesThroughout}
 use Rattle.runner.specs.Run.{Entered, over, faulty, opened, judgedLine, enter}
 use Rattle.promises.proofs.Records as records
 use Rattle.promises.proofs.Checked.Operators.{Allowed}
@@ -35,8 +36,7 @@ module _ (all : List Line) where
     pub named : missing all (namedLine x) ≡ false
 
   abbrev pub AllChecked : List Statement → Type 0
-  AllChecked [] = Unit {0}
-  AllChecked (x ∷ xs) = Checked x × AllChecked xs
+  AllChecked xs = Every Checked xs
 
   -- of a part, with all branches
   abbrev pub PartChecked : Part → Type 0
@@ -50,12 +50,9 @@ module _ (all : List Line) where
       let named = neither (missing all (namedLine x)) (anyMissing all xs) n in
       (record { typed = typed .0; named = named .0 }, all-checked xs (typed .1) (named .1))
 
-  checked-apart : (xs ys : List Statement) → AllChecked (xs ++ ys) → AllChecked xs × AllChecked ys
-  checked-apart [] ys h = (tt, h)
-  checked-apart (x ∷ xs) ys h = let t = checked-apart xs ys (h .1) in ((h .0, t .0), t .1)
-
   pub parts-apart : (xs ys : List Part) → AllChecked (heads (xs ++ ys)) → AllChecked (heads xs) × AllChecked (heads ys)
-  parts-apart xs ys h = checked-apart (heads xs) (heads ys) (rw (heads-append xs ys) at h)
+  parts-apart xs ys h =
+      let k = rw (heads-append xs ys) at h in (every-front Checked (heads xs) (heads ys) k, every-back Checked (heads xs) (heads ys) k)
 
   -- ---- places
 
@@ -112,6 +109,10 @@ module _ (all : List Line) where
       (λ n. let f = rw (t, n) at e in never (cc))
       (λ n. all-checked xs t n))
       (λ t. let f = rw t at e in never (cc))
+
+  pub lines-throughout : (ls : List Line) → LinesChecked ls → LinesThroughout Checked ls
+  lines-throughout [] h = tt
+  lines-throughout (l ∷ ls) h = (λ p e. rw e at (sound-reads (judgement (afterNumber l)) (h .0)), lines-throughout ls (h .1))
 
   pub enter-checked : (ls : List Line) → LinesChecked ls → EnteredChecked (enter ls)
   unfolding enter

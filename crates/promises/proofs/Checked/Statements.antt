@@ -13,12 +13,13 @@ use Rattle.whole.specs.declared.arithmetic.Operator.the-variants.{Add}
 use Rattle.words.specs.declared.names.Kind.{Kind}
 use Rattle.words.specs.declared.names.Kind.the-variants as kind
 use Rattle.words.specs.declared.names.Telling.{Telling}
+use Rattle.words.specs.declared.symbols.Word.the-variants as word
 use Rattle.words.proofs.Choices.{by-test, both}
 use Rattle.loader.specs.Lines.{Line, linesOf, numberOf, has, fromNumber}
 use Rattle.grammar.specs.Trees as tree
 use Rattle.grammar.specs.Trees.{Formula, Variable, Item, Statement}
 use Rattle.expressions.specs.Types.{sortOf, isWhole, isText, isSome, isOf}
-use Rattle.statements.specs.Parts.{itemFormulas, isNumber, allSome, rightlyTyped, partsOf, partsWithin, heads}
+use Rattle.statements.specs.Parts.{itemFormulas, isNumber, allSome, rightlyTyped, partsOf, partsWithin, heads, headOf}
 use Rattle.expressions.specs.declared.sorts.Sort.{Sort}
 use Rattle.expressions.specs.declared.sorts.Sort.the-variants.{Whole, Text, Wrong}
 use Rattle.checker.specs.Check.{present}
@@ -26,12 +27,15 @@ use Rattle.variables.specs.Strings.{Value, whole, text, Outcome, value, fault, 
 use Rattle.variables.specs.Variables.{wordOf, numbersFull, stringsFull}
 use Rattle.operators.specs.Values.{valueOf}
 use Rattle.machine.specs.Machine.{Position, Record, loop, call, Machine, mostRecords, roomOf, noting, write, commaBlanks, isCall, isLoop, isLoopOf, Search, missing, found, sought, passed, longestInputLine}
-use Rattle.turns.specs.Steps.{Next, goesOn, enters, ends, stops, fails, worked, workedWhole, storeNumber, storeString, assigned, written, printItems, toLine, pushed, returned, cleared, begun, turned, nextOn, takeLine, filled, inputLine, isWholeKind, doStatement}
+use Rattle.order.specs.Order.{Stand, later, past, Partner, none, some, pairsBy, nextFor}
+use Rattle.order.proofs.Laws.{later-throughout, later-lines, StandThroughout, partner-one}
+use Rattle.turns.specs.Steps.{Next, goesOn, enters, ends, stops, fails, worked, workedWhole, storeNumber, storeString, assigned, written, printItems, toLine, pushed, returned, cleared, begun, turned, nextOn, takeLine, filled, inputLine, isWholeKind, doStatement, namesOther, skipped}
 use Rattle.promises.proofs.Records as records
 use Rattle.promises.proofs.Records.{sought-each, below-each}
 use Rattle.promises.proofs.Checked.Operators.{by-choice, Allowed, Answers, applied-answers, Fits, make-fits}
 use Rattle.promises.proofs.Checked.Formulas.{formula-fits}
-use Rattle.promises.proofs.Checked.Lines.{Checked, AllChecked, PartChecked, parts-apart, LinesChecked, PositionChecked, RecordChecked, RecordsChecked}
+use Rattle.promises.proofs.Checked.Lines.{Checked, AllChecked, PartChecked, parts-apart, part-apart, lines-throughout, LinesChecked, PositionChecked, RecordChecked, RecordsChecked}
+use Rattle.promises.proofs.Loops.{looped}
 
 -- ---- formulas of the type that a statement wants
 
@@ -151,12 +155,28 @@ module _ (all : List Line) where
 
   -- ---- FOR and NEXT
 
-  begun-checked : (name : Telling) (after : Position) (start limit step : ℕ) → PositionChecked all after
-      → Continues (begun name after start limit step)
-  begun-checked name after start limit step p m r =
-      number-stored m name start (λ n. pushed (cleared name n) (loop name limit step after) (λ o. goesOn o after)) r
-      (λ n q. pushed-checked (cleared name n) (loop name limit step after) (λ o. goesOn o after)
-      (below-each (RecordChecked all) (isLoopOf name) (n .records) q) p (goes-on after p))
+  -- where the run goes on after the NEXT of a FOR
+  past-checked : (at : ℕ) (lines : List Line) → LinesChecked all lines → (x : Stand) → nextFor at lines ≡ some x → PositionChecked all (past x)
+  past-checked at lines h x e =
+      let test = pairsBy word.For word.Next in (
+        partner-one (λ y. LinesChecked all (y .lines)) test 0 (later at lines) (later-lines (LinesChecked all) (λ l ls k. k .1) at lines h) x e,
+        part-apart all (x .part)
+            (partner-one (StandThroughout (Checked all)) test 0 (later at lines)
+            (later-throughout (Checked all) at lines (lines-throughout all lines h)) x e) .2,
+      )
+
+  skipped-checked : (name : Telling) (s : Partner) → ((x : Stand) → s ≡ some x → PositionChecked all (past x)) → Continues (skipped name s)
+  skipped-checked name none h m r = refl
+  skipped-checked name (some x) h m r = by-choice NextChecked (namesOther name (headOf (x .part))) refl (r, h x refl)
+
+  begun-checked : (name : Telling) (at : ℕ) (after : Position) (start limit step : ℕ) → PositionChecked all after
+      → Continues (begun name at after start limit step)
+  begun-checked name at after start limit step p m r =
+      number-stored m name start (looped name at after start limit step) r (λ n q.
+      let clear = below-each (RecordChecked all) (isLoopOf name) (n .records) q in
+      by-choice NextChecked (passed start limit step)
+      (skipped-checked name (nextFor at (after .lines)) (past-checked at (after .lines) (p .0)) (cleared name n) clear)
+      (pushed-checked (cleared name n) (loop name limit step after) (λ o. goesOn o after) clear p (goes-on after p)))
 
   turned-checked : (m : Machine) (v : Telling) (limit step : ℕ) (back : Position) (under : List Record) (after : Position) (a : Answer)
       → PositionChecked all back → RecordsChecked all under → PositionChecked all after → Answers a
@@ -214,7 +234,7 @@ module _ (program : List ℕ) (lines : LinesChecked (linesOf program) (linesOf p
       (whole-worked all from m _ (u .0) r λ a n rn.
       whole-worked all to n _ (w .0) rn λ b o ro.
       whole-worked all by o _ (w .1) ro λ s q rq.
-      begun-checked all (v .telling) after a b s p q rq)
+      begun-checked all (v .telling) at after a b s p q rq)
 
   pub statement-checked : (at : ℕ) (x : Statement) (m : Machine) (after : Position) → Checked all x → AllChecked all (heads (partsWithin x))
       → MachineChecked all m → PositionChecked all after → NextChecked all (doStatement program at x m after)

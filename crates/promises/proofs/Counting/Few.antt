@@ -23,7 +23,8 @@ use Rattle.promises.specs.Requests.{atOnce}
 use Rattle.promises.proofs.Waiting.Needs.{waitBefore, needs, needsOf, left-strings, values-good}
 use Rattle.promises.proofs.Waiting.Nesting.{Fine, needs-few}
 use Rattle.promises.proofs.Waiting.Reading.{Each}
-use Rattle.promises.proofs.Waiting.Runs.{StandingFine, head-fine, turn-fine}
+use Rattle.promises.proofs.Waiting.Turns.{head-fine}
+use Rattle.promises.proofs.Waiting.Runs.{StandingFine, turn-fine}
 
 -- ---- the strings among values that wait
 

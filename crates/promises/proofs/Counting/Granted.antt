@@ -91,15 +91,15 @@ module _ (exact : LiveIsExact) where
       rw t
       (whole-notes (counts k) from m _ (counted from m k d h) (λ a room e q.
       whole-keeps (P k) (kept k) to (noting m room) _ q (λ b o r.
-      whole-keeps (P k) (kept k) by o _ r (λ s x y. begun-keeps (P k) (kept k .changes) (v .telling) after a b s x y))))
+      whole-keeps (P k) (kept k) by o _ r (λ s x y. begun-keeps (P k) (kept k .changes) (v .telling) place after a b s x y))))
   statement-counts program place (tree.for v from to by) m after k (asks.limited {a = a} {room = room} t e d) h =
       rw (t, e)
       (whole-notes (counts k) to (noting m room) _ (counted to (noting m room) k d h) (λ b next f q.
-      whole-keeps (P k) (kept k) by (noting m next) _ q (λ s x y. begun-keeps (P k) (kept k .changes) (v .telling) after a b s x y)))
+      whole-keeps (P k) (kept k) by (noting m next) _ q (λ s x y. begun-keeps (P k) (kept k .changes) (v .telling) place after a b s x y)))
   statement-counts program place (tree.for v from to by) m after k (asks.stepped {a = a} {b = b} {next = next} t e c d) h =
       rw (t, e, c)
       (whole-notes (counts k) by (noting m next) _ (counted by (noting m next) k d h) (λ s last f q.
-      begun-keeps (P k) (kept k .changes) (v .telling) after a b s (noting m last) q))
+      begun-keeps (P k) (kept k .changes) (v .telling) place after a b s (noting m last) q))
   statement-counts program place (tree.lineInput t v) m after k (asks.input {n = n} {b = b} {s = s} w e short) h =
       let x = fits-later {m = m} {n = n} k (write-same m t n w) h in
       rw w (input-counts (n .input) n v _ b s e short (omega (arith, x)) (λ o q. q))

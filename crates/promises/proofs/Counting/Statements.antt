@@ -127,7 +127,7 @@ module _ (exact : LiveIsExact) (program : List ℕ) (place : ℕ) (m : Machine) 
       whole-notes (R s) by (noting m next) _
       (told exact (AskedOf (after .lines) place s m) (m .highest) by (noting m next)
       (λ k c x. record { ask = k; asks = asks.stepped t e d c; fits = x; counted = refl }) q′) (λ w last c q″.
-      begun-keeps (Same s) (unnoted (R s)) (v .telling) after a b w (noting m last) q″)))))
+      begun-keeps (Same s) (unnoted (R s)) (v .telling) place after a b w (noting m last) q″)))))
       (λ t. rw t (inl refl))
   statement-raises tree.next = next-keeps (Same tree.next) (unnoted (R tree.next)) m (sought isLoop (m .records)) after (inl refl)
   statement-raises (tree.nextOf v) =

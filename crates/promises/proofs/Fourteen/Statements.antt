@@ -23,13 +23,16 @@ use Rattle.variables.specs.Strings.{Value, whole, text, Room, Outcome, value, f
 use Rattle.variables.specs.Variables.{Variables, wordOf, stringBytes, numbersFull, stringsFull}
 use Rattle.operators.specs.Values.{valueOf}
 use Rattle.machine.specs.Machine.{Position, Record, loop, call, Machine, mostRecords, roomOf, withRecords, withOutput, withInput, noting, columnAfter, Printed, full, printed, write, commaBlanks, isCall, isLoop, isLoopOf, Search, missing, found, sought, passed, longestInputLine}
-use Rattle.turns.specs.Steps.{Next, goesOn, enters, ends, stops, fails, worked, wholeOnly, workedWhole, withNumber, withString, storeNumber, storeString, assigned, written, shownValue, printItems, toLine, pushed, returned, cleared, begun, turned, nextOn, Taken, takeLine, filled, lineTaken, inputLine, isWholeKind, branch, lineOver, doStatement}
+use Rattle.order.specs.Order.{Partner, none, some, nextFor}
+use Rattle.statements.specs.Parts.{headOf}
+use Rattle.turns.specs.Steps.{Next, goesOn, enters, ends, stops, fails, worked, wholeOnly, workedWhole, withNumber, withString, storeNumber, storeString, assigned, written, shownValue, printItems, toLine, pushed, returned, cleared, begun, turned, nextOn, Taken, takeLine, filled, lineTaken, inputLine, isWholeKind, branch, lineOver, doStatement, namesOther, skipped}
 use Rattle.promises.specs.Unfinished.{LiveIsExact}
 use Rattle.promises.specs.StringSpace as asks
 use Rattle.promises.specs.StringSpace.{Ask, bytesIn, Exceeds, FormulaAsks, PrintAsks, StatementAsks}
 use Rattle.whole.proofs.Never.{never}
 use Rattle.promises.proofs.Fourteen.Rooms.{Spares, applied-spares}
 use Rattle.promises.proofs.Fourteen.Formulas.{make-over, make-refused, formula-over, formula-fails}
+use Rattle.promises.proofs.Loops.{looped}
 
 -- ---- a statement that ends in 14 tells that it asked for too much
 
@@ -126,10 +129,16 @@ module _ (X : Type 0) where
   returned-tells m missing = λ t. never (cc)
   returned-tells m (found r under) = tt
 
-  begun-tells : (name : Telling) (after : Position) (start limit step : ℕ) (m : Machine) → Tells X (begun name after start limit step m)
-  begun-tells name after start limit step m =
-      number-tells m name start (λ n. pushed (cleared name n) (loop name limit step after) (λ o. goesOn o after))
-      (λ n. pushed-tells (cleared name n) (loop name limit step after) (λ o. goesOn o after) (λ o. tt))
+  skipped-tells : (name : Telling) (s : Partner) (m : Machine) → Tells X (skipped name s m)
+  skipped-tells name none m = λ t. never (cc)
+  skipped-tells name (some x) m = by-test (namesOther name (headOf (x .part))) (λ e. rw e (λ t. never (cc))) (λ e. rw e tt)
+
+  begun-tells : (name : Telling) (at : ℕ) (after : Position) (start limit step : ℕ) (m : Machine) → Tells X (begun name at after start limit step m)
+  begun-tells name at after start limit step m =
+      number-tells m name start (looped name at after start limit step) (λ n.
+      by-test (passed start limit step)
+      (λ e. rw e (skipped-tells name (nextFor at (after .lines)) (cleared name n)))
+      (λ e. rw e (pushed-tells (cleared name n) (loop name limit step after) (λ o. goesOn o after) (λ o. tt))))
 
   turned-tells : (m : Machine) (v : Telling) (limit step : ℕ) (back : Position) (under : List Record) (after : Position) (a : Answer) → Spares a
       → Tells X (turned m v limit step back under after a)
@@ -226,7 +235,7 @@ module _ (exact : LiveIsExact) where
       (formula-tells to (noting m room) (λ k d x. record { ask = k; asks = asks.limited t e d; exceeds = x })) (λ b next d.
       whole-tells (StatementOver (after .lines) at (tree.for v from to by) m) by (noting m next) _
       (formula-tells by (noting m next) (λ k c x. record { ask = k; asks = asks.stepped t e d c; exceeds = x })) (λ s last c.
-      begun-tells (StatementOver (after .lines) at (tree.for v from to by) m) (v .telling) after a b s (noting m last))))))
+      begun-tells (StatementOver (after .lines) at (tree.for v from to by) m) (v .telling) at after a b s (noting m last))))))
       (λ t. rw t (λ x. never (cc)))
   statement-tells program at tree.next m after = next-tells _ m (sought isLoop (m .records)) after
   statement-tells program at (tree.nextOf v) m after =

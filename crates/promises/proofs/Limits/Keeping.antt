@@ -22,9 +22,12 @@ use Rattle.variables.specs.Strings.{Value, whole, text, Room, Outcome, value, f
 use Rattle.variables.specs.Variables.{Variables, wordOf, numbersFull, stringsFull}
 use Rattle.operators.specs.Values.{valueOf}
 use Rattle.machine.specs.Machine.{Position, Record, loop, call, Machine, mostRecords, roomOf, withRecords, withOutput, withInput, noting, columnAfter, write, commaBlanks, isCall, isLoop, isLoopOf, Search, missing, found, sought, passed, longestInputLine}
-use Rattle.turns.specs.Steps.{Next, goesOn, enters, ends, stops, fails, worked, wholeOnly, workedWhole, withNumber, withString, storeNumber, storeString, assigned, written, shownValue, printItems, toLine, pushed, returned, cleared, begun, turned, nextOn, Taken, firstLine, takeLine, filled, lineTaken, inputLine, isWholeKind, branch, lineOver, doStatement}
+use Rattle.order.specs.Order.{Partner, none, some, nextFor}
+use Rattle.statements.specs.Parts.{headOf}
+use Rattle.turns.specs.Steps.{Next, goesOn, enters, ends, stops, fails, worked, wholeOnly, workedWhole, withNumber, withString, storeNumber, storeString, assigned, written, shownValue, printItems, toLine, pushed, returned, cleared, begun, turned, nextOn, Taken, firstLine, takeLine, filled, lineTaken, inputLine, isWholeKind, branch, lineOver, doStatement, namesOther, skipped}
 use Rattle.whole.proofs.Never.{never}
 use Rattle.promises.proofs.Counting.Rising.{highestOf, make-rises, value-rises}
+use Rattle.promises.proofs.Loops.{looped}
 
 -- what holds of the machine that a statement leaves, wherever it leads
 abbrev pub Leaves : (Machine → Type 0) → Next → Type 0
@@ -93,10 +96,17 @@ module _ (P : Machine → Type 0) (k : Changes P) where
   returned-keeps m missing p = p
   returned-keeps m (found r under) p = k .records m under p
 
-  pub begun-keeps : (name : Telling) (after : Position) (start limit step : ℕ) (m : Machine) → P m → Leaves P (begun name after start limit step m)
-  begun-keeps name after start limit step m p =
-      number-keeps m name start (λ n. pushed (cleared name n) (loop name limit step after) (λ o. goesOn o after)) p (λ n q.
-      pushed-keeps (cleared name n) (loop name limit step after) (λ o. goesOn o after) (k .records n _ q) (λ o r. r))
+  skipped-keeps : (name : Telling) (s : Partner) (m : Machine) → P m → Leaves P (skipped name s m)
+  skipped-keeps name none m p = p
+  skipped-keeps name (some x) m p = by-test (namesOther name (headOf (x .part))) (λ e. rw e p) (λ e. rw e p)
+
+  pub begun-keeps : (name : Telling) (at : ℕ) (after : Position) (start limit step : ℕ) (m : Machine) → P m
+      → Leaves P (begun name at after start limit step m)
+  begun-keeps name at after start limit step m p =
+      number-keeps m name start (looped name at after start limit step) p (λ n q.
+      by-test (passed start limit step)
+      (λ e. rw e (skipped-keeps name (nextFor at (after .lines)) (cleared name n) (k .records n _ q)))
+      (λ e. rw e (pushed-keeps (cleared name n) (loop name limit step after) (λ o. goesOn o after) (k .records n _ q) (λ o r. r))))
 
   pub turned-keeps : (m : Machine) (v : Telling) (limit step : ℕ) (back : Position) (under : List Record) (after : Position) (a : Answer) → P m
       → Leaves P (turned m v limit step back under after a)
@@ -203,7 +213,7 @@ module _ (P : Machine → Type 0) (k : Keeps P) where
       by-test (isWholeKind (v .kind))
       (λ e. rw e
       (whole-keeps from m _ p (λ a n q. whole-keeps to n _ q (λ b o r. whole-keeps by o _ r (λ s x y.
-      begun-keeps P (k .changes) (v .telling) after a b s x y)))))
+      begun-keeps P (k .changes) (v .telling) at after a b s x y)))))
       (λ e. rw e p)
   statement-keeps program at tree.next m after p = next-keeps P (k .changes) m (sought isLoop (m .records)) after p
   statement-keeps program at (tree.nextOf v) m after p =

@@ -18,13 +18,16 @@ use Rattle.grammar.specs.Formulas as formulas
 use Rattle.grammar.specs.Formulas.{Reading, good, after, enough, formulaOf}
 use Rattle.statements.specs.Statements.{Begun, bad, done, choice, Items, noItems, items, withItem, isSeparator, afterShown, itemsAt, begunAt, PartReading, badPart, goodPart, mappedPart, following, branched, partAt, whole, readLine}
 use Rattle.statements.specs.bridge.Answers.{itemsOf}
-use Rattle.reader.specs.Lines.{judgedRead, judgement}
+use Rattle.reader.specs.Lines.{holds, judgedRead, judgement}
 use Rattle.statements.proofs.Depths.{heads-append}
 use Rattle.statements.specs.Parts.{itemFormulas, formulasOf, deepest, partsOf, partsWithin, heads, statementsOf, deepestIn}
 use Rattle.expressions.proofs.Levelled.{Levelled, levelled}
 use Rattle.statements.proofs.Standing.{stepOf, Stands, Seen, begun-seen}
 use Rattle.statements.proofs.Beginning.{Alone, begun-alone}
 use Rattle.statements.proofs.Parts.{partBy}
+use Rattle.order.proofs.Laws as laws
+use Rattle.order.proofs.Laws.{every-join, every-front, every-back, LinesThroughout}
+use Rattle.loader.specs.Lines.{Line, afterNumber}
 use Rattle.runner.specs.Run.{Entered, over, faulty, opened, judgedLine}
 use Rattle.promises.proofs.Waiting.Nesting.{Fine}
 
@@ -36,23 +39,16 @@ module _ (P : Formula → Type 0) where
   Each (f ∷ fs) = P f × Each fs
 
   abbrev pub Every : List Statement → Type 0
-  Every [] = Unit {0}
-  Every (x ∷ xs) = Each (formulasOf x) × Every xs
-
-  every-both : (xs ys : List Statement) → Every xs → Every ys → Every (xs ++ ys)
-  every-both [] ys h k = k
-  every-both (x ∷ xs) ys h k = (h .0, every-both xs ys (h .1) k)
-
-  every-split : (xs ys : List Statement) → Every (xs ++ ys) → Every xs × Every ys
-  every-split [] ys h = (tt, h)
-  every-split (x ∷ xs) ys h = let k = every-split xs ys (h .1) in ((h .0, k .0), k .1)
+  Every xs = laws.Every (λ x. Each (formulasOf x)) xs
 
   -- of parts one after the other
   parts-both : (xs ys : List Part) → Every (heads xs) → Every (heads ys) → Every (heads (xs ++ ys))
-  parts-both xs ys h k = rw (heads-append xs ys) (every-both (heads xs) (heads ys) h k)
+  parts-both xs ys h k = rw (heads-append xs ys) (every-join (λ x. Each (formulasOf x)) (heads xs) (heads ys) h k)
 
   pub parts-split : (xs ys : List Part) → Every (heads (xs ++ ys)) → Every (heads xs) × Every (heads ys)
-  parts-split xs ys h = every-split (heads xs) (heads ys) (rw (heads-append xs ys) at h)
+  parts-split xs ys h =
+      let P : Statement → Type 0 = λ x. Each (formulasOf x) in
+      let k = rw (heads-append xs ys) at h in (every-front P (heads xs) (heads ys) k, every-back P (heads xs) (heads ys) k)
 
 -- ---- what is read is levelled
 
@@ -207,3 +203,7 @@ judged-fine (goodPart p u) l =
 pub line-fine : (s : List ℕ) → EnteredFine (judgedLine (judgement s))
 unfolding readLine
 line-fine s = judged-fine (partAt (enough s) s false 0) (part-level (enough s) s false 0)
+
+pub lines-fine : (ls : List Line) → LinesThroughout (λ x. Each Fine (formulasOf x)) ls
+lines-fine [] = tt
+lines-fine (l ∷ ls) = (λ p e. rw e at (line-fine (afterNumber l)), lines-fine ls)

@@ -19,7 +19,7 @@ use Rattle.runner.specs.Examples.{lending, nested, nested-highest}
 use Rattle.promises.specs.Unfinished.{mostUnfinished, fewUnfinished, mostIsReached}
 use Rattle.promises.proofs.Waiting.Nesting.{Fine}
 use Rattle.promises.proofs.Waiting.Reading.{Each, Every, parts-split, PartFine, EnteredFine, line-fine}
-use Rattle.promises.proofs.Waiting.Turns.{RestFine, Sound, NextFine, statement-sound}
+use Rattle.promises.proofs.Waiting.Turns.{RestFine, head-fine, Sound, NextFine, statement-sound}
 use Rattle.variables.specs.Strings.{longestSpace}
 
 abbrev pub StandingFine : Standing → Type 0
@@ -49,15 +49,6 @@ following-fine line (enters m lines) h = entering-fine m lines h
 following-fine line (ends m) h = h .few
 following-fine line (stops m) h = h .few
 following-fine line (fails e m) h = h .few
-
--- its first statement, the parts of that, and what is left
-abbrev pub HeadFine : Part → Type 0
-HeadFine p = Each Fine (formulasOf (headOf p)) × Every Fine (heads (partsWithin (headOf p))) × RestFine (tailOf p)
-
-pub head-fine : (p : Part) → PartFine p → HeadFine p
-unfolding partsOf heads
-head-fine (last q x) h = (h .0, h .1, tt)
-head-fine (more q x rest) h = let k = parts-split Fine (partsWithin x) (partsOf rest) (h .1) in (h .0, k .0, k .1)
 
 pub turn-fine : (program : List ℕ) (m : Machine) (lines : List Line) (p : Part) → Sound m → PartFine p → StandingFine (turn program m lines p)
 turn-fine program m lines p s h =

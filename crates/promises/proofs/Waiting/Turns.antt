@@ -1,4 +1,5 @@
 -- No statement has more than 28 unfinished strings, and wherever the run goes on, only formulas that were let through stand.
+use mathlib.Core.Path.{_≡_, refl}
 use mathlib.Core.Bool.{Bool, true, false, cond}
 use mathlib.Core.List.{List, [], _∷_}
 use Prim.Native.Nat.{ℕ, _+_, _-_, _≤_}
@@ -12,29 +13,41 @@ use Rattle.whole.specs.declared.arithmetic.Operator.the-variants.{Add}
 use Rattle.words.specs.declared.names.Kind.{Kind}
 use Rattle.words.specs.declared.names.Kind.the-variants as kind
 use Rattle.words.specs.declared.names.Telling.{Telling}
+use Rattle.words.specs.declared.symbols.Word.the-variants as word
 use Rattle.words.proofs.Choices.{by-test}
 use Rattle.loader.specs.Lines.{Line, linesOf, fromNumber}
 use Rattle.grammar.specs.Trees as tree
-use Rattle.grammar.specs.Trees.{Formula, Variable, Item, Statement}
-use Rattle.statements.specs.Parts.{itemFormulas, formulasOf, Rest, nothing, part, partsOf, partsWithin, heads}
+use Rattle.grammar.specs.Trees.{Formula, Variable, Item, Statement, Part, last, more}
+use Rattle.statements.specs.Parts.{itemFormulas, formulasOf, headOf, tailOf, Rest, nothing, part, partsOf, partsWithin, heads}
 use Rattle.variables.specs.Strings.{Value, whole, text, Room, Outcome, value, fault, make}
 use Rattle.variables.specs.Variables.{wordOf, numbersFull, stringsFull}
 use Rattle.operators.specs.Values.{valueOf}
 use Rattle.machine.specs.Machine.{Position, Record, loop, call, Machine, mostRecords, roomOf, withInput, noting, write, commaBlanks, Search, missing, found, sought, passed, isCall, isLoop, isLoopOf, backOf, longestInputLine}
-use Rattle.turns.specs.Steps.{Next, goesOn, enters, ends, stops, fails, worked, wholeOnly, workedWhole, withNumber, assigned, written, shownValue, printItems, toLine, pushed, returned, turned, nextOn, takeLine, filled, inputLine, isWholeKind, doStatement, cleared, begun}
+use Rattle.order.specs.Order.{Stand, later, Partner, none, some, pairsBy, nextFor}
+use Rattle.order.proofs.Laws.{later-throughout, StandThroughout, partner-one}
+use Rattle.turns.specs.Steps.{Next, goesOn, enters, ends, stops, fails, worked, wholeOnly, workedWhole, withNumber, assigned, written, shownValue, printItems, toLine, pushed, returned, turned, nextOn, takeLine, filled, inputLine, isWholeKind, doStatement, cleared, begun, namesOther, skipped}
 use Rattle.promises.specs.Unfinished.{mostUnfinished}
 use Rattle.promises.proofs.Records as records
 use Rattle.promises.proofs.Records.{sought-each, below-each}
 use Rattle.promises.proofs.Waiting.Rooms.{Good, make-good}
 use Rattle.promises.proofs.Waiting.Needs.{value-good}
 use Rattle.promises.proofs.Waiting.Nesting.{Fine, needs-few}
-use Rattle.promises.proofs.Waiting.Reading.{Each, Every, parts-split, PartFine}
+use Rattle.promises.proofs.Waiting.Reading.{Each, Every, parts-split, PartFine, lines-fine}
 
 -- ---- what the machine holds
 
 abbrev pub RestFine : Rest → Type 0
 RestFine nothing = Unit {0}
 RestFine (part p) = PartFine p
+
+-- its first statement, the parts of that, and what is left
+abbrev pub HeadFine : Part → Type 0
+HeadFine p = Each Fine (formulasOf (headOf p)) × Every Fine (heads (partsWithin (headOf p))) × RestFine (tailOf p)
+
+pub head-fine : (p : Part) → PartFine p → HeadFine p
+unfolding partsOf heads
+head-fine (last q x) h = (h .0, h .1, tt)
+head-fine (more q x rest) h = let k = parts-split Fine (partsWithin x) (partsOf rest) (h .1) in (h .0, k .0, k .1)
 
 abbrev RecordFine : Record → Type 0
 RecordFine r = RestFine (backOf r .rest)
@@ -144,13 +157,25 @@ next-sound {m} (found (loop v limit step back) under) after s h a =
     turned-sound v limit step back under after (applied Add (wordOf (m .variables .numbers) v) step) s (h .0) (h .1) a
 next-sound (found (call back) under) after s h a = s
 
-loop-sound : (m : Machine) (v : Telling) (from limit step : ℕ) (after : Position) → Sound m → RestFine (after .rest)
-    → NextFine (begun v after from limit step m)
-loop-sound m v from limit step after s a =
+-- the NEXT of a FOR
+partner-fine : (at : ℕ) (lines : List Line) (x : Stand) → nextFor at lines ≡ some x → PartFine (x .part)
+partner-fine at lines x e =
+    let P : Statement → Type 0 = λ x. Each Fine (formulasOf x) in
+    partner-one (StandThroughout P) (pairsBy word.For word.Next) 0 (later at lines) (later-throughout P at lines (lines-fine lines)) x e
+
+skipped-sound : {m : Machine} (v : Telling) (p : Partner) → Sound m → ((x : Stand) → p ≡ some x → PartFine (x .part)) → NextFine (skipped v p m)
+skipped-sound v none s h = s
+skipped-sound v (some x) s h = either-fine (namesOther v (headOf (x .part))) _ _ s (s, head-fine (x .part) (h x refl) .2)
+
+loop-sound : (m : Machine) (v : Telling) (at from limit step : ℕ) (after : Position) → Sound m → RestFine (after .rest)
+    → NextFine (begun v at after from limit step m)
+loop-sound m v at from limit step after s a =
     let q = withNumber m v from in
     let clear : Sound (cleared v q) = record { few = s .few; held = below-each RecordFine (isLoopOf v) (m .records) (s .held) } in
     either-fine (numbersFull (m .variables .numbers) v) _ _ s
-    (pushed-sound (loop v limit step after) (λ r. goesOn r after) clear a (λ r t. (t, a)))
+    (either-fine (passed from limit step) _ _
+    (skipped-sound v (nextFor at (after .lines)) clear (partner-fine at (after .lines)))
+    (pushed-sound (loop v limit step after) (λ r. goesOn r after) clear a (λ r t. (t, a))))
 
 -- ---- LINE INPUT
 
@@ -193,7 +218,7 @@ statement-sound program at (tree.for v from to by) m after g p s a =
     either-fine (isWholeKind (v .kind)) _ _
     (whole-sound m _ (g .0) s (λ x n t.
     whole-sound n _ (g .1 .0) t (λ y o u.
-    whole-sound o _ (g .1 .1 .0) u (λ z q w. loop-sound q (v .telling) x y z after w a))))
+    whole-sound o _ (g .1 .1 .0) u (λ z q w. loop-sound q (v .telling) at x y z after w a))))
     s
 statement-sound program at tree.next m after g p s a =
     next-sound (sought isLoop (m .records)) after s (sought-each RecordFine isLoop (m .records) (s .held)) a

@@ -11,6 +11,8 @@ use Rattle.words.specs.declared.places.Place.{Place}
 use Rattle.words.specs.declared.symbols.Scanned.{Scanned}
 use Rattle.words.specs.declared.symbols.Sign.the-variants.{Colon}
 use Rattle.words.specs.Places.{longestLine}
+use Rattle.loader.specs.Loading.{loadOf}
+use Rattle.loader.specs.declared.loading.Loaded.the-variants.{Fine}
 use Rattle.grammar.specs.Tests.{isSymbol}
 use Rattle.grammar.specs.Trees.{Formula}
 use Rattle.grammar.specs.Formulas.{formulaOf}
@@ -128,8 +130,9 @@ pub record Valued (m : State) (f : Formula) (u : Scanned) (before : List ℕ) (r
   pub agrees : (room : Room) → Held room before (m .used) → Agrees r after (m .used) (valueOf f (variablesOf m before) room)
   pub goes : GoesOn r u
 
--- the line of a text that begins at a place, after its number
+-- the line of a text that loads and begins at a place, after its number
 pub record Standing (text line : List ℕ) (here : Place) : Type 0 where
+  pub loads : loadOf text ≡ Fine
   pub short : length line ≤ longestLine
   pub begins : Begins text (here .0)
   pub is : line ≡ bodyOf (linesAt text (here .0))

@@ -30,7 +30,7 @@ choose-requires c κs =
 count-requires : tie.Need-count-requires
 count-requires c κs =
     let t = c .before .before .before .before .before .before .before .before in let k = t .before .before .before .before .before .before .before in let a = k .args in
-    (rw (c .before .before .before .before .before .enum-told7 .given .1) at (lead-begins (a .line .now) (a .at .0) (k .pre .1 .1 .1 .1 .0) (t .lead .given .1) (k .pre .1 .0)), (k .pre .0 .short, ((k .pre .1 .1 .0) .settled, k .pre .1 .1 .1 .0)))
+    (rw (c .before .before .before .before .before .enum-told7 .given .1) at (lead-begins (a .line .now) (a .at .0) (k .pre .1 .1 .1 .1 .0) (t .lead .given .1) (k .pre .1 .0)), (k .pre .0 .short, ((k .pre .1 .1 .0) .settled, (k .pre .1 .1 .1 .0, record { loads = k .pre .0 .loads; begins = k .pre .0 .begins }))))
 
 line-input-requires : tie.Need-line-input-requires
 line-input-requires c κs =
@@ -80,7 +80,7 @@ returns-7 : tie.Need-returns-7
 returns-7 c =
     let t = c .before .before .before .before .before .before .before .before .before .before .before in let k = t .before .before .before .before .before .before .before in let a = k .args in
     lead-does (a .text .now) (a .line .now) (a .here) (a .at .0) (stateOf (a .machine) (a .names .now) (a .words .now) (a .labels .now) (a .lengths .now)) (a .found) (a .entry) (a .input .now) (a .space .now) (a .room .now) _ _ _ (k .pre .0) (k .pre .1 .1 .1 .1 .0) (t .lead .given .1) (k .pre .1 .0)
-    (rw (c .before .before .before .before .before .before .before .before .enum-told7 .given .1) (c .before .before .count .ensures (a .text .now) (a .input .now) (a .room .now) (a .at .0) (a .entry) (k .pre .1 .1 .0)))
+    (rw (c .before .before .before .before .before .before .before .before .enum-told7 .given .1) (c .before .before .count .ensures (a .input .now) (a .room .now) (a .entry) (k .pre .1 .1 .0)))
 
 returns-8 : tie.Need-returns-8
 returns-8 c =
