@@ -3,9 +3,9 @@ use mathlib.Core.List.{[], _∷_}
 use native.Mathlib.Omega.{arith}
 use borrow.Author.Needs.{needs}
 use Rattle.whole.specs.Bytes.{bytes}
 use Rattle.console.proofs.Writing.{line-put}
-use Rattle.check_recipe.proofs.verdicts.refused.Statement.{statement}
-use Rattle.check_recipe.proofs.verdicts.refused.Tie as tie
+use Rattle.console.proofs.lines.refused_line.Statement.{statement}
+use Rattle.console.proofs.lines.refused_line.Tie as tie
 
 returns : tie.Need-returns
 unfolding bytes
@@ -15,8 +15,8 @@ returns c =
     rw (c .end-line .ensures, c .before .put-field2 .ensures, f .put-field .ensures, f .before .put-bytes .ensures, f .before .before .before .empty .ensures)
     (line-put (bytes "refused") (p .number ∷ p .standing ∷ []) (omega arith))
 
-pub refused-spec : {M : Type 1} → statement M
-refused-spec =
+pub refused-line-spec : {M : Type 1} → statement M
+refused-line-spec =
     tie.close
     (tie.spec
     (λ c κs. search needs)
