@@ -1,12 +1,12 @@
 // A reading's line: `single` or `double`, a tab, the bits in capital hex digits, byte 10.
 ghost use mathlib.Core.Path.{_≡_};
-ghost use Prim.Native.Nat.{_≤_, _<_};
+ghost use Prim.Native.Nat.{_≤_};
 ghost use lib.Dec.{T};
 ghost use Rattle.space.specs.Moves.{overlaid};
-ghost use Rattle.whole.specs.Texts.{digitByte};
 ghost use Rattle.readings.specs.Lines.{hexDigits, lineOf};
 ghost use Rattle.readings.specs.bridge.Groups.{isNumber, Holds};
 use crate::values::Reading;
+use whole::hex_digit;
 
 // The bytes of a line stand first.
 pub(crate) struct Line {
@@ -21,18 +21,6 @@ impl Line {
 // Where the digits of a line begin.
 const DIGITS: usize = 7;
 
-fn digit_byte(digit: u64) -> u8
-    requires { ⌜ digit < 16 ⌝ }
-    ensures { λ r. ⌜ r ≡ digitByte digit ⌝ }
-{
-    let value = digit as u8;
-    if value < 10 {
-        b'0' + value
-    } else {
-        b'A' + (value - 10)
-    }
-}
-
 // The line with the last so many hex digits of some bits in their place.
 fn with_digits(line: [u8; Line::LONGEST], bits: u64, count: usize) -> [u8; Line::LONGEST]
     requires { ⌜ count ≤ 16 ⌝ }
@@ -43,7 +31,7 @@ fn with_digits(line: [u8; Line::LONGEST], bits: u64, count: usize) -> [u8; Line:
     let mut i = count;
     while 0 < i {
         i -= 1;
-        bytes[DIGITS + i] = digit_byte(left % 16);
+        bytes[DIGITS + i] = hex_digit(left);
         left = left / 16;
     }
     bytes

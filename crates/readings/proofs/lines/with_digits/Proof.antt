@@ -26,8 +26,8 @@ loop-again c =
     let s = c .before .before .loop in
     let one-less : s .i - 1 + 1 ≡ s .i = omega arith in (
       omega arith,
-      length-set (s .bytes) (7 + (s .i - 1)) (c .digit-byte .result) ∙ s .inv .1,
-      ap (λ d. overlaid (set (s .bytes) (7 + (s .i - 1)) d) 7 (hexDigits (s .i - 1) (s .left / 16))) (c .digit-byte .ensures)
+      length-set (s .bytes) (7 + (s .i - 1)) (c .hex-digit .result) ∙ s .inv .1,
+      ap (λ d. overlaid (set (s .bytes) (7 + (s .i - 1)) d) 7 (hexDigits (s .i - 1) (s .left / 16))) (c .hex-digit .ensures)
           ∙ hex-turn (s .bytes) 7 (s .i - 1) (s .left) (omega arith)
           ∙ ap (λ n. overlaid (s .bytes) 7 (hexDigits n (s .left))) one-less
           ∙ s .inv .2,
