@@ -10,7 +10,7 @@ use lib.Ieee.Exact.{HasValue, odd-sign}
 use lib.Ieee.Fits.{fits-widens}
 use lib.Pow.{pow-pos}
 use Rattle.readings.specs.Values.{bitsBelow, mantissaOf, isMinus, Exact, exactOf, valueOf, readingOf, formatOf, isSingle, bitsOf}
-use Rattle.readings.specs.Bits.{Denotes, ASingleHolds, holdsAt, JustWhen, singlesJustWhen}
+use Rattle.readings.specs.Bits.{Denotes, readingsAreExact, ASingleHolds, holdsAt, JustWhen, singlesJustWhen}
 use Rattle.readings.specs.declared.values.Reading.{Reading}
 use Rattle.readings.specs.declared.values.Reading.the-variants.{Single, Double}
 use Rattle.readings.proofs.Products.{unique, fits64}
@@ -56,18 +56,17 @@ either-denotes : (b : Bool) (v : Float) (x : Exact) → b ≡ fits binary32 v �
 either-denotes true v x e w k = bits-denote binary32 v x (subst T e tt) k
 either-denotes false v x e w k = bits-denote binary64 v x w k
 
-reading-denotes : (l m h e : ℕ) → l < 256 → m < 256 → e < 256
-    → Denotes (formatOf (readingOf l m h e)) (bitsOf (readingOf l m h e)) (exactOf l m h e)
+pub readings-are-exact : readingsAreExact
 unfolding readingOf
-reading-denotes l m h e L M E =
+readings-are-exact l m h e L M H E =
     either-denotes (fits binary32 (valueOf l m h e)) (valueOf l m h e) (exactOf l m h e) refl (value-fits l m h e L M E) (value-has l m h e)
 
 -- so an answer that is the reading has bits that denote the value
-pub and-exact : {r : Reading} (l m h e : ℕ) → l < 256 → m < 256 → e < 256 → r ≡ readingOf l m h e
+pub and-exact : {r : Reading} (l m h e : ℕ) → l < 256 → m < 256 → h < 256 → e < 256 → r ≡ readingOf l m h e
     → (r ≡ readingOf l m h e) × Denotes (formatOf r) (bitsOf r) (exactOf l m h e)
-and-exact l m h e L M E is = (
+and-exact l m h e L M H E is = (
   is,
-  subst (λ (r : Reading). Denotes (formatOf r) (bitsOf r) (exactOf l m h e)) (sym is) (reading-denotes l m h e L M E),
+  subst (λ (r : Reading). Denotes (formatOf r) (bitsOf r) (exactOf l m h e)) (sym is) (readings-are-exact l m h e L M H E),
 )
 
 -- ---- when a single holds a value

@@ -1,12 +1,12 @@
--- What bits denote by IEEE 754, over exact numbers alone: nothing is rounded here. The contract of `reading_of` holds the bits of every reading to it.
--- And when a single holds a value: `singlesJustWhen`, proved in proofs/Rules.antt.
+-- What bits denote by IEEE 754, over exact numbers alone: nothing is rounded here. Two statements in these terms, proved in proofs/Rules.antt: no reading is
+-- off by a bit, which the contract of `reading_of` says too; and when a single holds a value.
 use mathlib.Core.Path.{_≡_}
 use mathlib.Core.Bool.{Bool, true}
 use mathlib.Core.Logic.{_↔_}
 use Prim.Native.Nat.{ℕ, zero, suc, _+_, _*_, _/_, _%_, _^_, _<_}
 use lib.Dec.{leb, eqb}
 use lib.Ieee.{Format, binary32, low, hid, ones, top}
-use Rattle.readings.specs.Values.{bitsBelow, Exact, exactOf, readingOf, isSingle}
+use Rattle.readings.specs.Values.{bitsBelow, Exact, exactOf, readingOf, formatOf, isSingle, bitsOf}
 
 -- ---- what bits denote
 
@@ -35,6 +35,15 @@ pub record Denotes (f : Format) (bits : ℕ) (x : Exact) : Type 0 where
   pub finite : fieldIn f bits < ones f
   pub sign : signIn f bits ≡ x .minus
   pub size : sizeIn f bits * 2 ^ 152 ≡ x .size * 2 ^ low f
+
+-- ---- no reading is off by a bit
+
+-- The bits of every reading, so also those in the lines of a file, denote exactly the value that the paper gives its four bytes. Ruled out: a last
+-- digit that was rounded; minus zero for an e of 0.
+abbrev pub readingsAreExact : Type 0
+readingsAreExact =
+    (low middle high e : ℕ) → low < 256 → middle < 256 → high < 256 → e < 256
+    → Denotes (formatOf (readingOf low middle high e)) (bitsOf (readingOf low middle high e)) (exactOf low middle high e)
 
 -- ---- when a single holds a value
 

@@ -14,7 +14,7 @@ returns : tie.Need-returns
 unfolding ofBits
 returns c =
     let p = c .before .args in
-    and-exact (p .low) (p .middle) (p .high) (p .exponent) (omega arith) (omega arith) (omega arith)
+    and-exact (p .low) (p .middle) (p .high) (p .exponent) (omega arith) (omega arith) (omega arith) (omega arith)
     (zeroth (p .low) (p .middle) (p .high) ∙ ap (readingOf (p .low) (p .middle) (p .high)) (sym (c .if1 .taken)))
 
 -- what is known of the value once the rule has been asked
@@ -33,13 +33,13 @@ module _ (c : tie.After-single-holds) where
 returns-2 : tie.Need-returns-2
 returns-2 c =
     let p = c .before .before .before .before .before .before .before .args in
-    and-exact (p .low) (p .middle) (p .high) (p .exponent) (omega arith) (omega arith) (omega arith)
+    and-exact (p .low) (p .middle) (p .high) (p .exponent) (omega arith) (omega arith) (omega arith) (omega arith)
     (made-so (c .before .before) .single (c .before .if3 .taken))
 
 returns-3 : tie.Need-returns-3
 returns-3 c =
     let p = c .before .before .before .before .before .before .args in
-    and-exact (p .low) (p .middle) (p .high) (p .exponent) (omega arith) (omega arith) (omega arith)
+    and-exact (p .low) (p .middle) (p .high) (p .exponent) (omega arith) (omega arith) (omega arith) (omega arith)
     (made-so (c .before) .double (c .if3 .left))
 
 pub reading-of-spec : {M : Type 1} → statement M
