@@ -1,6 +1,6 @@
 // The line that says what the check answers.
 ghost use mathlib.Core.Path.{_≡_};
-ghost use mathlib.Core.List.{[], _∷_};
+ghost use mathlib.Core.List.{[]};
 ghost use Rattle.whole.specs.Bytes.{bytes};
 ghost use Rattle.whole.specs.Texts.{held};
 ghost use Rattle.console.specs.Lines.{line};
@@ -10,7 +10,7 @@ use checker::Verdict;
 use checker::check_recipe;
 use console::end_line;
 use console::put_bytes;
-use console::put_field;
+use console::refused_line;
 use loader::refusal_number;
 use whole::Text;
 use whole::number_of;
@@ -22,22 +22,13 @@ fn passed() -> Text
     end_line(word)
 }
 
-fn refused(number: u8, standing: u64) -> Text
-    ensures { λ r. ⌜ r ≡ held (line (bytes "refused") (number ∷ standing ∷ [])) ⌝ }
-{
-    let word = put_bytes(Text::empty(), b"refused");
-    let numbered = put_field(word, number as u64);
-    let placed = put_field(numbered, standing);
-    end_line(placed)
-}
-
 fn told(verdict: Verdict) -> Text
     ensures { λ r. ⌜ r ≡ held (lineOf verdict) ⌝ }
 {
     match verdict {
         Verdict::Passed => passed(),
-        Verdict::Refused(refusal, place) => refused(refusal_number(refusal), place.0 as u64),
-        Verdict::Faulty(error, line) => refused(number_of(error), line.0 as u64),
+        Verdict::Refused(refusal, place) => refused_line(refusal_number(refusal), place.0 as u64),
+        Verdict::Faulty(error, line) => refused_line(number_of(error), line.0 as u64),
     }
 }
 

@@ -3,8 +3,8 @@ use mathlib.Core.Path.{_≡_, refl, sym, ap, _∙_}
 use mathlib.Core.List.{List, [], _∷_, _++_, append-assoc, append-nil}
 use Prim.Native.Nat.{ℕ, _+_, _-_, _≤_, zero-le}
 use native.Mathlib.Omega.{arith}
-use lib.ListN.{length, take, drop, replicate, length-append, length-replicate, replicate-append-replicate}
-use lib.Seq.{take-append-seam, drop-at}
+use lib.ListN.{length, drop, replicate, length-append, length-replicate, replicate-append-replicate}
+use lib.Seq.{drop-at}
 use Rattle.whole.specs.Bytes.{bytes}
 use Rattle.whole.specs.Texts.{longestString, held, numeral}
 use Rattle.whole.specs.declared.texts.Text.{Text}
@@ -19,11 +19,6 @@ use Rattle.compare.specs.declared.merging.Difference.{Difference}
 use Rattle.compare.specs.declared.merging.Said.the-variants.{Nothing, Is}
 
 -- ---- a held text
-
--- its bytes stand at its front
-pub held-front : {t : Text} (l : List ℕ) → t ≡ held l → take (t .len) (t .bytes) ≡ l
-unfolding held
-held-front l e = rw e (take-append-seam l _)
 
 pub held-count : {t : Text} (l : List ℕ) → t ≡ held l → t .len ≡ length l
 unfolding held

@@ -1,11 +1,9 @@
 -- What the program writes follows from what comparing answers.
-use mathlib.Core.Path.{_≡_, sym, ap, _∙_}
-use mathlib.Core.List.{List, [], _∷_, _++_, append-assoc, append-nil}
-use Prim.Native.Nat.{ℕ, _+_, _≤_, zero-le}
+use mathlib.Core.Path.{_≡_, sym, ap, _∙_, subst}
+use mathlib.Core.List.{List, [], _∷_, _++_, append-assoc}
+use Prim.Native.Nat.{ℕ, _+_, _≤_}
 use native.Mathlib.Omega.{arith}
 use lib.ListN.{length, drop, length-append}
-use lib.Seq.{take-append-seam}
-use Rattle.io.proofs.Counting.{counts}
 use Rattle.whole.specs.Texts.{held, withByte}
 use Rattle.whole.specs.declared.texts.Text.{Text}
 use Rattle.whole.proofs.Numerals.{held-put, numeral-length}
@@ -14,11 +12,12 @@ use Rattle.compare.specs.Comparing.{comparedOf, outAfter}
 use Rattle.compare.specs.declared.comparing.Compared.{Compared}
 use Rattle.compare.specs.declared.comparing.Compared.the-variants.{Done}
 use Rattle.compare.proofs.Answered.{done-whole}
-use Rattle.compare.proofs.Laid.{held-front}
 use Rattle.console.specs.Lines.{withBytes, field, fields}
+use Rattle.console.specs.Answers.{Tells}
+use Rattle.console.specs.declared.answers.Answer.{Answer}
 use Rattle.console.proofs.Writing.{held-bytes}
-use Rattle.compare_recipes.specs.Answers.{toldOf, Tells}
-use Rattle.compare_recipes.specs.declared.answers.Answer.{Answer}
+use Rattle.console.proofs.Telling.{tells-front, tells-line}
+use Rattle.compare_recipes.specs.Answers.{toldOf}
 
 -- ---- the line of a refusal
 
@@ -51,23 +50,14 @@ line-put word more n p h k =
 module _ (old new room : List ℕ) {answer : Compared} (is : answer ≡ comparedOf old new (length room)) where
   -- the records
   pub tells-records : {n : ℕ} {line : Text} {out : List ℕ} → answer ≡ Done n → line ≡ held [] → out ≡ outAfter old new room
-      → Tells old new (length room) (record { written = n; line = line }) out
+      → Tells (toldOf old new (comparedOf old new (length room))) (record { written = n; line = line }) out
   unfolding outAfter
   tells-records {n} {line} {out} e l o =
       let c : comparedOf old new (length room) ≡ Done n = sym is ∙ e in
-      let all = reportOf old new in
-      let count : n ≡ length all = done-whole old new (length room) (sym c) in
-      let front : out ≡ all ++ drop n room = o ∙ rw c in
-      record {
-        within = rw (count, front) (counts (length all) (all ++ drop n room) (omega (arith, length-append all (drop n room))));
-        told = rw (c, held-front [] l, front, count, append-nil) (take-append-seam all (drop (length all) room));
-      }
+      subst (λ (x : Compared). Tells (toldOf old new x) (record { written = n; line = line }) out) (sym c)
+      (tells-front (reportOf old new) (drop n room) (done-whole old new (length room) (sym c)) (o ∙ rw c) l)
 
   -- a line alone
-  pub tells-line : {a : Answer} {line : Text} (l : List ℕ) {out : List ℕ} → a .written ≡ 0 → a .line ≡ line → line ≡ held l
-      → l ≡ toldOf old new answer → Tells old new (length room) a out
-  tells-line {a} {line} l {out} w i e t =
-      record {
-        within = rw w (counts 0 out zero-le);
-        told = rw w (held-front l (i ∙ e) ∙ t ∙ ap (toldOf old new) is);
-      }
+  pub tells-refused : {a : Answer} {line : Text} (l : List ℕ) {out : List ℕ} → a .written ≡ 0 → a .line ≡ line → line ≡ held l
+      → l ≡ toldOf old new answer → Tells (toldOf old new (comparedOf old new (length room))) a out
+  tells-refused l w i e t = tells-line (toldOf old new (comparedOf old new (length room))) w i (e ∙ ap held (t ∙ ap (toldOf old new) is))

@@ -1,21 +1,16 @@
 -- What the program writes: the records; or, where something is refused, one line: `refused`, the number, the place and, of an edition,
 -- `old` or `new`, parted by tabs, ended by byte 10.
-use mathlib.Core.Path.{_≡_}
 use mathlib.Core.List.{List, [], _∷_, _++_}
 use Prim.Native.Nat.{ℕ}
 use Prim.Native.Char.{code}
-use lib.ListN.{take}
-use Rattle.io.specs.Counts.{Counts}
 use Rattle.whole.specs.Bytes.{bytes}
 use Rattle.words.specs.declared.places.Place.{Place}
 use Rattle.loader.specs.Refusals.{refusalNumber}
 use Rattle.loader.specs.declared.refusals.Refusal.{Refusal}
 use Rattle.compare.specs.Records.{reportOf}
-use Rattle.compare.specs.Comparing.{comparedOf}
 use Rattle.compare.specs.declared.comparing.Compared.{Compared}
 use Rattle.compare.specs.declared.comparing.Compared.the-variants.{Done, OldRefused, NewRefused, RoomRefused}
 use Rattle.console.specs.Lines.{fields}
-use Rattle.compare_recipes.specs.declared.answers.Answer.{Answer}
 
 -- a line that says a refusal, and fields after it
 abbrev pub refusedLine : Refusal → Place → List ℕ → List ℕ
@@ -26,8 +21,3 @@ toldOf old new (Done count) = reportOf old new
 toldOf old new (OldRefused refusal at) = refusedLine refusal at (bytes "\told")
 toldOf old new (NewRefused refusal at) = refusedLine refusal at (bytes "\tnew")
 toldOf old new (RoomRefused refusal at) = refusedLine refusal at []
-
--- what is to be written of a comparison: the front of the room, and a line
-pub record Tells (old new : List ℕ) (room : ℕ) (a : Answer) (out : List ℕ) : Type 0 where
-  pub within : Counts (a .written) out
-  pub told : take (a .written) out ++ take (a .line .len) (a .line .bytes) ≡ toldOf old new (comparedOf old new room)

@@ -3,9 +3,12 @@ ghost use mathlib.Core.Path.{_≡_};
 ghost use Prim.Native.Nat.{_≤_};
 ghost use lib.ListN.{length};
 ghost use Rattle.whole.specs.Texts.{held};
-ghost use Rattle.compare_recipes.specs.Answers.{refusedLine, Tells};
+ghost use Rattle.compare.specs.Comparing.{comparedOf};
+ghost use Rattle.console.specs.Answers.{Tells};
+ghost use Rattle.compare_recipes.specs.Answers.{refusedLine, toldOf};
 use compare::Compared;
 use compare::compare;
+use console::Answer;
 use console::end_line;
 use console::put_bytes;
 use console::put_field;
@@ -13,12 +16,6 @@ use loader::Refusal;
 use loader::refusal_number;
 use whole::Text;
 use words::Place;
-
-// How many bytes of the room are the records, and the line after them, if any.
-pub struct Answer {
-    pub written: usize,
-    pub line: Text,
-}
 
 // `refused`, the number and the place, parted by tabs, and more fields.
 fn refused(refusal: Refusal, place: Place, more: &[u8]) -> Text
@@ -42,7 +39,11 @@ fn only(line: Text) -> Answer
 
 // Compares two editions over the room.
 pub(crate) fn answer_of(old: &[u8], new: &[u8], out: &mut [u8]) -> Answer
-    ensures { λ r. ⌜ Tells (now (old .entry)) (now (new .entry)) (length (now (out .entry))) r (now (out .exit)) ⌝ }
+    ensures { λ r. ⌜
+        Tells
+        (toldOf (now (old .entry)) (now (new .entry)) (comparedOf (now (old .entry)) (now (new .entry)) (length (now (out .entry)))))
+        r (now (out .exit))
+        ⌝ }
 {
     match compare(old, new, out) {
         Compared::Done(count) => Answer {

@@ -1,3 +1,4 @@
 pub mod Lines
 pub mod Files
 pub mod Arguments
+pub mod Answers

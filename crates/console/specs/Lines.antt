@@ -2,6 +2,7 @@
 use mathlib.Core.List.{List, [], _∷_, _++_}
 use Prim.Native.Nat.{ℕ}
 use Prim.Native.Char.{code}
+use Rattle.whole.specs.Bytes.{bytes}
 use Rattle.whole.specs.Texts.{withByte, numeral}
 use Rattle.whole.specs.declared.texts.Text.{Text}
 
@@ -25,3 +26,7 @@ fields (n ∷ ns) = field n ++ fields ns
 -- a line: a word and numbers, parted by tabs, ended by byte 10
 abbrev pub line : List ℕ → List ℕ → List ℕ
 line word numbers = word ++ (fields numbers ++ (code "\n" ∷ []))
+
+-- the line of a refusal: its number, and the place or the line of which it is said
+abbrev pub refusedLine : ℕ → ℕ → List ℕ
+refusedLine number standing = line (bytes "refused") (number ∷ standing ∷ [])

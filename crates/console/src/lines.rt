@@ -1,7 +1,7 @@
 // A line built in a buffer by value, and bytes written to standard output.
 ghost use mathlib.Core.Path.{_≡_};
-ghost use Rattle.whole.specs.Texts.{withByte};
-ghost use Rattle.console.specs.Lines.{withBytes, field};
+ghost use Rattle.whole.specs.Texts.{held, withByte};
+ghost use Rattle.console.specs.Lines.{withBytes, field, refusedLine};
 use libc::STDOUT_FILENO;
 use whole::Text;
 
@@ -37,6 +37,16 @@ pub fn end_line(text: Text) -> Text
     ensures { λ r. ⌜ r ≡ withByte text 10 ⌝ }
 {
     text.put(LINE_FEED)
+}
+
+// The line of a refusal: its number, and the place or the line of which it is said.
+pub fn refused_line(number: u8, standing: u64) -> Text
+    ensures { λ r. ⌜ r ≡ held (refusedLine number standing) ⌝ }
+{
+    let word = put_bytes(Text::empty(), b"refused");
+    let numbered = put_field(word, number as u64);
+    let placed = put_field(numbered, standing);
+    end_line(placed)
 }
 
 // Writes bytes to standard output, or says on standard error why it can't; whether they were written.

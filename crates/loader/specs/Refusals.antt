@@ -10,6 +10,7 @@ use Rattle.loader.specs.declared.refusals.Refusal.the-variants.{
   BadNumber,
   NotRising,
   TooManyLines,
+  ShortGroup,
   NoRoom,
 }
 
@@ -22,4 +23,5 @@ refusalNumber ForeignByte = 104
 refusalNumber BadNumber = 101
 refusalNumber NotRising = 102
 refusalNumber TooManyLines = 105
+refusalNumber ShortGroup = 108
 refusalNumber NoRoom = 110

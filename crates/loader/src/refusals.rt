@@ -11,6 +11,7 @@ pub enum Refusal {
     BadNumber,
     NotRising,
     TooManyLines,
+    ShortGroup,
     NoRoom,
 }
 
@@ -27,6 +28,7 @@ pub fn refusal_number(refusal: Refusal) -> u8
         Refusal::BadNumber => 101,
         Refusal::NotRising => 102,
         Refusal::TooManyLines => 105,
+        Refusal::ShortGroup => 108,
         Refusal::NoRoom => 110,
     }
 }

@@ -39,6 +39,7 @@ use Rattle.loader.specs.declared.refusals.Refusal.the-variants.{
   BadNumber,
   NotRising,
   TooManyLines,
+  ShortGroup,
   NoRoom,
 }
 use Rattle.checker.specs.Check.{verdictNumber}
@@ -122,7 +123,8 @@ refusalOf n =
     (cond (eqb n 104) ForeignByte
     (cond (eqb n 101) BadNumber
     (cond (eqb n 102) NotRising
-    (cond (eqb n 105) TooManyLines NoRoom)))))))
+    (cond (eqb n 105) TooManyLines
+    (cond (eqb n 108) ShortGroup NoRoom))))))))
 
 refusal-back : (r : Refusal) → refusalOf (refusalNumber r) ≡ r
 unfolding refusalOf
@@ -134,6 +136,7 @@ refusal-back ForeignByte = refl
 refusal-back BadNumber = refl
 refusal-back NotRising = refl
 refusal-back TooManyLines = refl
+refusal-back ShortGroup = refl
 refusal-back NoRoom = refl
 
 pub same-refusal : (q r : Refusal) → refusalNumber q ≡ refusalNumber r → q ≡ r
@@ -148,6 +151,7 @@ refusal-high ForeignByte = omega arith
 refusal-high BadNumber = omega arith
 refusal-high NotRising = omega arith
 refusal-high TooManyLines = omega arith
+refusal-high ShortGroup = omega arith
 refusal-high NoRoom = omega arith
 
 -- none of them is what the check spares a run
@@ -160,6 +164,7 @@ refusal-spared ForeignByte = refl
 refusal-spared BadNumber = refl
 refusal-spared NotRising = refl
 refusal-spared TooManyLines = refl
+refusal-spared ShortGroup = refl
 refusal-spared NoRoom = refl
 
 -- ---- how a run ended

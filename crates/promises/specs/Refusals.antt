@@ -22,6 +22,7 @@ use Rattle.loader.specs.declared.refusals.Refusal.the-variants.{
   BadNumber,
   NotRising,
   TooManyLines,
+  ShortGroup,
   NoRoom,
 }
 use Rattle.variables.specs.Strings.{longestSpace}
@@ -61,8 +62,9 @@ pub data Applies (before : List Line) (line : Line) : Refusal → Place → Type
 
 -- ---- in the table's order, line by line
 
--- where a row stands in the table; 110, of room that is too short, is a tool's and no row of it
+-- where a row stands in the table; 108, of a file that ends in a short group, and 110, of room that is too short, are tools' and no rows of it
 abbrev pub rowOf : Refusal → ℕ
+rowOf ShortGroup = 0
 rowOf NoRoom = 0
 rowOf NoVariable = 1
 rowOf SpaceTooLong = 2

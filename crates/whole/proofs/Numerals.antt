@@ -9,8 +9,8 @@ use native.Mathlib.Omega.{arith}
 use native.Mathlib.Numerals.{add-one}
 use borrow.Author.Tests.{lt-ltb}
 use lib.IntN.{natAbs}
-use lib.ListN.{length, replicate, length-append, length-map, replicate-append-replicate}
-use lib.Seq.{set-append-seam, append-snoc}
+use lib.ListN.{length, take, replicate, length-append, length-map, replicate-append-replicate}
+use lib.Seq.{take-append-seam, set-append-seam, append-snoc}
 use Rattle.whole.specs.declared.texts.Text.{Text}
 use Rattle.whole.specs.Bytes.{blank}
 use Rattle.whole.specs.Texts.{longestString, held, withByte, places, trimmed, digitByte, numeral, signedNumeral}
@@ -18,6 +18,11 @@ use Rattle.whole.specs.Whole.{num}
 use Rattle.whole.proofs.Numbers.{less, num-low, num-high}
 
 -- ---- a text in its buffer
+
+-- its bytes stand first
+pub held-front : {t : Text} (l : List ℕ) → t ≡ held l → take (t .len) (t .bytes) ≡ l
+unfolding held
+held-front l e = rw e (take-append-seam l _)
 
 -- a byte more, where there is room
 pub held-put : (l : List ℕ) (b : ℕ) → length l < longestString → withByte (held l) b ≡ held (l ++ (b ∷ []))

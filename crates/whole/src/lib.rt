@@ -22,6 +22,7 @@ pub use errors::Error;
 pub use errors::number_of;
 pub use texts::Text;
 pub use texts::decimal_text;
+pub use texts::hex_digit;
 pub use texts::hex_text;
 pub use texts::print_text;
 pub use texts::str_text;

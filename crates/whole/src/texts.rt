@@ -1,7 +1,7 @@
 // The text of a whole number, built in a buffer by value.
 ghost use mathlib.Core.Path.{_≡_};
 ghost use mathlib.Core.List.{List, [], _++_};
-ghost use Prim.Native.Nat.{ℕ, suc, _+_, _^_, _≤_, _<_};
+ghost use Prim.Native.Nat.{ℕ, suc, _+_, _%_, _^_, _≤_, _<_};
 ghost use lib.ListN.{length};
 ghost use Rattle.whole.specs.Texts.{longestString, held, withByte, digitByte, numeral, signedNumeral, printedNumber, hexadecimal};
 
@@ -52,6 +52,13 @@ fn digit_byte(digit: u8) -> u8
     } else {
         b'A' + (digit - 10)
     }
+}
+
+// The byte of a number's last hex digit.
+pub fn hex_digit(number: u64) -> u8
+    ensures { λ r. ⌜ r ≡ digitByte (number % 16) ⌝ }
+{
+    digit_byte((number % 16) as u8)
 }
 
 // The text with the digits of a number after it, in a base of 2 to 16, without leading zeros.

@@ -1,7 +1,8 @@
 -- Loading is the paper's table: the first line to which a row applies decides.
 use mathlib.Core.Path.{_≡_, refl, sym, ap, _∙_}
 use mathlib.Core.List.{List, [], _∷_, _++_, append-assoc, append-nil}
-use Prim.Native.Nat.{ℕ, _+_, _≤_}
+use Prim.Native.Nat.{ℕ, _+_, _≤_, _<_}
+use native.Mathlib.Omega.{arith}
 use borrow.Author.Tests.{ltb-true, ltb-false, lt-ltb, le-ltb}
 use lib.Dec.{ltb}
 use lib.ListN.{length, length-append}
@@ -19,7 +20,7 @@ use Rattle.loader.specs.declared.refusals.Refusal.the-variants.{TextTooLong}
 use Rattle.promises.specs.Refusals.{Applies, rowOf, NoneApplies, NoneAmong, RefusedByTable, textTooLong, byLine, PassesTable, loadsByTable}
 use Rattle.whole.proofs.Never.{never}
 use Rattle.promises.proofs.Refusals.Rows.{same-row, floorOf, floor-last}
-use Rattle.promises.proofs.Refusals.Judging.{Judges, offsetIn, applies-at, judge}
+use Rattle.promises.proofs.Refusals.Judging.{Judges, offsetIn, applies-at, first-row, judge}
 
 -- ---- all lines
 
@@ -86,7 +87,8 @@ first-given seen [] l after r p h a m = go (judged (l .bytes) (length seen) (flo
     go : (x : Judged) → Judges seen l x → byJudged x (l .start) (λ above. loadLines (length seen + 1) above after) ≡ Refused r p
     go (Good n) j = absurd (j .1 r p here)
     go (Bad s q) j =
-        let e = same-row s r (j .1 r p here) (m s (place (l .start + q .0)) (rw (append-nil seen) (j .0))) in
+        let row : 0 < rowOf s = omega (arith, first-row seen l s (place (l .start + q .0)) (j .0)) in
+        let e = same-row s r row (j .1 r p here) (m s (place (l .start + q .0)) (rw (append-nil seen) (j .0))) in
         let f = applies-at seen l s (place (l .start + q .0)) (j .0) ∙ ap (λ t. place (l .start + offsetIn l t)) e ∙ sym (applies-at seen l r p here) in
         ap (λ t. Refused t (place (l .start + q .0))) e ∙ ap (Refused r) f
 first-given seen (b ∷ before) l after r p h a m =

@@ -13,12 +13,12 @@ use Rattle.words.proofs.Choices.{by-test, both}
 use Rattle.loader.specs.Lines.{Line}
 use Rattle.loader.specs.Loading.{isPlain}
 use Rattle.loader.specs.declared.refusals.Refusal.{Refusal}
-use Rattle.loader.specs.declared.refusals.Refusal.the-variants.{NoVariable, SpaceTooLong, TextTooLong, LineTooLong, ForeignByte, BadNumber, NotRising, TooManyLines, NoRoom}
+use Rattle.loader.specs.declared.refusals.Refusal.the-variants.{NoVariable, SpaceTooLong, TextTooLong, LineTooLong, ForeignByte, BadNumber, NotRising, TooManyLines, ShortGroup, NoRoom}
 use Rattle.promises.specs.Refusals.{Plain, AllPlain, beginsWithDigit, rowOf}
 
 -- ---- rows
 
--- a row is known by its place in the table
+-- a row is known by its place in the table; 0 is no row's
 abbrev rowAt : ℕ → Refusal
 rowAt zero = NoRoom
 rowAt (suc zero) = NoVariable
@@ -30,19 +30,21 @@ rowAt (suc (suc (suc (suc (suc (suc zero)))))) = BadNumber
 rowAt (suc (suc (suc (suc (suc (suc (suc zero))))))) = NotRising
 rowAt (suc (suc (suc (suc (suc (suc (suc (suc n)))))))) = TooManyLines
 
-row-back : (r : Refusal) → rowAt (rowOf r) ≡ r
-row-back NoRoom = refl
-row-back NoVariable = refl
-row-back SpaceTooLong = refl
-row-back TextTooLong = refl
-row-back LineTooLong = refl
-row-back ForeignByte = refl
-row-back BadNumber = refl
-row-back NotRising = refl
-row-back TooManyLines = refl
+row-back : (r : Refusal) → 0 < rowOf r → rowAt (rowOf r) ≡ r
+row-back ShortGroup h = absurd (omega arith)
+row-back NoRoom h = absurd (omega arith)
+row-back NoVariable h = refl
+row-back SpaceTooLong h = refl
+row-back TextTooLong h = refl
+row-back LineTooLong h = refl
+row-back ForeignByte h = refl
+row-back BadNumber h = refl
+row-back NotRising h = refl
+row-back TooManyLines h = refl
 
-pub same-row : (r s : Refusal) → rowOf r ≤ rowOf s → rowOf s ≤ rowOf r → r ≡ s
-same-row r s h k = let e : rowOf r ≡ rowOf s = omega arith in sym (row-back r) ∙ ap rowAt e ∙ row-back s
+pub same-row : (r s : Refusal) → 0 < rowOf r → rowOf r ≤ rowOf s → rowOf s ≤ rowOf r → r ≡ s
+same-row r s p h k =
+    let e : rowOf r ≡ rowOf s = omega arith in sym (row-back r p) ∙ ap rowAt e ∙ row-back s (omega arith)
 
 -- ---- bytes
 

@@ -46,6 +46,9 @@ str-text κs a p z z′ ws ws′ e e′ = (same e e′, refl)
 pub print-text : Unique whole.print_text.Kinds.ps whole.print_text.Kinds.r whole.print_text.Reads.Pre whole.print_text.Reads.Post
 print-text κs a p z z′ ws ws′ e e′ = (same e e′, refl)
 
+pub hex-digit : Unique whole.hex_digit.Kinds.ps whole.hex_digit.Kinds.r whole.hex_digit.Reads.Pre whole.hex_digit.Reads.Post
+hex-digit κs a p z z′ ws ws′ e e′ = (same e e′, refl)
+
 pub hex-text : Unique whole.hex_text.Kinds.ps whole.hex_text.Kinds.r whole.hex_text.Reads.Pre whole.hex_text.Reads.Post
 hex-text κs a p z z′ ws ws′ e e′ = (same e e′, refl)
 

@@ -17,5 +17,5 @@ told-spec =
     (λ c. search needs)
     (λ c κs. search needs)
     (λ c. rw (c .before .enum-told .given .1) (c .passed .ensures))
-    (λ c. rw (c .before .before .before .verdict .given .1, ← c .before .refusal-number .ensures) (c .refused .ensures))
-    (λ c. rw (c .before .before .before .before .verdict2 .given .1, ← c .before .before .number-of .ensures) (c .refused2 .ensures)))
+    (λ c. rw (c .before .before .before .verdict .given .1, ← c .before .refusal-number .ensures) (c .refused-line .ensures))
+    (λ c. rw (c .before .before .before .before .verdict2 .given .1, ← c .before .before .number-of .ensures) (c .refused-line2 .ensures)))

@@ -1,9 +1,9 @@
--- Each answer tells its records or its line (`tells-records`, `tells-line`).
+-- Each answer tells its records or its line (`tells-records`, `tells-refused`).
 use mathlib.Core.Path.{sym, ap}
 use borrow.Author.Needs.{needs}
 use Rattle.whole.specs.Bytes.{bytes}
 use Rattle.compare_recipes.specs.Answers.{toldOf}
-use Rattle.compare_recipes.proofs.Telling.{tells-records, tells-line}
+use Rattle.compare_recipes.proofs.Telling.{tells-records, tells-refused}
 use Rattle.compare_recipes.proofs.answers.answer_of.Statement.{statement}
 use Rattle.compare_recipes.proofs.answers.answer_of.Tie as tie
 
@@ -18,7 +18,7 @@ returns-2 c =
     let r = c .before .before .before .before in let o = r .before .before .before .before in
     let s = o .before .before .before .before .before in
     let p = s .args in
-    tells-line (p .old .now) (p .new .now) (p .out .now) (o .compare .ensures .0) _ (c .only .ensures .0) (c .only .ensures .1) (c .before .refused .ensures)
+    tells-refused (p .old .now) (p .new .now) (p .out .now) (o .compare .ensures .0) _ (c .only .ensures .0) (c .only .ensures .1) (c .before .refused .ensures)
     (sym (ap (toldOf (p .old .now) (p .new .now)) (r .refusal .given .1)))
 
 returns-3 : tie.Need-returns-3
@@ -27,7 +27,7 @@ returns-3 c =
     let r = c .before .before .before .before in let o = r .before .before .before .before in
     let s = o .before .before .before .before .before in
     let p = s .args in
-    tells-line (p .old .now) (p .new .now) (p .out .now) (o .compare .ensures .0) _ (c .only2 .ensures .0) (c .only2 .ensures .1) (c .before .refused2 .ensures)
+    tells-refused (p .old .now) (p .new .now) (p .out .now) (o .compare .ensures .0) _ (c .only2 .ensures .0) (c .only2 .ensures .1) (c .before .refused2 .ensures)
     (sym (ap (toldOf (p .old .now) (p .new .now)) (r .refusal2 .given .1)))
 
 returns-4 : tie.Need-returns-4
@@ -36,7 +36,7 @@ returns-4 c =
     let r = c .before .before .before .before in let o = r .before .before .before .before in
     let s = o .before .before .before .before .before in
     let p = s .args in
-    tells-line (p .old .now) (p .new .now) (p .out .now) (o .compare .ensures .0) _ (c .only3 .ensures .0) (c .only3 .ensures .1) (c .before .refused3 .ensures)
+    tells-refused (p .old .now) (p .new .now) (p .out .now) (o .compare .ensures .0) _ (c .only3 .ensures .0) (c .only3 .ensures .1) (c .before .refused3 .ensures)
     (sym (ap (toldOf (p .old .now) (p .new .now)) (r .refusal3 .given .1)))
 
 pub answer-of-spec : {M : Type 1} → statement M
