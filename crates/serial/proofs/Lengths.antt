@@ -1,14 +1,12 @@
 -- Whatever receipt is handed on, the buffer is as long as before.
 use mathlib.Core.Path.{_≡_, refl, ap, _∙_}
-use mathlib.Core.Bool.{false}
 use mathlib.Core.List.{List}
 use Prim.Native.Nat.{ℕ, _+_, _≤_}
-use native.Mathlib.Omega.{arith}
 use borrow.Author.Tests.{le-ltb, lt-ltb}
 use lib.ListN.{length, length-replicate}
 use Rattle.space.proofs.Bounds.{by-bound}
 use Rattle.space.proofs.Frames.{copied-length, cleared-length}
-use Rattle.loader.specs.Loading.{longestText, loadOf}
+use Rattle.loader.specs.Loading.{longestText}
 use Rattle.serial.specs.declared.receiving.Receipt.{Receipt}
 use Rattle.serial.specs.declared.receiving.Receipt.the-variants.{Holds, TooMuch}
 use Rattle.serial.specs.Receiving.{Held, Ended, taken, withPart, atEnd, finished}
