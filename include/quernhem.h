@@ -84,13 +84,35 @@ void quernhem_run(const uint8_t *text, size_t text_len, const uint8_t *input, si
 #define QUERNHEM_VERDICT 4
 enum {
     QUERNHEM_FAULTY,         /* 0: passed; 1: refused */
-    QUERNHEM_VERDICT_NUMBER, /* 100 to 105, or the error 2, 16, 13 or 8 */
+    QUERNHEM_VERDICT_NUMBER, /* 100 to 105, or the error 2, 16, 13 or 8; of a buffer to receive in 110 */
     QUERNHEM_VERDICT_LINE,   /* of an error */
     QUERNHEM_VERDICT_PLACE   /* of 100 to 105 */
 };
 
 /* Checks a recipe before it ever runs. Read: text. Changed: verdict, all four words. */
 void quernhem_check(const uint8_t *text, size_t text_len, uint64_t *verdict);
+
+/* ---- Receiving a recipe over a serial line --------------------------------------------------------------------------------------- */
+
+#define QUERNHEM_RECEIPT 2 /* words that the host keeps between the calls; any words are safe */
+
+/* A text that comes in parts, cut at any byte: begin once, take each part as it comes, and finish once. However it was cut, the verdict at
+ * the end and the bytes held are those of loading the whole text.
+ *
+ * Lend the same buffer to each of these calls, of QUERNHEM_TEXT bytes or more, and change neither it nor the receipt between them. A
+ * shorter one is refused at once with 110 and never written to, whatever is handed on after that; the end then answers 110 again.
+ * verdict: as of quernhem_check: 0 or 1, number, line (0), place */
+
+/* Begins. Read: the buffer's length. Changed: receipt and verdict, all words. 0: the buffer is ready; 1: it is refused. */
+void quernhem_begin(const uint8_t *buffer, size_t buffer_len, uint64_t *receipt, uint64_t *verdict);
+
+/* Takes a part. Read: receipt, part. Changed: receipt, and the bytes of the buffer in which the part then stands. It takes time for the
+ * part alone. Where all parts have more than QUERNHEM_TEXT bytes nothing more is written, and the end answers 100, whatever the lines are. */
+void quernhem_take(uint8_t *buffer, size_t buffer_len, uint64_t *receipt, const uint8_t *part, size_t part_len);
+
+/* Ends. Read: receipt, buffer. Changed: buffer, and verdict, all words. After 0 the buffer holds the text, as long as all parts together,
+ * and zeros behind it; after any refusal but 110 the whole buffer is zeros. */
+void quernhem_finish(uint8_t *buffer, size_t buffer_len, const uint64_t *receipt, uint64_t *verdict);
 
 /* ---- Asking for a variable ------------------------------------------------------------------------------------------------------- */
 
@@ -143,6 +165,7 @@ enum {
     QUERNHEM_FOREIGN_BYTE = 104,
     QUERNHEM_TOO_MANY_LINES = 105,
     QUERNHEM_SPACE_TOO_LONG = 106, /* of a run */
+    QUERNHEM_NO_ROOM = 110,        /* of a buffer to receive in */
     QUERNHEM_NO_VARIABLE = 111     /* of a question */
 };
 

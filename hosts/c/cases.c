@@ -6,7 +6,6 @@
 #include "trials.h"
 
 #include <inttypes.h>
-#include <string.h>
 
 enum { OLD = 170 }; /* what the lent bytes hold before a run */
 
@@ -23,14 +22,6 @@ static void others(const uint8_t *bytes, size_t from, size_t to, uint8_t byte) {
     uint64_t count = 0;
     for (size_t i = from; i < to; i++) count += bytes[i] != byte;
     number(count);
-}
-
-/* Memory of just that length, so that a stray is found out. */
-static uint8_t *lend(size_t len, uint8_t byte) {
-    uint8_t *bytes = malloc(len ? len : 1);
-    if (!bytes) exit(2);
-    memset(bytes, byte, len);
-    return bytes;
 }
 
 static void check_case(const Stored *stored) {
@@ -98,7 +89,7 @@ static void show_space(int refused, const uint8_t *tables, const uint8_t *space,
 
 /* What the tables hold before a run: a number QN that is 41, and a string QT of three bytes. A refusal leaves them. */
 static uint8_t *old_tables(void) {
-    uint8_t *tables = lend(QUERNHEM_TABLES, 0);
+    uint8_t *tables = filled(QUERNHEM_TABLES, 0);
     memcpy(tables + QUERNHEM_NUMBER_NAMES, "QN", 2);
     tables[QUERNHEM_WORDS] = 41;
     memcpy(tables + QUERNHEM_STRING_NAMES, "QT", 2);
@@ -110,7 +101,7 @@ static uint8_t *old_tables(void) {
 static void run_case(const Stored *stored) {
     static const char *const outcomes[] = {"ended", "stopped", "out", "error", "refused"};
     size_t space_len = stored->space_len, room_len = stored->room_len;
-    uint8_t *space = lend(space_len, OLD), *room = lend(room_len, OLD), *tables = old_tables();
+    uint8_t *space = filled(space_len, OLD), *room = filled(room_len, OLD), *tables = old_tables();
     uint64_t answer[QUERNHEM_ANSWER];
     quernhem_run(stored->text, stored->text_len, stored->input, stored->input_len, space, space_len, room, room_len, stored->budget, tables,
                  answer);

@@ -1,4 +1,5 @@
-/* Feeds the library random and damaged recipes, inputs, sizes, tables and names, and holds it to what its header says.
+/* Feeds the library random and damaged recipes, whole and in random parts, inputs, sizes, tables, receipts and names, and holds it to what its
+ * header says.
  *
  * usage: hammer ROUNDS [SEED] <CASES     (the cases' recipes are damaged here)
  *
@@ -6,6 +7,7 @@
  * program. Each recipe runs twice, over memory with other contents. */
 #define _DEFAULT_SOURCE
 #include "lent.h"
+#include "parts.h"
 #include "recipes.h"
 
 static int is_error(uint64_t n) {
@@ -191,6 +193,7 @@ static void play_round(void) {
     if (first[QUERNHEM_OUTCOME] != QUERNHEM_REFUSED) expect_variables();
     expect_again(space_len, room_len, budget);
     expect_strange_question(a_size(PAGES * PAGE));
+    expect_received(below(4) ? QUERNHEM_TEXT + below(PAGES * PAGE - QUERNHEM_TEXT + 1) : below(QUERNHEM_TEXT + 2));
 }
 
 int main(int argc, char **argv) {

@@ -15,13 +15,16 @@ enum { STACK_WORDS = 2 * QUERNHEM_STACK / 8, LONGEST_LINE = 255, DEEPEST = 8, SH
 
 static const uint64_t paint = 0xA5A5A5A5A5A5A5A5;
 
-static uint64_t stack[STACK_WORDS], answer[QUERNHEM_ANSWER], verdict[QUERNHEM_VERDICT], found[QUERNHEM_FOUND];
-static uint8_t space[QUERNHEM_SPACE], room[QUERNHEM_SPACE], tables[QUERNHEM_TABLES];
+static uint64_t stack[STACK_WORDS], answer[QUERNHEM_ANSWER], verdict[QUERNHEM_VERDICT], found[QUERNHEM_FOUND], receipt[QUERNHEM_RECEIPT];
+static uint8_t space[QUERNHEM_SPACE], room[QUERNHEM_SPACE], tables[QUERNHEM_TABLES], buffer[QUERNHEM_TEXT];
 static const uint8_t *text, *input;
 static size_t text_len, input_len;
 
 static void run(void) { quernhem_run(text, text_len, input, input_len, space, sizeof space, room, sizeof room, BUDGET, tables, answer); }
 static void check(void) { quernhem_check(text, text_len, verdict); }
+static void begin(void) { quernhem_begin(buffer, sizeof buffer, receipt, verdict); }
+static void take(void) { quernhem_take(buffer, sizeof buffer, receipt, text, text_len); }
+static void finish(void) { quernhem_finish(buffer, sizeof buffer, receipt, verdict); }
 static void ask(void) { quernhem_ask(tables, space, sizeof space, (const uint8_t *)"LOT$", 4, found); }
 
 static struct {
@@ -29,7 +32,10 @@ static struct {
     void (*call)(void);
     size_t most;
     char line[SHOWN + 1];
-} calls[] = {{.name = "quernhem_run", .call = run}, {.name = "quernhem_check", .call = check}, {.name = "quernhem_ask", .call = ask}};
+} calls[] = {
+    {.name = "quernhem_run", .call = run},     {.name = "quernhem_check", .call = check}, {.name = "quernhem_ask", .call = ask},
+    {.name = "quernhem_begin", .call = begin}, {.name = "quernhem_take", .call = take},   {.name = "quernhem_finish", .call = finish},
+};
 
 static size_t used_by(void (*call)(void)) {
     ucontext_t here, there;

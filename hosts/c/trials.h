@@ -1,4 +1,4 @@
-/* What the trials of the library share: stored cases, and the name to ask for an entry of the tables by. */
+/* What the trials of the library share: stored cases, memory to lend, and the name to ask for an entry of the tables by. */
 #ifndef TRIALS_H
 #define TRIALS_H
 
@@ -6,6 +6,7 @@
 
 #include <stdio.h>
 #include <stdlib.h>
+#include <string.h>
 
 /* A stored case is a kind, five numbers of four bytes each, the low one first, and its recipe and input: how long the recipe and the input
  * are, how many bytes of string space and of room for output are lent, and the budget. */
@@ -26,6 +27,14 @@ static inline uint8_t *take_in(size_t len) {
     if (bytes && fread(bytes, 1, len, stdin) == len) return bytes;
     fputs("a stored case is cut short\n", stderr);
     exit(2);
+}
+
+/* Memory of just that length, so that a stray is found out, each byte this one. */
+static inline uint8_t *filled(size_t len, uint8_t byte) {
+    uint8_t *bytes = malloc(len ? len : 1);
+    if (!bytes) exit(2);
+    memset(bytes, byte, len);
+    return bytes;
 }
 
 /* The next case of standard input; 0 where none is left. */

@@ -46,7 +46,7 @@ fn wide_steps(steps: u32) -> u64
     steps as u64
 }
 
-fn wide_size(size: usize) -> u64
+pub(crate) fn wide_size(size: usize) -> u64
     ensures { λ r. ⌜ r ≡ size ⌝ }
 {
     size as u64

@@ -1,5 +1,5 @@
--- Demands 1 and 3 of what a box calls: the library's three functions, over all bytes that a host can lend. `Calls` says what a call is. A
--- statement has the proof of its name, with hyphens, in `proofs/Boxes.antt`.
+-- Demands 1 and 3 of what a box calls: the library's functions for runs, checks and questions, over all bytes that a host can lend. `Calls`
+-- says what a call is. A statement has the proof of its name, with hyphens, in `proofs/Boxes.antt`.
 use mathlib.Core.Path.{_≡_}
 use mathlib.Core.Bool.{true, false}
 use mathlib.Core.List.{List, [], _∷_, _++_}

@@ -1,4 +1,4 @@
--- Calls of `run`, `check_recipe` and `ask`, and of the library's three functions: what was passed, and what lent memory holds before and after.
+-- Calls of `run`, `check_recipe` and `ask`, and of the library's functions for these: what was passed, and what lent memory holds before and after.
 -- What a call is, and that its answer is the only one, is said for all functions in calls/specs/Calls.antt.
 use mathlib.Core.List.{List}
 use Prim.Native.Nat.{ℕ}

@@ -1,0 +1,4 @@
+pub mod Receiving
+pub mod Received
+pub mod Examples
+pub mod bridge

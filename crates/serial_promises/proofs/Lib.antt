@@ -1,0 +1,4 @@
+pub mod Following
+pub mod Cuttings
+pub mod Boxes
+pub mod Unique
