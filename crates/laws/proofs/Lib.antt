@@ -1,0 +1,3 @@
+pub mod Rooms
+pub mod Texts
+pub mod Wholes
