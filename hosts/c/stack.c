@@ -73,13 +73,16 @@ static void measure_text(const char *bytes) {
     measure();
 }
 
-/* The line alone, and behind a FOR that is skipped, which looks for its NEXT there. */
+/* The line alone, and behind a FOR that is skipped and a WHILE, which look for their NEXT and WEND there. */
 static void measure_made(void) {
+    static const char *const before[] = {"0FORI=1TO 0\n1", "0WHILE1\n1"};
     static char behind[LONGEST_LINE + 16];
     measure_text(line);
-    strcpy(behind, "0FORI=1TO 0\n1");
-    strcat(behind, line + 1);
-    measure_text(behind);
+    for (size_t i = 0; i < sizeof before / sizeof *before; i++) {
+        strcpy(behind, before[i]);
+        strcat(behind, line + 1);
+        measure_text(behind);
+    }
 }
 
 /* A line of one thing over and over, as often as it fits; with as many parentheses that close it, or with none. */

@@ -32,10 +32,10 @@ use Rattle.machine.specs.Machine.{isLoopOf, noting, roomOf, passed}
 use Rattle.machine.specs.bridge.Holding.{linesAt, positionOf, Positioned, loopRecord, recordOf, Placed, Settled, Sound, Same, State}
 use Rattle.machine.specs.bridge.Wanted.{Told}
 use Rattle.machine.specs.declared.positions.Position.{Position}
-use Rattle.turns.specs.bridge.Turns.{Turn, turnedTo, afterOf, Turns, Formed, Valued, FoundBelow, numberSet, Storage}
+use Rattle.turns.specs.bridge.Turns.{Turn, turnedTo, pushedTurn, afterOf, Turns, Formed, Valued, FoundBelow, numberSet, Storage}
 use Rattle.machine.specs.declared.positions.Next.{Next}
 use Rattle.machine.specs.declared.positions.Next.the-variants as next
-use Rattle.order.specs.Order.{nextFor}
+use Rattle.machine.specs.Order.{nextFor}
 use Rattle.machine.specs.declared.records.Record.{Record}
 use Rattle.machine.specs.declared.records.Found.{Found}
 use Rattle.machine.specs.declared.records.Found.the-variants as found
@@ -43,12 +43,12 @@ use Rattle.machine.proofs.Stacking.{loop-back, loop-held}
 use Rattle.machine.proofs.Searching.{told-kept}
 use Rattle.turns.specs.Steps as step
 use Rattle.turns.specs.Steps.{goesOn, pushed, cleared, begun, fromStep, fromStart, doStatement}
-use Rattle.control.specs.bridge.Answers.{Counts, pushedTurn, droppedTo, stepOf, Stepped, Limited}
+use Rattle.control.specs.bridge.Answers.{Counts, droppedTo, stepOf, Stepped, Limited}
 use Rattle.control.specs.bridge.Skipping.{Skips, LoopBegun}
 use Rattle.turns.proofs.Keeping.{sound-kept, same-noting, leaves-unprinted}
 use Rattle.turns.proofs.Leading.{Led, turns-unwritten, turns-fails, turns-then}
 use Rattle.turns.proofs.Storing.{number-settled, leads-number, sound-tables}
-use Rattle.control.proofs.Jumps.{sound-depth, same-fewer, turns-pushed}
+use Rattle.turns.proofs.Pushing.{sound-depth, same-fewer, turns-pushed}
 use Rattle.turns.proofs.Wholes.{turns-as, turns-whole}
 use Rattle.control.proofs.One.{one}
 use Rattle.control.proofs.Skips.{skip-comes}
@@ -205,7 +205,7 @@ module _ (text : List ℕ) {m : State} {space : List ℕ} (name : Telling) (from
 
   loop-placed : Positioned text back → Placed text (droppedTo (made .state) f .tables .numbers .count) (loopRecord (made .slot) limit by back)
   loop-placed p =
-      rw (dropped-tables (made .state) f) (record { back = rw (loop-back (made .slot) limit by back) p; known = λ _. made-slot .0 })
+      rw (dropped-tables (made .state) f) (record { back = rw (loop-back (made .slot) limit by back) p; known = λ _. made-slot .0; paired = λ e. absurd (false≢true e) })
 
 module _ {text : List ℕ} {m : State} {input space room : List ℕ} (entry : Record) (at : Place) (name : Telling) (from limit by : ℕ) (back : Position) (f : Found)
     (sound : Sound m input space room) (low : FoundBelow (m .depth) f) (p : Positioned text back) {r : Turn} (b : LoopBegun text at m name from limit by back f r) where

@@ -30,7 +30,7 @@ use Rattle.machine.specs.declared.positions.Next.the-variants as next
 use Rattle.machine.specs.declared.records.Record.{Record}
 use Rattle.machine.specs.declared.records.Found.{Found}
 use Rattle.machine.specs.declared.records.Found.the-variants as found
-use Rattle.machine.proofs.Stacking.{is-loop, records-top}
+use Rattle.machine.proofs.Stacking.{by-kind, is-loop, records-top}
 use Rattle.turns.specs.Steps as step
 use Rattle.turns.specs.Steps.{goesOn, storeNumber, turned, nextOn}
 use Rattle.turns.specs.bridge.Turns.{turnedTo, Turns, withDepth, numberKept, numberSet}
@@ -38,7 +38,7 @@ use Rattle.control.specs.bridge.Answers.{wordIn, wordSet, LoopsOnly}
 use Rattle.turns.proofs.Keeping.{leaves-unprinted}
 use Rattle.turns.proofs.Leading.{Leads, turns-fails, turns-on, turns-unwritten}
 use Rattle.turns.proofs.Storing.{storedMet, leads-number}
-use Rattle.control.proofs.Jumps.{sound-depth, same-depth, same-fewer}
+use Rattle.turns.proofs.Pushing.{sound-depth, same-depth, same-fewer}
 use Rattle.control.proofs.Fors.{sound-set}
 
 -- what the definition does
@@ -63,7 +63,8 @@ going text v entry under after w n =
 -- what a test of loops alone passes is a loop's
 loop-found : (text names : List ℕ) (test : spec.Record → Bool) → LoopsOnly test → (e : Record) → test (recordOf text names e) ≡ true → counts e ≡ true
 loop-found text names test only e t =
-    by-test (counts e) (λ f. f) (λ f. absurd (false≢true (sym (only (positionOf text (backOf e))) ∙ rw f at t)))
+    let o = only (positionOf text (backOf e)) in
+    by-kind e (λ f. f) (λ f g. absurd (false≢true (sym (o .1) ∙ rw (f, g) at t))) (λ f g. absurd (false≢true (sym (o .0) ∙ rw (f, g) at t)))
 
 -- the number at an entry is that of the variable whose name stands there, and setting it is assigning to that
 module _ {m : State} {space : List ℕ} (settled : Settled m space) (slot : ℕ) (known : slot < m .tables .numbers .count) where

@@ -26,9 +26,8 @@ use Rattle.machine.specs.Machine as spec
 use Rattle.machine.specs.bridge.Holding.{bodyOf}
 use Rattle.machine.specs.declared.positions.Next as code
 use Rattle.machine.specs.declared.positions.Next.the-variants as next
-use Rattle.order.specs.Order.{Stand, later, Partner, none, some, partner, wordOf, isLed, pairsBy, nextFor}
-use Rattle.order.specs.bridge.Walking.{linesFrom, Ahead, leadAt, Spotted, PartnerAs}
-use Rattle.order.specs.declared.partners.Bracket.the-variants.{Closes}
+use Rattle.machine.specs.Order.{Stand, later, Partner, none, some, partner, closes, wordOf, isLed, pairsBy, nextFor}
+use Rattle.order.specs.bridge.Walking.{linesFrom, Ahead, leadAt, PartnerAs}
 use Rattle.order.specs.declared.texts.Spot.{Spot}
 use Rattle.order.specs.declared.texts.Walk.the-variants as walk
 use Rattle.order.proofs.Laws.{stand-here, partner-closes}
@@ -72,6 +71,8 @@ module _ (s : List ℕ) (name : Telling) where
   by-statement (tree.gosub l) t e b n = absurd (false≢true n)
   by-statement tree.return t e b n = absurd (false≢true n)
   by-statement (tree.for v from to by) t e b n = absurd (false≢true n)
+  by-statement (tree.while c) t e b n = absurd (false≢true n)
+  by-statement tree.wend t e b n = absurd (false≢true n)
   by-statement (tree.lineInput text v) t e b n = absurd (false≢true n)
   by-statement tree.end t e b n = absurd (false≢true n)
   by-statement tree.stop t e b n = absurd (false≢true n)
@@ -109,11 +110,7 @@ spot-names {text} {spot} {x} name a n =
 
 -- ---- the partner of a FOR
 
-pub spot-of : {text : List ℕ} {spot : Spot} (p : Partner) → PartnerAs text (walk.At spot) p → Spotted text spot
-spot-of none h = absurd h
-spot-of (some x) h = record { xs = x ∷ h .rest; ahead = h .ahead }
-
-closes-next : (x : Statement) → pairsBy For Next x ≡ Closes → isLed Next x ≡ true
+closes-next : (x : Statement) → pairsBy For Next x ≡ closes → isLed Next x ≡ true
 closes-next x e =
     by-test (isLed For x) (λ f. let g = rw f at e in never (cc)) λ f.
     by-test (isLed Next x) (λ n. n) (λ n. let g = rw (f, n) at e in never (cc))

@@ -12,7 +12,7 @@ ghost use Rattle.turns.specs.Steps.{doStatement};
 ghost use Rattle.turns.specs.bridge.Turns.{turnOf, afterOf, Turns, anyRecords, FoundBelow};
 ghost use Rattle.loader.specs.declared.lines.LineFound.the-variants.{Is};
 ghost use Rattle.loader.specs.declared.lines.LineSpan.{LineSpan};
-ghost use Rattle.control.specs.bridge.Answers.{pushedTurn, callingOf};
+ghost use Rattle.control.specs.bridge.Answers.{callingOf};
 use loader::LineFound;
 use machine::Found;
 use machine::Machine;
@@ -23,6 +23,7 @@ use rows::Rows;
 use rows::line_numbered;
 use turns::after;
 use turns::fails;
+use turns::push;
 use turns::turned_to;
 use whole::Error;
 use words::LineNumber;
@@ -45,26 +46,6 @@ pub fn goto(rows: &Rows, number: LineNumber, machine: Machine) -> Turned
             let place = span.place;
             turned_to(machine, Next::Enter(place))
         }
-    }
-}
-
-// A record more, if there is room.
-pub(crate) fn push(machine: Machine, held: Record, next: Next) -> Turned
-    ensures { λ r. ⌜
-        ((names words labels lengths : List ℕ) → turnOf r names words labels lengths ≡ pushedTurn (stateOf machine names words labels lengths) held next)
-        ⌝ }
-{
-    let slot = machine.depth;
-    if Machine::RECORDS <= slot {
-        return fails(machine, Error::OutOfMemory);
-    }
-    let mut deeper = machine;
-    deeper.depth = slot + 1;
-    Turned {
-        machine: deeper,
-        next,
-        slot,
-        held,
     }
 }
 

@@ -5,7 +5,7 @@ ghost use mathlib.Core.Bool.{true};
 ghost use Rattle.words.specs.declared.symbols.Word.the-variants as word;
 ghost use Rattle.statements.specs.Parts.{headOf};
 ghost use Rattle.machine.specs.bridge.Holding.{linesAt};
-ghost use Rattle.order.specs.Order.{Stand, isLed, nextFor};
+ghost use Rattle.machine.specs.Order.{Stand, isLed, nextFor};
 ghost use Rattle.order.specs.bridge.Walking.{Lined, Spotted, Ahead};
 ghost use Rattle.control.specs.bridge.Skipping.{otherNamed, otherLed, PastNext, Skips};
 use machine::Next;

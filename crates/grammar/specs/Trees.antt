@@ -53,6 +53,8 @@ mutual
     for : Variable → Formula → Formula → Formula → Statement
     next : Statement
     nextOf : Variable → Statement
+    while : Formula → Statement
+    wend : Statement
     -- the text to print first, and the variable
     lineInput : List ℕ → Variable → Statement
     end : Statement

@@ -1,6 +1,6 @@
 -- The search down the records, by the code's slots and as the definition makes it.
 use mathlib.Core.Path.{_≡_, refl, sym, ap, _∙_}
-use mathlib.Core.Bool.{Bool, true, false, cond, not, false≢true}
+use mathlib.Core.Bool.{Bool, true, false, cond, not, _&&_, false≢true}
 use mathlib.Core.List.{List}
 use Prim.Native.Nat.{ℕ, zero, suc, _-_, _≤_, _<_}
 use native.Mathlib.Omega.{arith}
@@ -8,7 +8,7 @@ use borrow.Author.Tests.{eq-eqb, ne-eqb, eqb-true, eqb-false, ltb-false}
 use lib.Dec.{eqb, ltb}
 use lib.ListN.{length, getD}
 use Rattle.whole.proofs.Never.{never}
-use Rattle.words.proofs.Choices.{by-test}
+use Rattle.words.proofs.Choices.{by-test, both}
 use Rattle.words.specs.Names.{alike}
 use Rattle.words.specs.declared.names.Telling.{Telling}
 use Rattle.variables.specs.Tables.{namesFrom, slotIn}
@@ -19,15 +19,18 @@ use Rattle.variables.specs.declared.tables.Slot.the-variants as slot
 use Rattle.variables.proofs.Names.{name-slot, slot-name}
 use Rattle.machine.specs.Machine as spec
 use Rattle.machine.specs.Machine.{missing, isCall, isLoopOf}
-use Rattle.machine.specs.bridge.Holding.{blankRecord, counts, recordOf, recordsIn}
+use Rattle.machine.specs.Order.{Stand, some, wendFor}
+use Rattle.machine.specs.Repeats.{isAt, isWhile, wendOf, isPartner}
+use Rattle.machine.specs.bridge.Holding.{linesAt, bodyOf, positionOf, blankRecord, counts, repeats, passes, backOf, recordOf, recordsIn, Parted, Placed}
 use Rattle.machine.specs.bridge.Wanted as sought
 use Rattle.machine.specs.bridge.Wanted.{isSought, foundIn, entryAt, FoundAt, Told}
-use Rattle.machine.specs.bridge.Seeking.{Wish, nothing, call, loop, loopOf, testOf, bySlot, soughtFor}
+use Rattle.machine.specs.bridge.Seeking.{Wish, nothing, call, loop, loopOf, whileAt, whileOf, testOf, bySlot, soughtFor}
 use Rattle.machine.specs.declared.records.Record.{Record}
 use Rattle.machine.specs.declared.records.Found.{Found}
 use Rattle.machine.specs.declared.records.Found.the-variants as found
 use Rattle.machine.specs.declared.records.Sought.{Sought}
-use Rattle.machine.proofs.Stacking.{getD-any, record-kept, records-kept}
+use Rattle.machine.proofs.Stacking.{by-kind, getD-any, record-kept, records-kept}
+use Rattle.machine.proofs.Standing.{begins-at, part-place}
 
 -- ---- the code's search
 
@@ -41,14 +44,14 @@ unfolding foundIn
 nothing-found k rs zero z = refl
 nothing-found k rs (suc d) z =
     let x = getD rs d blankRecord in
-    by-test (counts x) (λ f. rw (none-sought k x z, f) (nothing-found k rs d z)) (λ f. rw (none-sought k x z, f))
+    by-test (passes x) (λ f. rw (none-sought k x z, f) (nothing-found k rs d z)) (λ f. rw (none-sought k x z, f))
 
 -- one turn of it, at the record below the place reached
 module _ (k : Sought) (rs : List Record) (i : ℕ) (d : Record) (some : 0 < i) (inside : i ≤ length rs) where
   abbrev entry : Record
   entry = getD rs (i - 1) d
 
-  turn : foundIn k rs i ≡ cond (isSought k entry) (found.At (i - 1)) (cond (counts entry) (foundIn k rs (i - 1)) found.None)
+  turn : foundIn k rs i ≡ cond (isSought k entry) (found.At (i - 1)) (cond (passes entry) (foundIn k rs (i - 1)) found.None)
   unfolding foundIn
   turn =
       let l : i ≡ suc (i - 1) = omega arith in
@@ -59,11 +62,11 @@ module _ (k : Sought) (rs : List Record) (i : ℕ) (d : Record) (some : 0 < i) (
   ends-found f = rw (turn, f)
 
   -- or at a GOSUB's that is not,
-  pub ends-none : isSought k entry ≡ false → counts entry ≡ false → found.None ≡ foundIn k rs i
+  pub ends-none : isSought k entry ≡ false → passes entry ≡ false → found.None ≡ foundIn k rs i
   ends-none f t = rw (turn, f, t)
 
-  -- and goes on past a loop's
-  pub goes-on : isSought k entry ≡ false → counts entry ≡ true → foundIn k rs (i - 1) ≡ foundIn k rs i
+  -- and goes on past a FOR's or a WHILE's
+  pub goes-on : isSought k entry ≡ false → passes entry ≡ true → foundIn k rs (i - 1) ≡ foundIn k rs i
   goes-on f t = rw (turn, f, t)
 
 -- until none is left
@@ -75,7 +78,7 @@ none-left k rs (suc i) h = absurd (omega arith)
 not-found : {P : Type 0} {i : ℕ} → found.None ≡ found.At i → P
 not-found e = never (cc)
 
--- a GOSUB's record is no loop's
+-- a record that is no FOR's is no loop's
 no-loop : (numbers : ℕ) (x : Slot) (e : Record) → counts e ≡ false → false ≡ isSought (bySlot numbers x) e
 no-loop numbers slot.None e f = rw f
 no-loop numbers (slot.At i) e f = by-test (ltb i numbers) (λ t. rw (t, f)) (λ t. rw (t, f))
@@ -83,8 +86,46 @@ no-loop numbers (slot.At i) e f = by-test (ltb i numbers) (λ t. rw (t, f)) (λ 
 -- ---- as the definition makes it
 
 -- the end of its search is the code's
-same-end : (text names : List ℕ) (e : Record) → isCall (recordOf text names e) ≡ not (counts e)
-same-end text names e = by-test (counts e) (λ f. rw f) (λ f. rw f)
+same-end : (text names : List ℕ) (e : Record) → isCall (recordOf text names e) ≡ not (passes e)
+same-end text names e = by-kind e (λ f. rw f) (λ f g. rw (f, g)) (λ f g. rw (f, g))
+
+-- a WHILE's record is one of a statement that stands where its own numbers say,
+module _ {text : List ℕ} {numbers : ℕ} {e : Record} (h : Placed text numbers e) (r : repeats e ≡ true) (line at : ℕ) where
+  own-by : (p : Parted (bodyOf (linesAt text (e .line .0))) (e .at .0)) → e .over ≡ 0
+      → isAt line at (positionOf text (backOf e)) ≡ (eqb (e .line .0) line && eqb (e .at .0) at)
+  own-by p o = rw (o, p .is, begins-at (h .back .begins), part-place (bodyOf (linesAt text (e .line .0))) true (e .at .0) (p .of) (p .is))
+
+  own-place : isAt line at (positionOf text (backOf e)) ≡ (eqb (e .line .0) line && eqb (e .at .0) at)
+  own-place = let o = h .paired r .ongoing in own-by (h .back .reads (rw o)) o
+
+  -- and so does its WEND
+  wend-place : isPartner line at (wendOf (positionOf text (backOf e))) ≡ (eqb (e .ending .0) line && eqb (e .close .0) at)
+  wend-place = let p = h .paired r in ap (isPartner line at) (p .is) ∙ rw (p .line, p .at)
+
+-- so a WHILE that has a record has its WEND
+pub record HasWend (text : List ℕ) (line at : ℕ) : Type 0 where
+  pub wend : Stand
+  pub is : wendFor at (linesAt text line) ≡ some wend
+
+module _ {text : List ℕ} {numbers : ℕ} {e : Record} (h : Placed text numbers e) (r : repeats e ≡ true) where
+  wend-by : (p : Parted (bodyOf (linesAt text (e .line .0))) (e .at .0)) → e .over ≡ 0
+      → wendOf (positionOf text (backOf e)) ≡ wendFor (e .at .0) (linesAt text (e .line .0))
+  wend-by p o = rw (o, p .is, part-place (bodyOf (linesAt text (e .line .0))) true (e .at .0) (p .of) (p .is))
+
+  own-wend : HasWend text (e .line .0) (e .at .0)
+  own-wend = let p = h .paired r in record { wend = p .wend; is = sym (wend-by (h .back .reads (rw (p .ongoing))) (p .ongoing)) ∙ p .is }
+
+pub while-found : (text names : List ℕ) {numbers : ℕ} {e : Record} → Placed text numbers e → (line at : ℕ)
+    → isWhile line at (recordOf text names e) ≡ true → HasWend text line at
+while-found text names {e = e} h line at t =
+    by-kind e (λ f. absurd (false≢true (rw f at t)))
+    (λ f g. let b = both (eqb (e .line .0) line) (eqb (e .at .0) at) (sym (own-place h g line at) ∙ (rw (f, g) at t)) in
+    let l = eqb-true (e .line .0) line (b .0) in let a = eqb-true (e .at .0) at (b .1) in rw (l, a) at (own-wend h g))
+    (λ f g. absurd (false≢true (rw (f, g) at t)))
+
+-- none other is a WHILE's
+no-while : (e : Record) → counts e ≡ true → repeats e ≡ false
+no-while e f = let k : e .kind ≡ 2 = eqb-true (e .kind) 2 f in rw k
 
 not-at : {P : Type 0} {i : ℕ} → slot.None ≡ slot.At i → P
 not-at e = never (cc)
@@ -115,26 +156,31 @@ module _ (text names : List ℕ) (numbers : ℕ) (few : numbers ≤ mostVariable
         (λ t. rw (t, f) (other (slot.At i) q (λ z. let s : i ≡ e .slot = cc in absurd (omega (arith, ltb-false i numbers t)))))
 
   -- its test on a record is the code's
-  same-test : (w : Wish) (e : Record) → (counts e ≡ true → e .slot < numbers) → testOf w (recordOf text names e) ≡ isSought (soughtFor names numbers w) e
+  same-test : (w : Wish) (e : Record) → Placed text numbers e → testOf w (recordOf text names e) ≡ isSought (soughtFor names numbers w) e
   same-test nothing e h = by-test (counts e) (λ f. rw f) (λ f. rw f)
-  same-test call e h = by-test (counts e) (λ f. rw f) (λ f. rw f)
-  same-test loop e h = by-test (counts e) (λ f. rw f) (λ f. rw f)
+  same-test call e h = same-end text names e
+  same-test loop e h = by-kind e (λ f. rw f) (λ f g. rw (f, g)) (λ f g. rw (f, g))
   same-test (loopOf name) e h =
-      by-test (counts e)
-      (λ f. rw f (rw f at (same-loop name e (h f) (slotIn names name) refl f)))
-      (λ f. rw f (rw f at (no-loop numbers (slotIn names name) e f)))
+      by-kind e
+      (λ f. rw f (rw f at (same-loop name e (h .known f) (slotIn names name) refl f)))
+      (λ f g. rw (f, g) (rw (f, g) at (no-loop numbers (slotIn names name) e f)))
+      (λ f g. rw (f, g) (rw (f, g) at (no-loop numbers (slotIn names name) e f)))
+  same-test (whileAt line at) e h =
+      by-kind e (λ f. rw (f, no-while e f)) (λ f g. rw (f, g) (own-place h g line at)) (λ f g. rw (f, g))
+  same-test (whileOf line at) e h =
+      by-kind e (λ f. rw (f, no-while e f)) (λ f g. rw (f, g) (wend-place h g line at)) (λ f g. rw (f, g))
 
   module _ (w : Wish) (rs : List Record) where
     abbrev k : Sought
     k = soughtFor names numbers w
 
     abbrev Known : ℕ → Type 0
-    Known d = (i : ℕ) → i < d → counts (getD rs i blankRecord) ≡ true → getD rs i blankRecord .slot < numbers
+    Known d = (i : ℕ) → i < d → Placed text numbers (getD rs i blankRecord)
 
     step : (d : ℕ) → Known (suc d) → let x = getD rs d blankRecord in
         spec.sought (testOf w) (recordsIn text names rs (suc d))
         ≡ cond (isSought k x) (spec.found (recordOf text names x) (recordsIn text names rs d))
-        (cond (not (counts x)) missing (spec.sought (testOf w) (recordsIn text names rs d)))
+        (cond (not (passes x)) missing (spec.sought (testOf w) (recordsIn text names rs d)))
     unfolding recordsIn spec.sought
     step d h = let x = getD rs d blankRecord in rw (same-test w x (h d (omega arith)), same-end text names x)
 
@@ -146,7 +192,7 @@ module _ (text names : List ℕ) (numbers : ℕ) (few : numbers ≤ mostVariable
         by-test (isSought k x)
         (λ t. let f : found.At d ≡ found.At i = rw t at e in let g : d ≡ i = cc in
         rw (← g) (record { below = omega arith; at = refl; passes = same-test w x (h d (omega arith)) ∙ t; is = step d h ∙ rw t }))
-        (λ t. by-test (counts x)
+        (λ t. by-test (passes x)
         (λ l. let r = found-at d i (λ j m. h j (omega arith)) (rw (t, l) at e) in
         record { below = omega (arith, r .below); at = refl; passes = r .passes; is = step d h ∙ rw (t, l) (r .is) })
         (λ l. not-found (rw (t, l) at e)))
@@ -157,7 +203,7 @@ module _ (text names : List ℕ) (numbers : ℕ) (few : numbers ≤ mostVariable
     found-none (suc d) h e =
         let x = getD rs d blankRecord in
         by-test (isSought k x) (λ t. not-found (sym (rw t at e)))
-        (λ t. step d h ∙ by-test (counts x) (λ l. rw (t, l) (found-none d (λ j m. h j (omega arith)) (rw (t, l) at e))) (λ l. rw (t, l)))
+        (λ t. step d h ∙ by-test (passes x) (λ l. rw (t, l) (found-none d (λ j m. h j (omega arith)) (rw (t, l) at e))) (λ l. rw (t, l)))
 
     told-by : (d : ℕ) → Known d → (f : Found) → foundIn k rs d ≡ f → Told text names (testOf w) d f (entryAt f rs) rs
     told-by d h (found.At i) e = found-at d i h e

@@ -1,19 +1,21 @@
 -- The records that the stack holds, as the definition has them: the topmost first.
 use mathlib.Core.Path.{_≡_, refl, sym, ap, ap₂, _∙_}
 use mathlib.Core.Logic.{⊎-elim}
-use mathlib.Core.Bool.{Bool, true, false, not}
+use mathlib.Core.Bool.{Bool, true, false, not, _||_, false≢true}
 use mathlib.Core.List.{List, [], _∷_, map}
 use Prim.Native.Nat.{ℕ, zero, suc, _≤_, _<_}
 use native.Mathlib.Nat.{not-suc-le-zero, le-of-suc-le-suc, le-refl}
 use native.Mathlib.Omega.{arith}
 use lib.Dec.{eqb}
+use borrow.Author.Tests.{eqb-true}
 use lib.ListN.{length, getD, set, length-map}
 use lib.Seq.{set-out, getD-set-same, getD-set-other}
 use Rattle.whole.proofs.Numbers.{less}
 use Rattle.words.proofs.Choices.{by-test}
 use Rattle.variables.specs.bridge.Memory.{nameAt}
-use Rattle.machine.specs.Machine.{loop, call}
-use Rattle.machine.specs.bridge.Holding.{positionOf, blankRecord, counts, backOf, overNumber, callRecord, loopRecord, recordOf, recordsIn}
+use Rattle.words.specs.declared.places.Place.{Place}
+use Rattle.machine.specs.Machine.{loop, call, again}
+use Rattle.machine.specs.bridge.Holding.{positionOf, blankRecord, counts, repeats, passes, backOf, overNumber, callRecord, loopRecord, whileRecord, recordOf, recordsIn}
 use Rattle.machine.specs.declared.positions.Position.{Position}
 use Rattle.machine.specs.declared.records.Record.{Record}
 
@@ -35,12 +37,20 @@ records-past rs slot e h = set-out rs slot e h
 
 -- ---- a record as the definition has it
 
+-- a FOR's, a WHILE's, or a GOSUB's
+pub by-kind : {P : Type 0} (e : Record) → (counts e ≡ true → P) → (counts e ≡ false → repeats e ≡ true → P)
+    → (counts e ≡ false → repeats e ≡ false → P) → P
+by-kind e l r c = by-test (counts e) l (λ f. by-test (repeats e) (r f) (c f))
+
 module _ (text names : List ℕ) (e : Record) where
   pub is-loop : counts e ≡ true → recordOf text names e ≡ loop (nameAt names (e .slot)) (e .limit) (e .step) (positionOf text (backOf e))
   is-loop f = rw f
 
-  pub is-call : counts e ≡ false → recordOf text names e ≡ call (positionOf text (backOf e))
-  is-call f = rw f
+  pub is-again : repeats e ≡ true → recordOf text names e ≡ again (positionOf text (backOf e))
+  is-again f = let k : e .kind ≡ 3 = eqb-true (e .kind) 3 f in rw k
+
+  pub is-call : passes e ≡ false → recordOf text names e ≡ call (positionOf text (backOf e))
+  is-call f = by-kind e (λ l. absurd (false≢true (sym f ∙ rw l))) (λ l r. absurd (false≢true (sym f ∙ rw (l, r)))) (λ l r. rw (l, r))
 
 -- a place to come back to is the one that was put there
 over-held : (b : Bool) → not (eqb (overNumber b) 0) ≡ b
@@ -96,7 +106,8 @@ module _ (text names : List ℕ) (rs : List Record) where
 -- more names in the table change none of them, where each loop's variable was there
 module _ (text names names′ : List ℕ) (numbers : ℕ) (kept : (i : ℕ) → i < numbers → nameAt names′ i ≡ nameAt names i) where
   pub record-kept : (e : Record) → (counts e ≡ true → e .slot < numbers) → recordOf text names′ e ≡ recordOf text names e
-  record-kept e h = by-test (counts e) (λ f. rw f (ap (λ n. loop n (e .limit) (e .step) (positionOf text (backOf e))) (kept (e .slot) (h f)))) (λ f. rw f)
+  record-kept e h =
+      by-kind e (λ f. rw f (ap (λ n. loop n (e .limit) (e .step) (positionOf text (backOf e))) (kept (e .slot) (h f)))) (λ f g. rw (f, g)) (λ f g. rw (f, g))
 
   pub records-kept : (rs : List Record) (d : ℕ) → ((i : ℕ) → i < d → counts (getD rs i blankRecord) ≡ true → getD rs i blankRecord .slot < numbers)
       → recordsIn text names′ rs d ≡ recordsIn text names rs d

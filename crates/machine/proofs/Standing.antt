@@ -1,7 +1,7 @@
 -- Positions of a run: the lines from a place on, the line that the code finds there, and the parts that read in it.
 use mathlib.Core.Path.{_≡_, refl, sym, ap, _∙_}
 use mathlib.Core.Logic.{⊎-elim}
-use mathlib.Core.Bool.{true}
+use mathlib.Core.Bool.{Bool, true}
 use mathlib.Core.List.{List, [], _∷_, _++_, append-assoc, cons-ne-nil}
 use Prim.Native.Nat.{ℕ, _+_, _-_, _≤_, _<_}
 use native.Mathlib.Omega.{arith}
@@ -22,6 +22,12 @@ use Rattle.loader.proofs.Extents.{cut, walked}
 use Rattle.loader.proofs.Found.{from-suffix, from-has, from-at}
 use Rattle.loader.proofs.Rising.{Rising, recipe, rising-suffix}
 use Rattle.loader.proofs.Spans.{Spanned, spanned-as, none-left}
+use Rattle.words.specs.declared.symbols.Scanned.{Scanned}
+use Rattle.grammar.specs.Trees.{Statement, Part, last, more}
+use Rattle.statements.specs.Parts.{placeOf}
+use Rattle.statements.specs.Statements.{goodPart, partOf}
+use Rattle.statements.proofs.Views.{Final, plain, thens, elses, more-view, final-view}
+use Rattle.machine.specs.Repeats.{startOf}
 use Rattle.machine.specs.bridge.Holding.{linesAt, bodyOf, Begins}
 
 -- ---- one line after another
@@ -66,6 +72,21 @@ begins-here w {l} {ls} q = record { before = w .before; first = l; others = ls; 
 pub begins-next : {text : List ℕ} {p : ℕ} → Begins text p → {l : Line} {ls : List Line} → linesAt text p ≡ l ∷ ls
     → {m : Line} {ms : List Line} → ls ≡ m ∷ ms → Begins text (l .next)
 begins-next {text} {p} b q e = begins-here (reaches-next b q) (after-line text p q .rest ∙ e)
+
+-- where a line begins is where it was looked for
+pub begins-at : {text : List ℕ} {p : ℕ} → Begins text p → startOf (linesAt text p) ≡ p
+begins-at {text} {p} b = ap startOf (b .here) ∙ after-line text p (b .here) .start
+
+-- ---- a part that reads from a place of a line stands there
+
+final-place : {line : List ℕ} {first : Bool} {at q : ℕ} {x : Statement} {end : Scanned} → Final line first at q x end → q ≡ at
+final-place (plain f) = f .at
+final-place (thens f) = f .at
+final-place (elses f) = f .at
+
+pub part-place : (line : List ℕ) (first : Bool) (at : ℕ) (p : Part) {end : Scanned} → partOf line first at ≡ goodPart p end → placeOf p ≡ at
+part-place line first at (last q x) e = final-place (final-view line first at e)
+part-place line first at (more q x rest) e = more-view line first at e .at
 
 -- ---- the line that is found at a place
 

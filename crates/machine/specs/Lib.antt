@@ -1,2 +1,4 @@
 pub mod Machine
+pub mod Order
+pub mod Repeats
 pub mod bridge

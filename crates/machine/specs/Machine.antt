@@ -20,10 +20,11 @@ pub record Position : Type 0 where
   pub lines : List Line
   pub rest : Rest
 
--- what FOR and GOSUB leave, the topmost first
+-- what FOR, GOSUB and WHILE leave, the topmost first; a WHILE's comes back to the WHILE itself
 pub data Record : Type 0 where
   loop : Telling → ℕ → ℕ → Position → Record
   call : Position → Record
+  again : Position → Record
 
 pub record Machine : Type 0 where
   pub variables : Variables
@@ -124,19 +125,23 @@ commaBlanks m = replicate (14 - m .column % 14) blank
 abbrev pub isCall : Record → Bool
 isCall (loop v limit step p) = false
 isCall (call p) = true
+isCall (again p) = false
 
 abbrev pub isLoop : Record → Bool
 isLoop (loop v limit step p) = true
 isLoop (call p) = false
+isLoop (again p) = false
 
 abbrev pub isLoopOf : Telling → Record → Bool
 isLoopOf name (loop v limit step p) = alike v name
 isLoopOf name (call p) = false
+isLoopOf name (again p) = false
 
 -- where the run goes on after it
 abbrev pub backOf : Record → Position
 backOf (loop v limit step p) = p
 backOf (call p) = p
+backOf (again p) = p
 
 -- the record that was looked for, and those under it
 pub data Search : Type 0 where

@@ -19,6 +19,7 @@ pub use records::Record;
 pub use records::Sought;
 pub use records::Stack;
 pub use records::find_record;
+pub use records::is_sought;
 pub use records::record_at;
 pub use records::with_record;
 pub use sought::sought_record;

@@ -3,8 +3,8 @@ ghost use mathlib.Core.Path.{_≡_};
 ghost use Prim.Native.Nat.{_≤_};
 ghost use lib.ListN.{getD, set, replicate};
 ghost use Rattle.machine.specs.Machine.{mostRecords};
-ghost use Rattle.machine.specs.bridge.Holding.{blankRecord, backOf, overNumber, callRecord, loopRecord};
-ghost use Rattle.machine.specs.bridge.Wanted.{LoopOf, isSought, foundIn};
+ghost use Rattle.machine.specs.bridge.Holding.{blankRecord, backOf, overNumber, callRecord, loopRecord, whileRecord, passes};
+ghost use Rattle.machine.specs.bridge.Wanted.{LoopOf, WhileAt, WhileOf, isThere, isWhileSought, isLoopSought, isSought, foundIn};
 use crate::positions::Position;
 use crate::state::Machine;
 use words::Place;
@@ -19,6 +19,8 @@ pub struct Record {
     pub slot: usize,
     pub line: Place,
     pub at: Place,
+    pub ending: Place,
+    pub close: Place,
 }
 
 pub struct Stack {
@@ -35,6 +37,8 @@ pub enum Found {
 pub struct Sought {
     pub kind: u8,
     pub slot: usize,
+    pub line: Place,
+    pub at: Place,
 }
 
 impl Sought {
@@ -46,19 +50,29 @@ impl Sought {
 
     const NAMED_LOOP: u8 = 3;
 
+    const WHILE_AT: u8 = 4;
+
+    const WHILE_OF: u8 = 5;
+
     pub const NOTHING: Sought = Sought {
         kind: Sought::NONE,
         slot: 0,
+        line: Place(0),
+        at: Place(0),
     };
 
     pub const CALL: Sought = Sought {
         kind: Sought::NEAREST_CALL,
         slot: 0,
+        line: Place(0),
+        at: Place(0),
     };
 
     pub const LOOP: Sought = Sought {
         kind: Sought::ANY_LOOP,
         slot: 0,
+        line: Place(0),
+        at: Place(0),
     };
 
     pub fn loop_of(slot: usize) -> Sought
@@ -67,6 +81,32 @@ impl Sought {
         Sought {
             kind: Sought::NAMED_LOOP,
             slot,
+            line: Place(0),
+            at: Place(0),
+        }
+    }
+
+    // The WHILE that stands at a place of the line that begins at another.
+    pub fn while_at(line: Place, at: Place) -> Sought
+        ensures { λ r. ⌜ r ≡ WhileAt line at ⌝ }
+    {
+        Sought {
+            kind: Sought::WHILE_AT,
+            slot: 0,
+            line,
+            at,
+        }
+    }
+
+    // The WHILE whose WEND stands there.
+    pub fn while_of(line: Place, at: Place) -> Sought
+        ensures { λ r. ⌜ r ≡ WhileOf line at ⌝ }
+    {
+        Sought {
+            kind: Sought::WHILE_OF,
+            slot: 0,
+            line,
+            at,
         }
     }
 }
@@ -75,6 +115,8 @@ impl Record {
     pub const CALL: u8 = 1;
 
     pub const COUNT: u8 = 2;
+
+    pub const REPEAT: u8 = 3;
 
     pub fn blank() -> Record
         ensures { λ r. ⌜ r ≡ blankRecord ⌝ }
@@ -87,6 +129,8 @@ impl Record {
             slot: 0,
             line: Place(0),
             at: Place(0),
+            ending: Place(0),
+            close: Place(0),
         }
     }
 
@@ -104,6 +148,25 @@ impl Record {
             slot: 0,
             line,
             at,
+            ending: Place(0),
+            close: Place(0),
+        }
+    }
+
+    // A WHILE's, which stands at a place, and whose WEND at another.
+    pub fn repeats(line: Place, at: Place, ending: Place, close: Place) -> Record
+        ensures { λ r. ⌜ r ≡ whileRecord line at ending close ⌝ }
+    {
+        Record {
+            kind: Record::REPEAT,
+            over: 0,
+            limit: 0,
+            step: 0,
+            slot: 0,
+            line,
+            at,
+            ending,
+            close,
         }
     }
 
@@ -121,6 +184,8 @@ impl Record {
             slot,
             line,
             at,
+            ending: Place(0),
+            close: Place(0),
         }
     }
 
@@ -158,25 +223,66 @@ impl Stack {
     }
 }
 
-// Whether a record is the one that is asked for.
-fn is_sought(sought: Sought, entry: Record) -> bool
-    ensures { λ r. ⌜ r ≡ isSought sought entry ⌝ }
+// A search goes on past a FOR's and a WHILE's.
+fn passes(entry: Record) -> bool
+    ensures { λ r. ⌜ r ≡ passes entry ⌝ }
 {
-    let kind = sought.kind;
-    let counts = entry.kind == Record::COUNT;
-    if kind == Sought::NEAREST_CALL {
-        return !counts;
-    }
-    if !counts {
-        return false;
-    }
-    if kind == Sought::ANY_LOOP {
+    if entry.kind == Record::COUNT {
         return true;
     }
-    if kind == Sought::NAMED_LOOP {
+    entry.kind == Record::REPEAT
+}
+
+// Whether a place of a line is the one that is asked for.
+fn is_there(line: Place, at: Place, sought: Sought) -> bool
+    ensures { λ r. ⌜ r ≡ isThere (line .0) (at .0) sought ⌝ }
+{
+    if line.0 != sought.line.0 {
+        return false;
+    }
+    at.0 == sought.at.0
+}
+
+// Whether it is a WHILE's that is asked for by its own place, or by that of its WEND.
+fn is_while(sought: Sought, entry: Record) -> bool
+    ensures { λ r. ⌜ r ≡ isWhileSought sought entry ⌝ }
+{
+    if entry.kind != Record::REPEAT {
+        return false;
+    }
+    if sought.kind == Sought::WHILE_AT {
+        return is_there(entry.line, entry.at, sought);
+    }
+    is_there(entry.ending, entry.close, sought)
+}
+
+// Whether it is a FOR's that is asked for, any or that of a variable.
+fn is_loop(sought: Sought, entry: Record) -> bool
+    ensures { λ r. ⌜ r ≡ isLoopSought sought entry ⌝ }
+{
+    if entry.kind != Record::COUNT {
+        return false;
+    }
+    if sought.kind == Sought::ANY_LOOP {
+        return true;
+    }
+    if sought.kind == Sought::NAMED_LOOP {
         return entry.slot == sought.slot;
     }
     false
+}
+
+// Whether a record is the one that is asked for.
+pub fn is_sought(sought: Sought, entry: Record) -> bool
+    ensures { λ r. ⌜ r ≡ isSought sought entry ⌝ }
+{
+    if sought.kind == Sought::NEAREST_CALL {
+        return !passes(entry);
+    }
+    if Sought::NAMED_LOOP < sought.kind {
+        return is_while(sought, entry);
+    }
+    is_loop(sought, entry)
 }
 
 // A search down the stack: none below the nearest GOSUB's is looked at.
@@ -194,7 +300,7 @@ pub fn find_record(stack: Stack, depth: usize, sought: Sought) -> Found
         if is_sought(sought, entry) {
             return Found::At(i);
         }
-        if entry.kind != Record::COUNT {
+        if !passes(entry) {
             return Found::None;
         }
     }

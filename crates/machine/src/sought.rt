@@ -9,14 +9,22 @@ use variables::NameTable;
 use variables::Slot;
 use variables::slot_of;
 use words::Name;
+use words::Place;
 use words::Scanned;
 use words::Token;
 use words::Word;
 use words::telling_of;
 
 // By how it is led; `names` are those of so many number variables.
-pub fn sought_record(line: &[u8], lead: Lead, names: &NameTable, numbers: usize) -> Sought
-    ensures { λ r. ⌜ Seeks (now (names .entry)) numbers r (begunBy (now (line .entry)) lead) ⌝ }
+pub fn sought_record(
+    line: &[u8],
+    here: Place,
+    at: Place,
+    lead: Lead,
+    names: &NameTable,
+    numbers: usize,
+) -> Sought
+    ensures { λ r. ⌜ Seeks (now (names .entry)) numbers here at r (begunBy (now (line .entry)) lead) ⌝ }
 {
     match lead {
         Lead::Nothing => Sought::NOTHING,
@@ -24,6 +32,8 @@ pub fn sought_record(line: &[u8], lead: Lead, names: &NameTable, numbers: usize)
             Word::Return => Sought::CALL,
             Word::For => sought_loop(line, from, names, numbers),
             Word::Next => sought_loop(line, from, names, numbers),
+            Word::While => Sought::while_at(here, at),
+            Word::Wend => Sought::while_of(here, at),
             _ => Sought::NOTHING,
         },
     }

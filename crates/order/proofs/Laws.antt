@@ -10,7 +10,7 @@ use Rattle.whole.proofs.Never.{never}
 use Rattle.words.specs.declared.symbols.Scanned.{Scanned}
 use Rattle.words.proofs.Choices.{by-test}
 use Rattle.loader.specs.Lines.{Line, afterNumber, nextLine}
-use Rattle.grammar.specs.Trees.{Statement, empty, assign, print, ifThen, ifElse, goto, gosub, return, for, next, nextOf, lineInput, end, stop, remark, Part, last, more}
+use Rattle.grammar.specs.Trees.{Statement, empty, assign, print, ifThen, ifElse, goto, gosub, return, for, next, nextOf, while, wend, lineInput, end, stop, remark, Part, last, more}
 use Rattle.statements.specs.Parts.{headOf, placeOf, partsOf, partsWithin, heads, statementsOf}
 use Rattle.statements.specs.Statements.{goodPart, partOf}
 use Rattle.statements.proofs.Depths.{heads-append}
@@ -18,11 +18,10 @@ use Rattle.reader.specs.Lines.{Judgement, unreadable, tooDeep, holds, judgement
 use Rattle.reader.proofs.Judging.{held}
 use Rattle.reader.proofs.Visits.{line-onto, visit}
 use Rattle.machine.specs.bridge.Holding.{linesAt, bodyOf}
-use Rattle.order.specs.Order.{beyond, Stand, placed, partsHeld, partsIn, standsIn, stands, later, Partner, some, paired, partner}
-use Rattle.order.specs.bridge.Walking.{linesFrom, Ahead}
-use Rattle.order.specs.declared.partners.Bracket.{Bracket}
-use Rattle.order.specs.declared.partners.Bracket.the-variants.{Opens, Closes, Neither}
+use Rattle.machine.specs.Order.{beyond, Stand, placed, partsHeld, partsIn, standsIn, stands, later, Bracket, opens, closes, neither, Partner, none, some, paired, partner}
+use Rattle.order.specs.bridge.Walking.{linesFrom, Ahead, Spotted, PartnerAs}
 use Rattle.order.specs.declared.texts.Spot.{Spot}
+use Rattle.order.specs.declared.texts.Walk.the-variants as walk
 use Rattle.order.proofs.Rising.{Rises, rises, beyond-one, held-rises}
 use Rattle.order.proofs.Texting.{bodyAt, here-ahead, told, later-here, parting}
 
@@ -90,6 +89,8 @@ module _ (P : Statement → Type 0) where
     throughout-within (for v from to by) a = tt
     throughout-within next a = tt
     throughout-within (nextOf v) a = tt
+    throughout-within (while c) a = tt
+    throughout-within wend a = tt
     throughout-within (lineInput t v) a = tt
     throughout-within end a = tt
     throughout-within stop a = tt
@@ -173,10 +174,10 @@ module _ (P : List Line → Type 0) (after : (l : Line) (ls : List Line) → P (
 
 one-by : (P : Stand → Type 0) (y x : Stand) (go : ℕ → Partner) → P y → ((n : ℕ) → go n ≡ some x → P x) → (b : Bracket) (k : ℕ)
     → paired b k y go ≡ some x → P x
-one-by P y x go own others Opens k e = others (suc k) e
-one-by P y x go own others Closes zero e = let f : y ≡ x = cc in rw (← f) own
-one-by P y x go own others Closes (suc k) e = others k e
-one-by P y x go own others Neither k e = others k e
+one-by P y x go own others opens k e = others (suc k) e
+one-by P y x go own others closes zero e = let f : y ≡ x = cc in rw (← f) own
+one-by P y x go own others closes (suc k) e = others k e
+one-by P y x go own others neither k e = others k e
 
 module _ (P : Stand → Type 0) (test : Statement → Bracket) where
   pub partner-one : (k : ℕ) (xs : List Stand) → Every P xs → (x : Stand) → partner test k xs ≡ some x → P x
@@ -187,14 +188,14 @@ module _ (P : Stand → Type 0) (test : Statement → Bracket) where
 
 -- and closes
 
-closes-by : (test : Statement → Bracket) (y x : Stand) (go : ℕ → Partner) → ((n : ℕ) → go n ≡ some x → test (headOf (x .part)) ≡ Closes)
-    → (b : Bracket) (k : ℕ) → test (headOf (y .part)) ≡ b → paired b k y go ≡ some x → test (headOf (x .part)) ≡ Closes
-closes-by test y x go others Opens k b e = others (suc k) e
-closes-by test y x go others Closes zero b e = let f : y ≡ x = cc in rw (← f) b
-closes-by test y x go others Closes (suc k) b e = others k e
-closes-by test y x go others Neither k b e = others k e
+closes-by : (test : Statement → Bracket) (y x : Stand) (go : ℕ → Partner) → ((n : ℕ) → go n ≡ some x → test (headOf (x .part)) ≡ closes)
+    → (b : Bracket) (k : ℕ) → test (headOf (y .part)) ≡ b → paired b k y go ≡ some x → test (headOf (x .part)) ≡ closes
+closes-by test y x go others opens k b e = others (suc k) e
+closes-by test y x go others closes zero b e = let f : y ≡ x = cc in rw (← f) b
+closes-by test y x go others closes (suc k) b e = others k e
+closes-by test y x go others neither k b e = others k e
 
-pub partner-closes : (test : Statement → Bracket) (k : ℕ) (xs : List Stand) (x : Stand) → partner test k xs ≡ some x → test (headOf (x .part)) ≡ Closes
+pub partner-closes : (test : Statement → Bracket) (k : ℕ) (xs : List Stand) (x : Stand) → partner test k xs ≡ some x → test (headOf (x .part)) ≡ closes
 unfolding partner
 partner-closes test k [] x e = never (cc)
 partner-closes test k (y ∷ ys) x e =
@@ -203,10 +204,10 @@ partner-closes test k (y ∷ ys) x e =
 -- ---- pairs nest
 
 abbrev pairedPast : Bracket → ℕ → List Stand → (ℕ → List Stand) → List Stand
-pairedPast Opens k xs go = go (suc k)
-pairedPast Closes zero xs go = xs
-pairedPast Closes (suc k) xs go = go k
-pairedPast Neither k xs go = go k
+pairedPast opens k xs go = go (suc k)
+pairedPast closes zero xs go = xs
+pairedPast closes (suc k) xs go = go k
+pairedPast neither k xs go = go k
 
 -- those after the partner
 unfoldable pub pastPartner : (Statement → Bracket) → ℕ → List Stand → List Stand
@@ -216,11 +217,11 @@ pastPartner test k (x ∷ xs) = pairedPast (test (headOf (x .part))) k xs (λ n.
 nests-by : (x : Stand) (xs : List Stand) (go : ℕ → Partner) (past : ℕ → List Stand) (find : List Stand → Partner) (k : ℕ)
     → ((m : ℕ) → m ≡ k → go m ≡ find xs) → ((n m : ℕ) → m ≡ n + k + 1 → go m ≡ find (past n)) → (b : Bracket) (n m : ℕ)
     → m ≡ n + k + 1 → paired b m x go ≡ find (pairedPast b n xs past)
-nests-by x xs go past find k here on Opens n m e = on (suc n) (suc m) (omega arith)
-nests-by x xs go past find k here on Closes n zero e = absurd (omega arith)
-nests-by x xs go past find k here on Closes zero (suc m) e = here m (omega arith)
-nests-by x xs go past find k here on Closes (suc n) (suc m) e = on n m (omega arith)
-nests-by x xs go past find k here on Neither n m e = on n m e
+nests-by x xs go past find k here on opens n m e = on (suc n) (suc m) (omega arith)
+nests-by x xs go past find k here on closes n zero e = absurd (omega arith)
+nests-by x xs go past find k here on closes zero (suc m) e = here m (omega arith)
+nests-by x xs go past find k here on closes (suc n) (suc m) e = on n m (omega arith)
+nests-by x xs go past find k here on neither n m e = on n m e
 
 -- what waits longer is closed by a statement past the one that closes what waits less long: so no two that open have one partner
 pub pairs-nest : (test : Statement → Bracket) (k : ℕ) (xs : List Stand) (n m : ℕ) → m ≡ n + k + 1
@@ -272,3 +273,9 @@ ahead-unique {text} {spot} a b =
     let q = parting b in
     let e : p .first ≡ q .first = cc (sym (p .reads) ∙ q .reads) in
     (p .is ∙ ap (λ f. record { lines = linesFrom text spot; part = f }) e ∙ sym (q .is), ahead-later a ∙ sym (ahead-later b))
+
+-- ---- a partner that was found is a statement of the text
+
+pub spot-of : {text : List ℕ} {spot : Spot} (p : Partner) → PartnerAs text (walk.At spot) p → Spotted text spot
+spot-of none h = absurd h
+spot-of (some x) h = record { xs = x ∷ h .rest; ahead = h .ahead }

@@ -16,7 +16,7 @@ use Rattle.reader.specs.declared.branches.Start.{Start}
 use Rattle.reader.specs.declared.lines.Judged.{Judged}
 use Rattle.reader.specs.declared.lines.Judged.the-variants as judged
 use Rattle.reader.proofs.Visits.{visit, further}
-use Rattle.order.specs.Order.{partsHeld}
+use Rattle.machine.specs.Order.{partsHeld}
 use Rattle.order.specs.bridge.Walking.{Passes, PassesIf}
 
 pub steps : (s : List ℕ) (p : ℕ) {read : StatementRead} {next : Start} → read ≡ begunAnswer (begunAt s true p) → next ≡ startOf (followOf read)

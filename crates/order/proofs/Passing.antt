@@ -23,7 +23,7 @@ use Rattle.machine.specs.Machine as spec
 use Rattle.machine.specs.bridge.Holding.{linesAt, bodyOf, Shallow, positionOf, Begins, Positioned}
 use Rattle.machine.specs.declared.positions.Position.{Position}
 use Rattle.statements.proofs.Firsts.{true-part}
-use Rattle.order.specs.Order.{partsHeld, Stand, past}
+use Rattle.machine.specs.Order.{partsHeld, Stand, past}
 use Rattle.order.proofs.Laws.{Every, every-back, Throughout, throughout}
 use Rattle.order.specs.bridge.Walking.{Ahead, pastRead}
 use Rattle.order.specs.declared.texts.Spot.{Spot}

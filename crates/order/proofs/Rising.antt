@@ -30,7 +30,7 @@ use Rattle.reader.specs.bridge.Walking.{followsDone, followOf, startOf, Onto, S
 use Rattle.reader.specs.declared.branches.Start.the-variants as start
 use Rattle.reader.specs.declared.walking.Follow.{Follow}
 use Rattle.reader.specs.declared.walking.Follow.the-variants as follow
-use Rattle.order.specs.Order.{beyond, partsHeld}
+use Rattle.machine.specs.Order.{beyond, partsHeld}
 use Rattle.reader.proofs.Judging.{held}
 use Rattle.reader.proofs.Visits.{visit, line-onto}
 

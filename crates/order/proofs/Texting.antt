@@ -25,7 +25,7 @@ use Rattle.reader.specs.bridge.Walking.{Onto}
 use Rattle.machine.specs.bridge.Holding.{linesAt, bodyOf, Begins}
 use Rattle.machine.proofs.Standing as standing
 use Rattle.machine.proofs.Standing.{reaches-next, Told, told-as, none-here, reached-some, reached-none}
-use Rattle.order.specs.Order.{partsHeld, partsIn, beyond, Stand, placed, stands, later}
+use Rattle.machine.specs.Order.{partsHeld, partsIn, beyond, Stand, placed, stands, later}
 use Rattle.order.specs.bridge.Walking.{Passes, Reached, Lined, linesFrom, Ahead, leftAt, leftFrom}
 use Rattle.order.specs.declared.texts.Spot.{Spot}
 use Rattle.reader.proofs.Judging.{held}

@@ -19,8 +19,8 @@ use Rattle.grammar.specs.Formulas.{after}
 use Rattle.statements.proofs.Findings.{by-name, by-line}
 use Rattle.statements.proofs.Parts.{unrolled}
 use Rattle.statements.proofs.Views.{Final, plain, thens, elses, more-view, final-view}
-use Rattle.statements.proofs.Ways.{if-so, by-assign, by-items, by-condition, by-for, by-input}
-use Rattle.order.specs.Order.{wordOf}
+use Rattle.statements.proofs.Ways.{if-so, by-assign, by-items, by-condition, by-for, by-repeat, by-input}
+use Rattle.machine.specs.Order.{wordOf}
 
 -- what a word leads is a statement of that word
 abbrev Worded : Word → Begun → Type 0
@@ -47,8 +47,8 @@ module _ (s : List ℕ) (t : Scanned) where
   worded End = refl
   worded Stop = refl
   worded Rem = refl
-  worded While = tt
-  worded Wend = tt
+  worded While = by-repeat (Worded While) tt s t (λ c u e. refl)
+  worded Wend = refl
   worded Data = tt
   worded Read = tt
   worded Restore = tt

@@ -18,7 +18,7 @@ use Rattle.grammar.specs.Trees.{Part, last, more}
 use Rattle.expressions.specs.Types.{depthOf, deepestOf}
 use Rattle.statements.specs.Statements.{itemsAt, printAt, forAt, inputAt, begunAt, partAt, readLine}
 use Rattle.statements.specs.Parts.{placeOf, deepest, partsOf, heads, deepestIn}
-use Rattle.order.specs.Order.{beyond, Stand, placed, stands, later, Partner, none, some, partner, nextFor}
+use Rattle.machine.specs.Order.{beyond, Stand, placed, stands, later, Partner, none, some, partner, nextFor}
 
 pub record Seen : Type 0 where
   pub line : ℕ

@@ -4,7 +4,7 @@ ghost use Rattle.grammar.specs.Trees.{Part};
 ghost use Rattle.statements.specs.Parts.{partsOf};
 ghost use Rattle.reader.specs.Lines.{holds, judgement};
 ghost use Rattle.reader.specs.bridge.Walking.{StartsAs};
-ghost use Rattle.order.specs.Order.{beyond};
+ghost use Rattle.machine.specs.Order.{beyond};
 ghost use Rattle.order.specs.bridge.Walking.{PassesIf};
 use reader::Judged;
 use reader::Start;

@@ -2,7 +2,7 @@
 ghost use mathlib.Core.Path.{_≡_};
 ghost use mathlib.Core.List.{List, _∷_};
 ghost use Rattle.machine.specs.bridge.Holding.{positionOf, Positioned};
-ghost use Rattle.order.specs.Order.{Stand, past};
+ghost use Rattle.machine.specs.Order.{Stand, past};
 ghost use Rattle.order.specs.bridge.Walking.{Ahead, Spotted, pastRead};
 use crate::texts::Spot;
 use grammar::is_symbol;

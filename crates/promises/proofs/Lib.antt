@@ -20,3 +20,4 @@ pub mod OutOfSteps
 pub mod Refusals
 pub mod Counting
 pub mod Questions
+pub mod Pairs

@@ -25,10 +25,11 @@ use Rattle.grammar.specs.Trees.{Formula, Variable, Item, Statement}
 use Rattle.variables.specs.Strings.{Value, whole, text, Outcome, value, fault, make}
 use Rattle.variables.specs.Variables.{NumberVariable, wordOf, setNumber, hasNumber, numbersFull, stringsFull}
 use Rattle.operators.specs.Values.{valueOf}
-use Rattle.machine.specs.Machine.{Position, Record, loop, call, Machine, mostRecords, fresh, roomOf, withStep, noting, write, commaBlanks, isCall, isLoop, isLoopOf, Search, missing, found, sought, passed, longestInputLine}
+use Rattle.machine.specs.Machine.{Position, Record, loop, call, again, Machine, mostRecords, fresh, roomOf, withStep, noting, write, commaBlanks, isCall, isLoop, isLoopOf, Search, missing, found, sought, passed, longestInputLine}
 use Rattle.statements.specs.Parts.{Rest, nothing, part, headOf, tailOf, placeOf}
-use Rattle.order.specs.Order.{Partner, none, some, nextFor}
-use Rattle.turns.specs.Steps.{Next, goesOn, enters, ends, stops, fails, wholeOnly, worked, workedWhole, withNumber, storeNumber, storeString, assigned, written, printItems, toLine, pushed, returned, cleared, begun, turned, nextOn, takeLine, filled, inputLine, isWholeKind, doStatement, namesOther, skipped}
+use Rattle.machine.specs.Order.{Partner, none, some, nextFor, wendFor}
+use Rattle.machine.specs.Repeats.{startOf, isWhile, isWhileOf}
+use Rattle.turns.specs.Steps.{Next, goesOn, enters, ends, stops, fails, wholeOnly, worked, workedWhole, withNumber, storeNumber, storeString, assigned, written, printItems, toLine, pushed, returned, cleared, begun, turned, nextOn, takeLine, filled, inputLine, isWholeKind, doStatement, namesOther, skipped, hereOf, repeated, whileBy, turnedBack}
 use Rattle.runner.specs.Run.{lineNumberOf, Entered, over, faulty, opened, enter, Standing, finished, at, byEntered, entering, onward, following, turn}
 use Rattle.promises.specs.Passing.{standsAfter, isNext, lacksRoom, nextHasRoom}
 use Rattle.promises.proofs.Checked.Operators.{by-choice}
@@ -64,6 +65,7 @@ number-made (v ∷ vs) name w =
 abbrev RecordMade : List NumberVariable → Record → Type 0
 RecordMade vs (loop v limit step p) = hasNumber vs v ≡ true
 RecordMade vs (call p) = Unit {0}
+RecordMade vs (again p) = Unit {0}
 
 abbrev RecordsMade : List NumberVariable → List Record → Type 0
 RecordsMade vs rs = records.Each (RecordMade vs) rs
@@ -77,6 +79,7 @@ MachineMade m = RecordsMade (m .variables .numbers) (m .records)
 record-stays : (vs : List NumberVariable) (name : Telling) (w : ℕ) (r : Record) → RecordMade vs r → RecordMade (setNumber vs name w) r
 record-stays vs name w (loop v limit step p) h = number-stays vs name w v h
 record-stays vs name w (call p) h = tt
+record-stays vs name w (again p) h = tt
 
 records-stay : (vs : List NumberVariable) (name : Telling) (w : ℕ) (rs : List Record) → RecordsMade vs rs → RecordsMade (setNumber vs name w) rs
 records-stay vs name w [] h = tt
@@ -175,10 +178,27 @@ found-made m missing after h = tt
 found-made m (found (loop v limit step back) under) after h =
     turned-made m v limit step back under after (applied Add (wordOf (m .variables .numbers) v) step) (h .1)
 found-made m (found (call q) under) after h = tt
+found-made m (found (again q) under) after h = tt
 
 next-made : (test : Record → Bool) (m : Machine) (after : Position) → MachineMade m → NextMade (nextOn m (sought test (m .records)) after)
 next-made test m after r =
     found-made m (sought test (m .records)) after (sought-each (RecordMade (m .variables .numbers)) test (m .records) r)
+
+repeated-made : (m : Machine) (s : Search) (here after : Position) → MachineMade m → SearchMade (m .variables .numbers) s → NextMade (repeated m s here after)
+repeated-made m missing here after r h = pushed-made m (again here) (λ n. goesOn n after) r tt (λ n q. q)
+repeated-made m (found x under) here after r h = h
+
+while-made : (s : Partner) (place : ℕ) (c : Formula) (m : Machine) (after : Position) → MachineMade m → NextMade (whileBy s place c m after)
+while-made none place c m after r = tt
+while-made (some w) place c m after r =
+    let test = isWhile (startOf (after .lines)) place in
+    whole-worked c m _ r (λ v n q. by-choice NextMade (eqb v 0)
+    (below-each (RecordMade (n .variables .numbers)) test (n .records) q)
+    (repeated-made n (sought test (n .records)) (hereOf place c after) after q (sought-each (RecordMade (n .variables .numbers)) test (n .records) q)))
+
+back-made : (m : Machine) (s : Search) → SearchMade (m .variables .numbers) s → NextMade (turnedBack m s)
+back-made m missing h = tt
+back-made m (found r under) h = h
 
 filled-made : (k : Kind) (name : Telling) (b : List ℕ) (m : Machine) (go : Machine → Next) → MachineMade m → Continues go
     → NextMade (filled k name b m go)
@@ -214,6 +234,10 @@ statement-made program place (tree.for v from to by) m after r =
 statement-made program place tree.next m after r = next-made isLoop m after r
 statement-made program place (tree.nextOf v) m after r =
     by-choice NextMade (isWholeKind (v .kind)) (next-made (isLoopOf (v .telling)) m after r) tt
+statement-made program place (tree.while c) m after r = while-made (wendFor place (after .lines)) place c m after r
+statement-made program place tree.wend m after r =
+    let test = isWhileOf (startOf (after .lines)) place in
+    back-made m (sought test (m .records)) (sought-each (RecordMade (m .variables .numbers)) test (m .records) r)
 statement-made program place (tree.lineInput t v) m after r = written-made m t _ r (λ n q. input-made (n .input) n v _ q (λ o s. s))
 statement-made program place tree.end m after r = tt
 statement-made program place tree.stop m after r = tt
@@ -275,6 +299,7 @@ found-has-room m missing after h = refl
 found-has-room m (found (loop v limit step back) under) after h =
     turned-has-room m v limit step back under after (applied Add (wordOf (m .variables .numbers) v) step) (h .0) (fit-has-room _)
 found-has-room m (found (call q) under) after h = refl
+found-has-room m (found (again q) under) after h = refl
 
 searched-has-room : (test : Record → Bool) (m : Machine) (after : Position) → MachineMade m → HasRoom (nextOn m (sought test (m .records)) after)
 searched-has-room test m after r =
@@ -294,6 +319,8 @@ statement-has-room program place (tree.goto l) m after e r = absurd (false≢tru
 statement-has-room program place (tree.gosub l) m after e r = absurd (false≢true e)
 statement-has-room program place tree.return m after e r = absurd (false≢true e)
 statement-has-room program place (tree.for v from to by) m after e r = absurd (false≢true e)
+statement-has-room program place (tree.while c) m after e r = absurd (false≢true e)
+statement-has-room program place tree.wend m after e r = absurd (false≢true e)
 statement-has-room program place (tree.lineInput t v) m after e r = absurd (false≢true e)
 statement-has-room program place tree.end m after e r = absurd (false≢true e)
 statement-has-room program place tree.stop m after e r = absurd (false≢true e)

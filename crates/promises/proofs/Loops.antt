@@ -3,7 +3,7 @@ use mathlib.Core.Bool.{cond}
 use Prim.Native.Nat.{ℕ}
 use Rattle.words.specs.declared.names.Telling.{Telling}
 use Rattle.machine.specs.Machine.{Position, loop, Machine, passed}
-use Rattle.order.specs.Order.{nextFor}
+use Rattle.machine.specs.Order.{nextFor}
 use Rattle.turns.specs.Steps.{Next, goesOn, pushed, cleared, skipped}
 
 abbrev pub looped : Telling → ℕ → Position → ℕ → ℕ → ℕ → Machine → Next

@@ -23,6 +23,8 @@ use Rattle.whole.specs.declared.errors.Error.the-variants.{
   FormulaTooComplex,
   LineBufferOverflow,
   ForWithoutNext,
+  WhileWithoutWend,
+  WendWithoutWhile,
   InputPastEnd,
   OutputFull,
 }
@@ -70,7 +72,9 @@ errorOf n =
     (cond (eqb n 16) FormulaTooComplex
     (cond (eqb n 23) LineBufferOverflow
     (cond (eqb n 26) ForWithoutNext
-    (cond (eqb n 62) InputPastEnd OutputFull))))))))))))))
+    (cond (eqb n 29) WhileWithoutWend
+    (cond (eqb n 30) WendWithoutWhile
+    (cond (eqb n 62) InputPastEnd OutputFull))))))))))))))))
 
 error-back : (e : Error) → errorOf (errorNumber e) ≡ e
 unfolding errorOf
@@ -88,6 +92,8 @@ error-back StringTooLong = refl
 error-back FormulaTooComplex = refl
 error-back LineBufferOverflow = refl
 error-back ForWithoutNext = refl
+error-back WhileWithoutWend = refl
+error-back WendWithoutWhile = refl
 error-back InputPastEnd = refl
 error-back OutputFull = refl
 
@@ -109,6 +115,8 @@ error-some StringTooLong = omega arith
 error-some FormulaTooComplex = omega arith
 error-some LineBufferOverflow = omega arith
 error-some ForWithoutNext = omega arith
+error-some WhileWithoutWend = omega arith
+error-some WendWithoutWhile = omega arith
 error-some InputPastEnd = omega arith
 error-some OutputFull = omega arith
 

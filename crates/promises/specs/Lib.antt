@@ -13,3 +13,4 @@ pub mod OutOfSteps
 pub mod Refusals
 pub mod Requests
 pub mod Questions
+pub mod Pairs

@@ -25,6 +25,7 @@ use Rattle.strings.specs.Functions.{called}
 use Rattle.operators.specs.Values.{leftRight, taken, valueOf, valuesOf}
 use Rattle.machine.specs.Machine.{Machine, Lent, fresh, roomOf, withStep, noting, printed, write, commaBlanks, longestInputLine}
 use Rattle.statements.specs.Parts.{placeOf, headOf}
+use Rattle.machine.specs.Order.{Stand, some, wendFor}
 use Rattle.turns.specs.Steps.{shownValue, takeLine, isWholeKind}
 use Rattle.runner.specs.Run.{lineNumberOf, Standing, at, entering, turn}
 
@@ -103,8 +104,8 @@ pub data PrintAsks : List Item → Machine → Ask → Type 0 where
       → PrintAsks (tree.comma ∷ is) m k
   afterSemicolon : {is : List Item} {m : Machine} {k : Ask} → PrintAsks is m k → PrintAsks (tree.semicolon ∷ is) m k
 
--- LET and PRINT, the condition of an IF, FOR's start, limit and step one after another, and the line that LINE INPUT has taken; the
--- statement stands at a place of the first of some lines
+-- LET and PRINT, the condition of an IF and of a WHILE, FOR's start, limit and step one after another, and the line that LINE INPUT has
+-- taken; the statement stands at a place of the first of some lines
 pub data StatementAsks (lines : List Line) (place : ℕ) : Statement → Machine → Ask → Type 0 where
   assigned : {v : Variable} {f : Formula} {m : Machine} {k : Ask} → FormulaAsks f m k → StatementAsks lines place (tree.assign v f) m k
   printing : {is : List Item} {m : Machine} {k : Ask} → PrintAsks is m k → StatementAsks lines place (tree.print is) m k
@@ -119,6 +120,9 @@ pub data StatementAsks (lines : List Line) (place : ℕ) : Statement → Machine
       → valueOf from (m .variables) (roomOf m) ≡ value (whole a) room
       → valueOf to (m .variables) (roomOf (noting m room)) ≡ value (whole b) next → FormulaAsks by (noting m next) k
       → StatementAsks lines place (tree.for v from to by) m k
+  -- a WHILE without its WEND is 29, and asks for none
+  repeated : {c : Formula} {w : Stand} {m : Machine} {k : Ask} → wendFor place lines ≡ some w → FormulaAsks c m k
+      → StatementAsks lines place (tree.while c) m k
   -- a line of over 254 bytes is 23, and asks for none
   input : {t : List ℕ} {v : Variable} {m n : Machine} {b : ℕ} {s : List ℕ} → write m t ≡ printed n → n .input ≡ b ∷ s
       → length (takeLine (b ∷ s) .bytes) ≤ longestInputLine

@@ -23,7 +23,7 @@ use Rattle.loader.specs.declared.loading.Loaded.the-variants.{Fine}
 use Rattle.loader.proofs.Rising as rising
 use Rattle.loader.proofs.Rising.{judged-good}
 use Rattle.grammar.specs.Tests.{isSymbol, isKeyword, endsStatement}
-use Rattle.grammar.specs.Trees.{Formula, number, Item, comma, semicolon, shown, Statement, empty, assign, print, ifThen, ifElse, goto, gosub, return, for, next, nextOf, lineInput, end, stop, remark, Part}
+use Rattle.grammar.specs.Trees.{Formula, number, Item, comma, semicolon, shown, Statement, empty, assign, print, ifThen, ifElse, goto, gosub, return, for, next, nextOf, while, wend, lineInput, end, stop, remark, Part}
 use Rattle.grammar.specs.Formulas as formulas
 use Rattle.grammar.specs.Formulas.{Reading, good, after, enough, formulaOf}
 use Rattle.statements.specs.Parts.{itemFormulas, formulasOf}
@@ -100,6 +100,8 @@ module _ (s : List ℕ) (short : length s ≤ longestString) (plain : Bytes s) w
         let n = h .counts in (read (after s (after s t)) (n .from), (read (n .upto) (n .limit), (step-read (n .steps) (n .by), tt)))
     stands-read next u h = tt
     stands-read (nextOf v) u h = tt
+    stands-read (while c) u h = (read t (h .condition), tt)
+    stands-read wend u h = tt
     stands-read (lineInput text v) u h = tt
     stands-read end u h = tt
     stands-read stop u h = tt

@@ -26,10 +26,11 @@ use Rattle.statements.proofs.Depths.{heads-append}
 use Rattle.variables.specs.Strings.{Value, whole, text, Outcome, value, fault, make}
 use Rattle.variables.specs.Variables.{wordOf, numbersFull, stringsFull}
 use Rattle.operators.specs.Values.{valueOf}
-use Rattle.machine.specs.Machine.{Position, Record, loop, call, Machine, mostRecords, roomOf, withRecords, withInput, write, commaBlanks, Search, missing, found, sought, passed, isCall, isLoop, isLoopOf, backOf, longestInputLine}
-use Rattle.order.specs.Order.{Stand, later, Partner, none, some, past, pairsBy, nextFor}
+use Rattle.machine.specs.Machine.{Position, Record, loop, call, again, Machine, mostRecords, roomOf, withRecords, withInput, write, commaBlanks, Search, missing, found, sought, passed, isCall, isLoop, isLoopOf, backOf, longestInputLine}
+use Rattle.machine.specs.Order.{Stand, later, Bracket, Partner, none, some, past, partner, pairsBy, nextFor, wendFor}
+use Rattle.machine.specs.Repeats.{startOf, isWhile, isWhileOf}
 use Rattle.order.proofs.Laws.{Every, every-front, every-back, Throughout, LinesThroughout, StandThroughout, later-throughout, later-lines, partner-one}
-use Rattle.turns.specs.Steps.{Next, goesOn, enters, ends, stops, fails, worked, wholeOnly, workedWhole, withNumber, withString, assigned, written, shownValue, printItems, toLine, pushed, returned, turned, nextOn, firstLine, takeLine, filled, inputLine, isWholeKind, doStatement, cleared, begun, namesOther, skipped}
+use Rattle.turns.specs.Steps.{Next, goesOn, enters, ends, stops, fails, worked, wholeOnly, workedWhole, withNumber, withString, assigned, written, shownValue, printItems, toLine, pushed, returned, turned, nextOn, firstLine, takeLine, filled, inputLine, isWholeKind, doStatement, cleared, begun, namesOther, skipped, partBegun, hereOf, repeated, whileBy, turnedBack}
 use Rattle.laws.specs.Laws.{words}
 use Rattle.run_laws.proofs.Proper.{Bytes, drop-bytes, Proper, ProperAnswer, fit-proper, ProperOutcome, make-proper, ProperVariables, set-number, set-string, ProperFormula, value-proper}
 use Rattle.run_laws.proofs.Lines.{ProperStatement}
@@ -186,11 +187,12 @@ next-sound {m} (found (loop v limit step back) under) after s h a =
     let w = wordOf (m .variables .numbers) v in
     turned-sound v limit step back under after (applied Add w step) (fit-proper (num w +ℤ num step)) s (h .0) (h .1) a
 next-sound (found (call back) under) after s h a = s
+next-sound (found (again back) under) after s h a = s
 
--- the NEXT of a FOR
-partner-proper : (at : ℕ) (lines : List Line) → ProperLines lines → (x : Stand) → nextFor at lines ≡ some x → ProperPosition (past x)
-partner-proper at lines h x e =
-    let test = pairsBy word.For word.Next in
+-- the NEXT of a FOR, or the WEND of a WHILE
+partner-proper : (test : Statement → Bracket) (at : ℕ) (lines : List Line) → ProperLines lines → (x : Stand) → partner test 0 (later at lines) ≡ some x
+    → ProperPosition (past x)
+partner-proper test at lines h x e =
     let own = partner-one (StandThroughout ProperStatement) test 0 (later at lines) (later-throughout ProperStatement at lines h) x e in
     let there = partner-one (λ y. ProperLines (y .lines)) test 0 (later at lines) (later-lines ProperLines (λ l ls k. k .1) at lines h) x e in
     (there, head-proper (x .part) own .2)
@@ -207,8 +209,35 @@ loop-sound m v at from limit step after h s a =
     records-sound _ (number-sound v from h s) (below-each ProperRecord (isLoopOf v) (m .records) (s .held)) in
     either-proper (numbersFull (m .variables .numbers) v) _ _ s
     (either-proper (passed from limit step) _ _
-    (skipped-sound v (nextFor at (after .lines)) clear (partner-proper at (after .lines) (a .0)))
+    (skipped-sound v (nextFor at (after .lines)) clear (partner-proper (pairsBy word.For word.Next) at (after .lines) (a .0)))
     (pushed-sound (loop v limit step after) (λ r. goesOn r after) clear a (λ r t. (t, a))))
+
+-- ---- WHILE and WEND
+
+-- the WHILE itself, with what is left after it
+here-proper : (at : ℕ) (c : Formula) (r : Rest) → ProperStatement (tree.while c) → ProperRest r → ProperRest (part (partBegun at (tree.while c) r))
+unfolding partsOf heads
+here-proper at c nothing g h = (g, tt)
+here-proper at c (part p) g h = (g, h)
+
+repeated-sound : {m : Machine} (x : Search) (here after : Position) → Sound m → records.Found ProperRecord x → ProperPosition here
+    → ProperPosition after → ProperNext (repeated m x here after)
+repeated-sound missing here after s h b a = pushed-sound (again here) (λ n. goesOn n after) s b (λ n t. (t, a))
+repeated-sound (found r under) here after s h b a = (records-sound (r ∷ under) s h, a)
+
+while-sound : (p : Partner) (at : ℕ) (c : Formula) (m : Machine) (after : Position) → ProperStatement (tree.while c) → Sound m → ProperPosition after
+    → ((x : Stand) → p ≡ some x → ProperPosition (past x)) → ProperNext (whileBy p at c m after)
+while-sound none at c m after g s a h = s
+while-sound (some w) at c m after g s a h =
+    let test = isWhile (startOf (after .lines)) at in
+    whole-sound c m _ (g .0) s (λ v n i t. either-proper (eqb v 0) _ _
+    (records-sound _ t (below-each ProperRecord test (n .records) (t .held)), h w refl)
+    (repeated-sound (sought test (n .records)) (hereOf at c after) after t (sought-each ProperRecord test (n .records) (t .held))
+    (a .0, here-proper at c (after .rest) g (a .1)) a))
+
+back-sound : {m : Machine} (x : Search) → Sound m → records.Found ProperRecord x → ProperNext (turnedBack m x)
+back-sound missing s h = s
+back-sound (found r under) s h = (records-sound (r ∷ under) s h, h .0)
 
 -- ---- LINE INPUT
 
@@ -291,6 +320,11 @@ statement-sound program at (tree.nextOf v) m after l g p s a =
     (next-sound (sought (isLoopOf (v .telling)) (m .records)) after s
     (sought-each ProperRecord (isLoopOf (v .telling)) (m .records) (s .held)) a)
     s
+statement-sound program at (tree.while c) m after l g p s a =
+    while-sound (wendFor at (after .lines)) at c m after g s a (partner-proper (pairsBy word.While word.Wend) at (after .lines) (a .0))
+statement-sound program at tree.wend m after l g p s a =
+    let test = isWhileOf (startOf (after .lines)) at in
+    back-sound (sought test (m .records)) s (sought-each ProperRecord test (m .records) (s .held))
 statement-sound program at (tree.lineInput t v) m after l g p s a =
     written-sound m t _ s (λ n i. input-sound (n .input) n v after (i .input) i a)
 statement-sound program at tree.end m after l g p s a = s

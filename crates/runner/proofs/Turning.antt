@@ -1,15 +1,16 @@
 -- One turn: the machine that a statement begins with, the record that it asked for, the statement that is done, and where it leads.
 use mathlib.Core.Path.{_≡_, refl, ap, sym, subst, _∙_}
-use mathlib.Core.Bool.{true, false}
+use mathlib.Core.Bool.{true, false, false≢true}
 use mathlib.Core.List.{List}
-use Prim.Native.Nat.{ℕ}
+use Prim.Native.Nat.{ℕ, _-_, _≤_, _<_}
 use native.Mathlib.Omega.{arith}
-use borrow.Author.Tests.{eqb-true, ltb-false, not-false}
+use borrow.Author.Tests.{eqb-true, eqb-false, ltb-false, not-false}
 use lib.Dec.{eqb}
 use lib.ListN.{length, getD, set, List·getD-eq-default}
 use Rattle.whole.proofs.Never.{never}
 use Rattle.words.specs.declared.places.Place.{Place}
 use Rattle.words.specs.declared.symbols.Scanned.{Scanned}
+use Rattle.words.proofs.Choices.{by-test}
 use Rattle.scanner.specs.Tokens.{tokenAt}
 use Rattle.loader.specs.declared.lines.LineSpan.{LineSpan}
 use Rattle.grammar.specs.Trees.{Part}
@@ -22,8 +23,8 @@ use Rattle.rows.proofs.Ordering.{row-lines}
 use Rattle.machine.specs.Machine as spec
 use Rattle.machine.specs.Machine.{mostRecords}
 use Rattle.machine.specs.bridge.Holding.{linesAt, blankRecord, Parted, State, stateOf, Sound, Same}
-use Rattle.machine.specs.bridge.Wanted.{foundIn, entryAt, Told}
-use Rattle.machine.specs.bridge.Seeking.{wishOf, testOf, Seeks}
+use Rattle.machine.specs.bridge.Wanted.{isSought, foundIn, entryAt, Told}
+use Rattle.machine.specs.bridge.Seeking.{Wish, wishOf, testOf, Seeks}
 use Rattle.machine.specs.declared.positions.Next.{Next}
 use Rattle.machine.specs.declared.positions.Turned.{Turned}
 use Rattle.machine.specs.declared.positions.Next.the-variants as next
@@ -33,17 +34,17 @@ use Rattle.machine.specs.declared.records.Found.{Found}
 use Rattle.machine.specs.declared.records.Found.the-variants as found
 use Rattle.machine.specs.declared.records.Sought.{Sought}
 use Rattle.machine.proofs.Searching as search-laws
-use Rattle.machine.proofs.Searching.{nothing-found}
-use Rattle.machine.proofs.Stacking.{records-past}
+use Rattle.machine.proofs.Searching.{nothing-found, ends-found}
+use Rattle.machine.proofs.Stacking.{getD-any, records-past}
 use Rattle.machine.proofs.Seeking.{part-seeks}
 use Rattle.machine.proofs.Standing as told
-use Rattle.machine.proofs.Standing.{told-as}
+use Rattle.machine.proofs.Standing.{told-as, part-place}
 use Rattle.turns.specs.Steps as step
 use Rattle.turns.specs.Steps.{doStatement}
 use Rattle.control.proofs.Jumps.{found-low}
 use Rattle.runner.specs.Run as run
 use Rattle.runner.specs.bridge.Standings.{lineIn, Stood, StandsAs, StandsIn, GoesTo, nextOf}
-use Rattle.runner.specs.bridge.Acting.{At, StandsAt, Asks, AsksAt, seeksOne, slotOf, noLookup, LooksUp, stepped, Ready, Acts, ActsAt, leavesOne}
+use Rattle.runner.specs.bridge.Acting.{At, StandsAt, Asks, AsksAt, seeksOne, slotOf, noLookup, topLookup, looksOn, LooksUp, stepped, Ready, Acts, ActsAt, leavesOne}
 use Rattle.runner.specs.declared.going.Acted.{Acted}
 use Rattle.runner.specs.declared.going.Asked.{Asked}
 use Rattle.runner.specs.declared.going.Going.{Going}
@@ -157,6 +158,16 @@ looked-none asked d rs z e =
     let k : asked .sought .kind ≡ 0 = eqb-true _ _ (not-false (eqb (asked .sought .kind) 0) z) in
     rw e (record { found = nothing-found (asked .sought) rs d k; entry = refl })
 
+-- the topmost is found where it is asked for
+pub looked-top : (k : Sought) (d : ℕ) (rs : List Record) (blank : Record) {l : Lookup} → d ≤ length rs → l ≡ topLookup k d (getD rs (d - 1) blank)
+    → looksOn l ≡ false → LooksUp k d rs l
+looked-top k d rs blank few e on =
+    by-test (eqb d 0) (λ z. absurd (false≢true (sym on ∙ rw (e, z)))) λ z.
+    by-test (isSought k (getD rs (d - 1) blank))
+    (λ t. let some : 0 < d = omega (arith, eqb-false d 0 z) in
+    rw (e, z, t) (record { found = ends-found k rs d blank some few t; entry = getD-any rs (d - 1) blank blankRecord (omega arith) }))
+    (λ t. absurd (false≢true (sym on ∙ rw (e, z, t))))
+
 -- what stands at the slot that was found is what was found
 pub looked-at : (f : Found) (rs : List Record) → length rs ≡ mostRecords → getD rs (slotOf f) blankRecord ≡ entryAt f rs
 looked-at (found.At i) rs h = refl
@@ -180,9 +191,9 @@ stands-here {row = row} {at = at} w e =
 -- asks as it is led,
 pub asks-made : {text rows names : List ℕ} {numbers : ℕ} {s : code.Standing} {row : Row} {at : Place} {span : LineSpan} {lead : Lead} {sought : Sought}
     → s ≡ standing.At row at → span ≡ spanIn rows (row .0) → lead ≡ leadOf (lineIn text span) true (tokenAt (lineIn text span) at)
-    → Seeks names numbers sought (begunBy (lineIn text span) lead) → AsksAt text rows names numbers s (record { lead = lead; sought = sought })
+    → Seeks names numbers (span .place) at sought (begunBy (lineIn text span) lead) → AsksAt text rows names numbers s (record { lead = lead; sought = sought })
 asks-made {text} {names = names} {numbers = numbers} {row = row} {at = at} {span = span} {lead = lead} {sought = sought} e f led seeks =
-    let r : Asks names numbers (lineIn text span) at (record { lead = lead; sought = sought }) = record { led = led; seeks = seeks } in
+    let r : Asks names numbers (lineIn text span) (span .place) at (record { lead = lead; sought = sought }) = record { led = led; seeks = seeks } in
     record { asks = λ row′ at′ e′. let a : row ≡ row′ = cc in let b : at ≡ at′ = cc in rw (f, a, b) at r }
 
 -- and acts
@@ -193,7 +204,7 @@ acts-at {row = row} {at = at} e a =
     record { acts = λ row′ at′ e′. let x : row ≡ row′ = cc in let y : at ≡ at′ = cc in rw (x, y) at a }
 
 module _ {text rows : List ℕ} {row : ℕ} {at : Place} {m : State} {asked : Asked} {lookup : Lookup} {input space room : List ℕ}
-    (here : At text rows row at) (asks : Asks (m .tables .numbers .names) (m .tables .numbers .count) (lineIn text (spanIn rows row)) at asked)
+    (here : At text rows row at) (asks : Asks (m .tables .numbers .names) (m .tables .numbers .count) (lineIn text (spanIn rows row)) (spanIn rows row .place) at asked)
     (ready : Ready m lookup input space room) where
   -- what the statement asks of the caller
   pub acts-begins : Standing text (lineIn text (spanIn rows row)) (spanIn rows row .place)
@@ -207,7 +218,7 @@ module _ {text rows : List ℕ} {row : ℕ} {at : Place} {m : State} {asked : As
   -- and what it does
   pub acts-made : {turned : Turned} (names words labels lengths : List ℕ) {s : code.Standing} {space′ room′ : List ℕ}
       → ((p : Part) (end : Scanned) → partOf (lineIn text (spanIn rows row)) true (at .0) ≡ goodPart p end
-      → Turns text (stepped m) input space room (Told text (m .tables .numbers .names) (testOf (wishOf (headOf p))) (m .depth) (lookup .found) (lookup .entry))
+      → Turns text (stepped m) input space room (Told text (m .tables .numbers .names) (testOf (wishOf (spanIn rows row .place .0) (placeOf p) (headOf p))) (m .depth) (lookup .found) (lookup .entry))
       (λ n. doStatement text (placeOf p) (headOf p) n (record { lines = linesAt text (spanIn rows row .place .0); rest = tailOf p })) (turnOf turned names words labels lengths) space′ room′)
       → StandsIn rows s (λ x. GoesTo x (turned .next)) (λ x n. run.following (spanIn rows row .number) (nextOf x (turned .next) n))
       → Acts text rows row at m asked lookup input space room
@@ -221,10 +232,12 @@ module _ {text rows : List ℕ} {row : ℕ} {at : Place} {m : State} {asked : As
             let p = stood-reads w in
             let numbers = m .tables .numbers in
             let tidy = ready .sound .settled .numbers in
-            let found = look .found ∙ ap (λ x. foundIn x rs (m .depth)) (part-seeks (numbers .names) (numbers .count) (lineIn text (spanIn rows row)) (at .0) (asks .led) (asks .seeks) _ _ p) in
+            let found = look .found ∙ ap (λ x. foundIn x rs (m .depth)) (part-seeks (numbers .names) (numbers .count) (spanIn rows row .place) at (lineIn text (spanIn rows row)) (at .0) (asks .led) (asks .seeks) _ _ p) in
             let entry = look .entry ∙ ap (λ x. entryAt x rs) found in
-            let told : Told text (numbers .names) (testOf (wishOf (headOf (w .reads .of)))) (m .depth) (lookup .found) (lookup .entry) rs =
-            rw (found, entry) (search-laws.told text (numbers .names) (numbers .count) (tidy .few) (tidy .apart) (wishOf (headOf (w .reads .of))) rs (m .depth) (λ i b. same .placed i b .known)) in
+            let wish : ℕ → Wish = λ q. wishOf (spanIn rows row .place .0) q (headOf (w .reads .of)) in
+            let told : Told text (numbers .names) (testOf (wish (placeOf (w .reads .of)))) (m .depth) (lookup .found) (lookup .entry) rs =
+            rw (found, entry, part-place (lineIn text (spanIn rows row)) true (at .0) (w .reads .of) p)
+            (search-laws.told text (numbers .names) (numbers .count) (tidy .few) (tidy .apart) (wish (at .0)) rs (m .depth) (same .placed)) in
             let c = came text (turned .next) _ _ (does _ _ p .comes rs long told (spec.withStep n) (same-stepped same)) in
             let number : run.lineNumberOf (linesAt text (spanIn rows row .place .0)) ≡ spanIn rows row .number =
             ap run.lineNumberOf (row-lines (here .tabled) row (here .inside)) ∙ row-numbered (here .tabled) row (here .inside) in

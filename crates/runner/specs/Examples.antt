@@ -1,4 +1,4 @@
--- Document 01's worked examples, and loops that are skipped, computed by the checker.
+-- Document 01's worked examples, loops that are skipped, and WHILE and WEND, computed by the checker.
 use mathlib.Core.Path.{_≡_, refl}
 use mathlib.Core.List.{List, [], _∷_, map}
 use Prim.Native.Nat.{ℕ}
@@ -7,7 +7,7 @@ use Rattle.whole.specs.Bytes.{bytes, leading}
 use Rattle.whole.specs.Digits.{isDigit, valueFrom, signedValue}
 use Rattle.whole.specs.Whole.{num, fit}
 use Rattle.whole.specs.Texts.{places, trimmed, digitByte, numeral, signedNumeral}
-use Rattle.whole.specs.declared.errors.Error.the-variants.{NextWithoutFor, Overflow, OutOfStringSpace, ForWithoutNext}
+use Rattle.whole.specs.declared.errors.Error.the-variants.{NextWithoutFor, Overflow, TypeMismatch, OutOfStringSpace, ForWithoutNext, WhileWithoutWend, WendWithoutWhile}
 use Rattle.words.specs.Spellings.{sameBytes, meaning}
 use Rattle.words.specs.Classes.{capitalOf, isLetter, isHex, hexDigit, signs, pairs, classOf}
 use Rattle.words.specs.Vocabulary.{reserved}
@@ -26,7 +26,7 @@ use Rattle.variables.specs.Variables.{wordOf, bytesOf, stringBytes, hasNumber, 
 use Rattle.strings.specs.Functions.{argument, startsWith, found, placeOf}
 use Rattle.operators.specs.Values.{isBefore, wantAt, valueOf, valuesOf}
 use Rattle.machine.specs.Machine.{Lent, columnAfter, write, sought, passed}
-use Rattle.order.specs.Order.{beyond, placed, stands, later, partner}
+use Rattle.machine.specs.Order.{beyond, placed, stands, later, partner}
 use Rattle.turns.specs.Steps.{printItems}
 use Rattle.runner.specs.Run.{Ran, enter, running, runOf}
 use Rattle.runner.specs.declared.running.Outcome.{Outcome}
@@ -101,6 +101,29 @@ pub skipped-loops-hold : map (λ (e : Example). summed (runOf (bytes (e .recipe)
     ≡ map (λ (e : Example). e .run) skippedLoops
 unfolding skippedLoops bytes leading isDigit valueFrom sameBytes meaning capitalOf isLetter isHex hexDigit signs pairs classOf reserved tellingOf markOf wordToken numberToken hexFrom hexToken textToken signToken tokenAt linesFrom numberOf isPlain numbered judged loadLines loadOf formFor anyFor countOf formulaAt climbAt operandAt argumentsAt formulaOf depthOf deepestOf itemsAt printAt forAt inputAt begunAt partAt readLine deepest partsOf heads deepestIn signedValue num fit places trimmed digitByte numeral signedNumeral fromNumber make letGo letAllGo produced wordOf bytesOf stringBytes argument startsWith found placeOf isBefore wantAt valueOf valuesOf hasNumber hasString setNumber setString columnAfter write printItems sought passed enter running runOf joinedStrings beyond placed stands later partner
 skipped-loops-hold = refl
+
+-- WHILE and WEND (document 02, M-100)
+pub repeatedLoops : List Example
+repeatedLoops =
+    example "10 WHILE I<3:I=I+1:WEND:PRINT I" 0 Ended " 3 \r\n" 11 ""
+    -- an inner WHILE is paired first, branches count, and a line that does not read is passed over
+    ∷ example "10 WHILE A:WHILE B\n20 WEND)\n30 IF C THEN WEND ELSE WEND:PRINT 5" 0 Ended " 5 \r\n" 2 ""
+    -- 29 is tested before the condition
+    ∷ example "10 WHILE \"\"" 0 (Failed WhileWithoutWend (lineNumber 10)) "" 1 ""
+    ∷ example "10 WHILE \"\":WEND" 0 (Failed TypeMismatch (lineNumber 10)) "" 1 ""
+    -- into the body, and no record is there; nor is it looked for past a GOSUB
+    ∷ example "10 GOTO 30\n20 WHILE 1\n30 WEND" 0 (Failed WendWithoutWhile (lineNumber 30)) "" 2 ""
+    ∷ example "10 WHILE 1:GOSUB 20\n20 WEND" 0 (Failed WendWithoutWhile (lineNumber 20)) "" 3 ""
+    -- back to the WHILE by a jump: its own record is found, and no second one is made
+    ∷ example "10 WHILE I<50:I=I+1:GOTO 10:WEND\n20 PRINT I" 0 Ended " 50 \r\n" 152 ""
+    -- NEXT takes the FOR's record and drops the WHILE's above it
+    ∷ example "10 FOR I=1 TO 2:WHILE 1:NEXT:WEND" 0 (Failed WendWithoutWhile (lineNumber 10)) "" 6 ""
+    ∷ []
+
+pub repeated-loops-hold : map (λ (e : Example). summed (runOf (bytes (e .recipe)) [] (lending (e .space)) 1000)) repeatedLoops
+    ≡ map (λ (e : Example). e .run) repeatedLoops
+unfolding repeatedLoops bytes leading isDigit valueFrom sameBytes meaning capitalOf isLetter isHex hexDigit signs pairs classOf reserved tellingOf markOf wordToken numberToken hexFrom hexToken textToken signToken tokenAt linesFrom numberOf isPlain numbered judged loadLines loadOf formFor anyFor countOf formulaAt climbAt operandAt argumentsAt formulaOf depthOf deepestOf itemsAt printAt forAt inputAt begunAt partAt readLine deepest partsOf heads deepestIn signedValue num fit places trimmed digitByte numeral signedNumeral fromNumber make letGo letAllGo produced wordOf bytesOf stringBytes argument startsWith found placeOf isBefore wantAt valueOf valuesOf hasNumber hasString setNumber setString columnAfter write printItems sought passed enter running runOf joinedStrings beyond placed stands later partner
+repeated-loops-hold = refl
 
 -- eight functions in one another, a comparison and a `+` waiting at each: 28 unfinished strings, the most that there can be
 pub nested : String

@@ -1,12 +1,13 @@
 // A run on its way. What sees the records only calls these, and tests what they answer.
 ghost use mathlib.Core.Path.{_≡_};
+ghost use Prim.Native.Nat.{_-_};
 ghost use Rattle.space.specs.Moves.{cleared};
 ghost use Rattle.loader.specs.Lines.{linesOf};
 ghost use Rattle.rows.specs.bridge.Rows.{Ordered};
 ghost use Rattle.machine.specs.bridge.Holding.{freshMachine, stateOf};
 ghost use Rattle.runner.specs.Run as run;
 ghost use Rattle.runner.specs.bridge.Standings.{Rowed, StandsIn};
-ghost use Rattle.runner.specs.bridge.Acting.{goesOf, StandsAt, AsksAt, seeksOne, slotOf, noLookup, Ready, ActsAt, leavesOne};
+ghost use Rattle.runner.specs.bridge.Acting.{goesOf, StandsAt, AsksAt, seeksOne, slotOf, noLookup, topLookup, looksOn, Ready, ActsAt, leavesOne};
 ghost use Rattle.runner.specs.bridge.Endings.{outcomeOf, doneAs};
 use crate::running::Done;
 use crate::running::Outcome;
@@ -17,6 +18,7 @@ use machine::Found;
 use machine::Machine;
 use machine::Record;
 use machine::Sought;
+use machine::is_sought;
 use machine::sought_record;
 use rows::Row;
 use rows::Rows;
@@ -96,7 +98,7 @@ pub(crate) fn asks(text: &[u8], rows: &Rows, going: Going, names: &NameTable) ->
             let end = span.end.0;
             let line = &text[from..end];
             let lead = lead_at(line, at, true);
-            let sought = sought_record(line, lead, names, machine.numbers);
+            let sought = sought_record(line, span.place, at, lead, names, machine.numbers);
             Asked { lead, sought }
         }
     }
@@ -126,6 +128,43 @@ pub(crate) fn no_lookup() -> Lookup
     Lookup {
         found: Found::None,
         entry,
+    }
+}
+
+// The slot of the topmost record; 0 where there is none.
+pub(crate) fn topmost(depth: usize) -> usize
+    ensures { λ r. ⌜ r ≡ depth - 1 ⌝ }
+{
+    if depth == 0 {
+        return 0;
+    }
+    depth - 1
+}
+
+// The topmost record, if it is the one that is asked for: most often it is, and then the others are not touched.
+pub(crate) fn at_top(sought: Sought, depth: usize, top: Record) -> Lookup
+    ensures { λ r. ⌜ r ≡ topLookup sought depth top ⌝ }
+{
+    if depth == 0 {
+        return no_lookup();
+    }
+    if !is_sought(sought, top) {
+        return no_lookup();
+    }
+    Lookup {
+        found: Found::At(depth - 1),
+        entry: top,
+    }
+}
+
+// Whether the others are to be looked through.
+pub(crate) fn looks_on(lookup: Lookup) -> bool
+    ensures { λ r. ⌜ r ≡ looksOn lookup ⌝ }
+{
+    let found = lookup.found;
+    match found {
+        Found::At(_) => false,
+        Found::None => true,
     }
 }
 

@@ -13,13 +13,16 @@ ghost use Rattle.variables.specs.Strings.{longestSpace};
 use crate::going::Lookup;
 use crate::going::act;
 use crate::going::asks;
+use crate::going::at_top;
 use crate::going::begins;
 use crate::going::goes;
 use crate::going::leaves;
+use crate::going::looks_on;
 use crate::going::no_lookup;
 use crate::going::seeks;
 use crate::going::slot_of;
 use crate::going::told;
+use crate::going::topmost;
 use loader::Loaded;
 use loader::Refusal;
 use loader::load;
@@ -109,8 +112,13 @@ fn run_loaded(
         let mut lookup = no_lookup();
         if seeks(asked) {
             let sought = asked.sought;
-            let machine = going.machine;
-            lookup = look_up(stack, machine.depth, sought);
+            let depth = going.machine.depth;
+            let slot = topmost(depth);
+            let top = stack.records[slot];
+            lookup = at_top(sought, depth, top);
+            if looks_on(lookup) {
+                lookup = look_up(stack, depth, sought);
+            }
         }
         let acted = act(
             text,

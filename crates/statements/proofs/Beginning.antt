@@ -12,7 +12,7 @@ use Rattle.words.specs.declared.symbols.Word.the-variants.{Let, Then, Goto, To,
 use Rattle.words.proofs.Choices.{by-test}
 use Rattle.scanner.specs.Tokens.{reads, tokenAt}
 use Rattle.grammar.specs.Tests.{isSymbol, isKeyword, endsStatement}
-use Rattle.grammar.specs.Trees.{Formula, Variable, Item, comma, semicolon, shown, Statement, empty, assign, print, ifThen, ifElse, goto, gosub, return, for, next, nextOf, lineInput, end, stop, remark}
+use Rattle.grammar.specs.Trees.{Formula, Variable, Item, comma, semicolon, shown, Statement, empty, assign, print, ifThen, ifElse, goto, gosub, return, for, next, nextOf, while, wend, lineInput, end, stop, remark}
 use Rattle.grammar.specs.Formulas as formulas
 use Rattle.grammar.specs.Formulas.{Reading, good, after, enough, formulaOf}
 use Rattle.statements.specs.Statements.{Begun, bad, done, choice, Items, noItems, items, withItem, isSeparator, afterShown, itemsAt, begunAt}
@@ -131,6 +131,9 @@ module _ (s : List ℕ) where
   done-within first t next u h = next-within t (rw (h .word)) (h .next)
   done-within first t (nextOf v) u h =
       omega (arith, after-lighter s t (rw (h .word)), next-within (after s t) (rw (h .target .named)) (h .next))
+  done-within first t (while c) u h =
+      let l = formula-lighter s (after s t) (h .condition) in omega (arith, after-lighter s t (rw (h .word)), l .1)
+  done-within first t wend u h = next-within t (rw (h .word)) (h .next)
   done-within first t (lineInput text v) u h =
       omega (
         arith,
@@ -183,6 +186,8 @@ done-alone s first t return u h = refl
 done-alone s first t (for v a b c) u h = refl
 done-alone s first t next u h = refl
 done-alone s first t (nextOf v) u h = refl
+done-alone s first t (while c) u h = refl
+done-alone s first t wend u h = refl
 done-alone s first t (lineInput text v) u h = refl
 done-alone s first t end u h = refl
 done-alone s first t stop u h = refl

@@ -177,12 +177,12 @@ module _ (s : List ℕ) (x : Word) (t : Scanned) where
       of-words (λ w. begunAnswer (byWord s w t)) (begunAnswer (byWord s Goto t)) (Goto ∷ Gosub ∷ []) (cc) x h
 
   -- a word alone, and the empty statement
-  pub word-alone : OneOf (4 ∷ 7 ∷ 14 ∷ 15 ∷ 16 ∷ []) (wordTag x) → formedRead t 0 true ≡ begunAnswer (byWord s x t)
+  pub word-alone : OneOf (4 ∷ 7 ∷ 14 ∷ 15 ∷ 16 ∷ 18 ∷ []) (wordTag x) → formedRead t 0 true ≡ begunAnswer (byWord s x t)
   unfolding deepest
   word-alone h =
-      of-words (λ w. begunAnswer (byWord s w t)) (formedRead t 0 true) (Else ∷ Return ∷ End ∷ Stop ∷ Rem ∷ []) refl x h
+      of-words (λ w. begunAnswer (byWord s w t)) (formedRead t 0 true) (Else ∷ Return ∷ End ∷ Stop ∷ Rem ∷ Wend ∷ []) refl x h
 
   -- a word that begins no statement
-  pub no-word : OneOf (3 ∷ 9 ∷ 10 ∷ 13 ∷ 17 ∷ 18 ∷ 19 ∷ 20 ∷ 21 ∷ []) (wordTag x) → bad ≡ byWord s x t
+  pub no-word : OneOf (3 ∷ 9 ∷ 10 ∷ 13 ∷ 19 ∷ 20 ∷ 21 ∷ []) (wordTag x) → bad ≡ byWord s x t
   no-word h =
-      of-words (λ w. byWord s w t) bad (Then ∷ To ∷ Step ∷ Input ∷ While ∷ Wend ∷ Data ∷ Read ∷ Restore ∷ []) refl x h
+      of-words (λ w. byWord s w t) bad (Then ∷ To ∷ Step ∷ Input ∷ Data ∷ Read ∷ Restore ∷ []) refl x h

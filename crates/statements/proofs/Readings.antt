@@ -8,7 +8,7 @@ use Rattle.whole.proofs.Never.{never}
 use Rattle.words.specs.declared.symbols.Scanned.{Scanned}
 use Rattle.words.specs.declared.symbols.Sign.the-variants.{Semicolon}
 use Rattle.grammar.specs.Tests.{isSymbol}
-use Rattle.grammar.specs.Trees.{Formula, number, Variable, assign, for}
+use Rattle.grammar.specs.Trees.{Formula, number, Variable, assign, for, while}
 use Rattle.grammar.specs.Formulas as formulas
 use Rattle.grammar.specs.Formulas.{Reading, after, quotedBytes}
 use Rattle.expressions.specs.Types.{sortOf, depthOf}
@@ -33,6 +33,10 @@ module _ (f : Formula) (t : Scanned) {k : Sort} {d : ℕ} (sort : k ≡ knownSor
   pub assigned : (v : Variable) {typed : Bool} → typed ≡ isOf (v .kind) k → formedRead t d typed ≡ begunAnswer (done (assign v f) t)
   unfolding deepest
   assigned v h = rw (max-zero (depthOf f), deep, h, sort, known (isOf (v .kind)) (wrong-kind (v .kind)) f)
+
+  pub repeated : {typed : Bool} → typed ≡ isWhole k → formedRead t d typed ≡ begunAnswer (done (while f) t)
+  unfolding deepest
+  repeated h = rw (max-zero (depthOf f), deep, h, sort, known isWhole refl f)
 
   pub chosen : {typed : Bool} → typed ≡ isWhole k
       → statement.Choice (record { ahead = t; deepest = d; typed = typed; names = NoLine }) ≡ begunAnswer (choice f t)

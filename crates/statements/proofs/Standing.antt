@@ -17,7 +17,7 @@ use Rattle.words.specs.declared.symbols.Word.the-variants.{Let, Print, If, Then
 use Rattle.words.proofs.Choices.{by-test}
 use Rattle.scanner.specs.Tokens.{tokenAt}
 use Rattle.grammar.specs.Tests.{choose, isSymbol, isKeyword, endsStatement, onText}
-use Rattle.grammar.specs.Trees.{Formula, number, Variable, Item, Statement, empty, assign, print, ifThen, ifElse, goto, gosub, return, for, next, nextOf, lineInput, end, stop, remark}
+use Rattle.grammar.specs.Trees.{Formula, number, Variable, Item, Statement, empty, assign, print, ifThen, ifElse, goto, gosub, return, for, next, nextOf, while, wend, lineInput, end, stop, remark}
 use Rattle.grammar.specs.Formulas as formulas
 use Rattle.grammar.specs.Formulas.{Reading, good, after, quotedBytes, enough, formulaOf}
 use Rattle.statements.specs.Statements.{Begun, bad, done, choice, onFormula, variableOf, assignAt, Items, noItems, items, itemsAt, printed, printAt, ifAt, forAt, targetAt, inputAt, ledByWord, ledBySign, ledByNumber, ledByToken, begunBy, begunAt}
@@ -102,6 +102,11 @@ pub record Turned (s : List ℕ) (t : Scanned) (v : Variable) (u : Scanned) : Ty
   pub target : Target s (after s t) v
   pub next : u ≡ after s (after s t)
 
+-- WHILE
+pub record Repeated (s : List ℕ) (t : Scanned) (c : Formula) (u : Scanned) : Type 0 where
+  pub word : t .token ≡ Keyword While
+  pub condition : formulaOf s (after s t) ≡ good c u
+
 -- a text and its semicolon, if they stand, and the variable
 unfoldable pub textAt : List ℕ → Scanned → List ℕ
 textAt s t = onText (t .token) (λ q. quotedBytes s q) []
@@ -158,6 +163,8 @@ module _ (s : List ℕ) (first : Bool) (t : Scanned) where
   Stands (for v a b c) u = Looped s t v a b c u
   Stands next u = Bare s t Next u
   Stands (nextOf v) u = Turned s t v u
+  Stands (while c) u = Repeated s t c u
+  Stands wend u = Bare s t Wend u
   Stands (lineInput text v) u = Entered s t text v u
   Stands end u = Bare s t End u
   Stands stop u = Bare s t Stop u
@@ -284,8 +291,8 @@ module _ (s : List ℕ) (first : Bool) (t : Scanned) where
   word-seen End w = bare w
   word-seen Stop w = bare w
   word-seen Rem w = bare w
-  word-seen While w = tt
-  word-seen Wend w = tt
+  word-seen While w = if-formula S tt (formulaOf s (after s t)) _ λ c u i. record { word = w; condition = i }
+  word-seen Wend w = bare w
   word-seen Data w = tt
   word-seen Read w = tt
   word-seen Restore w = tt

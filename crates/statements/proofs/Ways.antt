@@ -9,7 +9,7 @@ use Rattle.words.specs.declared.symbols.Sign.the-variants.{Semicolon, Equal}
 use Rattle.words.specs.declared.symbols.Word.the-variants.{Then, Goto, To, Step}
 use Rattle.words.proofs.Choices.{by-test}
 use Rattle.grammar.specs.Tests.{choose, isSymbol, isKeyword}
-use Rattle.grammar.specs.Trees.{Formula, number, Variable, Item, assign, print, for, lineInput}
+use Rattle.grammar.specs.Trees.{Formula, number, Variable, Item, assign, print, for, while, lineInput}
 use Rattle.grammar.specs.Formulas as formulas
 use Rattle.grammar.specs.Formulas.{Reading, good, after, enough, formulaOf}
 use Rattle.statements.specs.Statements.{Begun, bad, done, choice, onFormula, variableOf, assignAt, Items, noItems, items, itemsAt, printed, printAt, ifAt, forAt, targetAt, inputAt}
@@ -48,6 +48,10 @@ module _ (P : Begun → Type 0) (none : P bad) where
         go (formulas.good c u) e =
             by-test (isKeyword Then (u .token)) (λ f. rw f (h c u e)) λ f. rw f
             (if-so (isKeyword Goto (u .token)) _ (by-line P (after s u .token) _ _ (λ l n r. h c u e) (λ n. none)))
+
+    pub by-repeat : ((c : Formula) (u : Scanned) → formulaOf s t ≡ good c u → P (done (while c) u))
+        → P (onFormula (formulaOf s t) (λ c u. done (while c) u))
+    by-repeat h = if-formula (formulaOf s t) _ h
 
     for-done : (v : Variable) → ((a b c : Formula) (u : Scanned) → P (done (for v a b c) u)) → P (forAt s v t)
     unfolding forAt

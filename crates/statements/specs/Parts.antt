@@ -3,7 +3,7 @@
 use mathlib.Core.Bool.{Bool, true, _&&_}
 use mathlib.Core.List.{List, [], _∷_, _++_}
 use Prim.Native.Nat.{ℕ, max}
-use Rattle.grammar.specs.Trees.{Formula, Variable, Item, comma, semicolon, shown, Statement, empty, assign, print, ifThen, ifElse, goto, gosub, return, for, next, nextOf, lineInput, end, stop, remark, Part, last, more}
+use Rattle.grammar.specs.Trees.{Formula, Variable, Item, comma, semicolon, shown, Statement, empty, assign, print, ifThen, ifElse, goto, gosub, return, for, next, nextOf, while, wend, lineInput, end, stop, remark, Part, last, more}
 use Rattle.expressions.specs.Types.{isWhole, isSome, isOf, sortOf, depthOf}
 use Rattle.expressions.specs.declared.sorts.Sort.the-variants.{Whole, Text}
 use Rattle.grammar.specs.declared.tests.NamedLine.{NamedLine}
@@ -29,6 +29,8 @@ formulasOf return = []
 formulasOf (for v from to by) = from ∷ to ∷ by ∷ []
 formulasOf next = []
 formulasOf (nextOf v) = []
+formulasOf (while c) = c ∷ []
+formulasOf wend = []
 formulasOf (lineInput t v) = []
 formulasOf end = []
 formulasOf stop = []
@@ -58,6 +60,8 @@ rightlyTyped return = true
 rightlyTyped (for v from to by) = isNumber v && (isWhole (sortOf from) && (isWhole (sortOf to) && isWhole (sortOf by)))
 rightlyTyped next = true
 rightlyTyped (nextOf v) = isNumber v
+rightlyTyped (while c) = isWhole (sortOf c)
+rightlyTyped wend = true
 rightlyTyped (lineInput t v) = isOf (v .kind) Text
 rightlyTyped end = true
 rightlyTyped stop = true
@@ -76,6 +80,8 @@ namedLine return = NoLine
 namedLine (for v from to by) = NoLine
 namedLine next = NoLine
 namedLine (nextOf v) = NoLine
+namedLine (while c) = NoLine
+namedLine wend = NoLine
 namedLine (lineInput t v) = NoLine
 namedLine end = NoLine
 namedLine stop = NoLine
@@ -121,6 +127,8 @@ unfoldable mutual
   partsWithin (for v from to by) = []
   partsWithin next = []
   partsWithin (nextOf v) = []
+  partsWithin (while c) = []
+  partsWithin wend = []
   partsWithin (lineInput t v) = []
   partsWithin end = []
   partsWithin stop = []

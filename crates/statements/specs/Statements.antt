@@ -59,7 +59,7 @@ use Rattle.words.specs.declared.symbols.Word.the-variants.{
 }
 use Rattle.scanner.specs.Tokens.{tokenAt}
 use Rattle.grammar.specs.Tests.{choose, isSymbol, isKeyword, endsStatement, endsLine, onName, onText, onLine}
-use Rattle.grammar.specs.Trees.{Formula, number, Variable, Item, comma, semicolon, shown, Statement, empty, assign, print, ifThen, ifElse, goto, gosub, return, for, next, nextOf, lineInput, end, stop, remark, Part, last, more}
+use Rattle.grammar.specs.Trees.{Formula, number, Variable, Item, comma, semicolon, shown, Statement, empty, assign, print, ifThen, ifElse, goto, gosub, return, for, next, nextOf, while, wend, lineInput, end, stop, remark, Part, last, more}
 use Rattle.grammar.specs.Formulas as formulas
 use Rattle.grammar.specs.Formulas.{Reading, after, quotedBytes, enough, formulaOf}
 use Rattle.statements.specs.declared.leading.Lead.{Lead}
@@ -174,8 +174,8 @@ byWord s Input t = bad
 byWord s End t = done end t
 byWord s Stop t = done stop t
 byWord s Rem t = done remark t
-byWord s While t = bad
-byWord s Wend t = bad
+byWord s While t = onFormula (formulaOf s t) (λ c u. done (while c) u)
+byWord s Wend t = done wend t
 byWord s Data t = bad
 byWord s Read t = bad
 byWord s Restore t = bad

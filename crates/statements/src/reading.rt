@@ -4,7 +4,7 @@ ghost use mathlib.Core.Bool.{true, _&&_};
 ghost use mathlib.Core.List.{List};
 ghost use Prim.Native.Nat.{ℕ};
 ghost use Rattle.grammar.specs.Tests.{choose, isSymbol, isKeyword, endsStatement, onName, onLine};
-ghost use Rattle.grammar.specs.Trees.{Formula, Variable, goto, next, nextOf};
+ghost use Rattle.grammar.specs.Trees.{Formula, Variable, goto, next, nextOf, while};
 ghost use Rattle.grammar.specs.Formulas.{Reading, good, after, formulaOf};
 ghost use Rattle.expressions.specs.Types.{depthOf};
 ghost use Rattle.statements.specs.Statements.{bad, done, choice, onFormula, variableOf, assignAt, isSeparator, printAt, ifAt, stepAt, limitAt, forAt, targetAt, inputAt, byWord, begunBy, begunAt};
@@ -374,6 +374,20 @@ fn loop_end(line: &[u8], ahead: Scanned) -> StatementRead
     }
 }
 
+// WHILE e, from the condition on.
+fn repeat_head(line: &[u8], ahead: Scanned) -> StatementRead
+    ensures { λ r. ⌜ r ≡ begunAnswer (onFormula (formulaOf (now (line .entry)) ahead) (λ c u. done (while c) u)) ⌝ }
+{
+    match formula_at(line, ahead) {
+        FormulaRead::Bad => StatementRead::Bad,
+        FormulaRead::Good {
+            ahead,
+            sort,
+            deepest,
+        } => formed(ahead, deepest, is_whole(sort)),
+    }
+}
+
 // LINE INPUT ["text";] v, from INPUT on.
 fn line_input(line: &[u8], ahead: Scanned) -> StatementRead
     ensures { λ r. ⌜ r ≡ begunAnswer (choose (isKeyword Word.Input (ahead .token)) (λ _. inputAt (now (line .entry)) (after (now (line .entry)) ahead)) (λ _. bad)) ⌝ }
@@ -416,8 +430,9 @@ fn by_word(line: &[u8], word: Word, from: Scanned) -> StatementRead
         Word::Goto | Word::Gosub => jump(line, from),
         Word::For => loop_head(line, from),
         Word::Next => loop_end(line, from),
+        Word::While => repeat_head(line, from),
         Word::Line => line_input(line, from),
-        Word::Else | Word::Return | Word::End | Word::Stop | Word::Rem => plain(from),
+        Word::Else | Word::Return | Word::End | Word::Stop | Word::Rem | Word::Wend => plain(from),
         _ => StatementRead::Bad,
     }
 }

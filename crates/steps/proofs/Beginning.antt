@@ -2,10 +2,11 @@
 use mathlib.Core.Path.{_≡_, refl}
 use mathlib.Core.List.{List}
 use Prim.Native.Nat.{ℕ, _≤_}
+use native.Mathlib.Omega.{arith}
 use lib.ListN.{length}
 use Rattle.words.specs.declared.places.Place.{Place}
 use Rattle.words.specs.declared.symbols.Scanned.{Scanned}
-use Rattle.words.specs.declared.symbols.Word.the-variants.{Line, Input}
+use Rattle.words.specs.declared.symbols.Word.the-variants.{Line, Input, While}
 use Rattle.words.specs.Places.{longestLine}
 use Rattle.scanner.specs.Tokens.{tokenAt}
 use Rattle.grammar.specs.Tests.{isKeyword}
@@ -13,7 +14,8 @@ use Rattle.grammar.specs.Formulas.{after, formulaOf}
 use Rattle.statements.specs.Statements.{printAt, ifAt, byWord}
 use Rattle.turns.specs.bridge.Turns.{Formed}
 use Rattle.turns.specs.bridge.Doing.{Begins}
-use Rattle.statements.proofs.Ways.{if-so, by-items, by-condition, by-input}
+use Rattle.statements.specs.Parts.{deepest}
+use Rattle.statements.proofs.Ways.{if-so, by-items, by-condition, by-repeat, by-input}
 use Rattle.dialogue.specs.bridge.Showing.{Itemed}
 use Rattle.dialogue.specs.bridge.Asking.{Asks}
 
@@ -27,6 +29,12 @@ module _ (s : List ℕ) (short : length s ≤ longestLine) (q : Place) {t : Scan
   if-formed =
       by-condition (λ b. Begins b → Formed s t) (λ x. absurd x) s t
       (λ c u e h. record { short = short; scans = record { from = q; is = scanned }; reads = record { of = c; next = u; is = e; shallow = h } })
+
+  pub while-formed : Begins (byWord s While t) → Formed s t
+  unfolding deepest
+  while-formed =
+      by-repeat (λ b. Begins b → Formed s t) (λ x. absurd x) s t
+      (λ c u e h. let k = h .1 in record { short = short; scans = record { from = q; is = scanned }; reads = record { of = c; next = u; is = e; shallow = omega arith } })
 
 module _ (s : List ℕ) (short : length s ≤ longestLine) (w : Scanned) where
   abbrev after-input : Scanned

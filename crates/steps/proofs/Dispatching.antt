@@ -29,6 +29,7 @@ use native.Mathlib.Omega.{arith}
 use Rattle.statements.specs.Parts.{Rest, nothing, part, headOf, tailOf, placeOf, deepest}
 use Rattle.statements.proofs.Depths.{head-shallow, rest-shallow, then-shallow, else-shallow}
 use Rattle.machine.specs.bridge.Holding.{linesAt, positionOf, Shallow, Parted, Positioned, Sound, State}
+use Rattle.machine.specs.Repeats.{isWhile}
 use Rattle.machine.specs.bridge.Seeking.{wishOf, testOf}
 use Rattle.machine.specs.bridge.Wanted.{Told}
 use Rattle.turns.specs.bridge.Turns.{Turn, turnedTo, afterOf, Turns, anyRecords, Standing}
@@ -36,9 +37,10 @@ use Rattle.machine.specs.declared.positions.Next.the-variants as next
 use Rattle.machine.specs.declared.records.Record.{Record}
 use Rattle.machine.specs.declared.records.Found.{Found}
 use Rattle.statements.proofs.Firsts.{true-part}
-use Rattle.turns.specs.Steps.{doStatement}
+use Rattle.repeating.specs.bridge.Repeating.{WhileStands}
+use Rattle.turns.specs.Steps.{partBegun, hereOf, doStatement}
 use Rattle.turns.specs.bridge.Doing.{Begins, Does}
-use Rattle.statements.proofs.Ways.{if-so, by-items, by-condition, by-input}
+use Rattle.statements.proofs.Ways.{if-so, by-items, by-condition, by-repeat, by-input}
 use Rattle.turns.proofs.Doing.{any-told, goes-turn}
 use Rattle.machine.proofs.Tokens.{wordTag}
 use Rattle.statements.specs.declared.leading.Lead.{Lead}
@@ -163,6 +165,41 @@ module _ (line : List ℕ) (at : ℕ) {l : Lead} (is : l ≡ leadOf line true (t
   pub lead-reads : {A : Type 0} → l ≡ Nothing → Parted line at → A
   lead-reads by p = absurd (rw (lead-there, by) at (part-begins p))
 
+-- ---- where a WHILE stands, by what is left of its part
+
+module _ {text line : List ℕ} {here : Place} {at : ℕ} (st : Standing text line here) (t : Scanned) (c : tree.Formula) (u : Scanned)
+    (reads : formulaOf line t ≡ good c u) where
+  while-by : (rest : Rest) {end : Scanned} → After text here u rest → partOf line true at ≡ goodPart (partBegun at (tree.while c) rest) end
+      → Shallow (partBegun at (tree.while c) rest) → WhileStands text line here (place at) t c u
+  while-by rest {end} a e low =
+      let e′ = rw (st .is) at e in
+      record {
+        reads = reads;
+        after = a .placed;
+        own = record { begins = st .begins; reads = λ _. record { of = partBegun at (tree.while c) rest; end = end; is = e′; shallow = low } };
+        itself = rw e′ (sym (ap (hereOf at c) (a .is)));
+      }
+
+  while-last : (q : ℕ) (x : tree.Statement) (end : Scanned) → begunAt line true at ≡ done (tree.while c) u → Final line true at q x end
+      → partOf line true at ≡ goodPart (last q x) end → Shallow (last q x) → WhileStands text line here (place at) t c u
+  while-last q x end b (plain f) e low =
+      let g = f .begun in
+      let y : x ≡ tree.while c = cc in
+      let z : end ≡ u = cc in
+      while-by nothing (after-last st u (rw z at (f .no-colon))) (rw (f .at, y) at e) (rw (f .at, y) at low)
+  while-last q x end b (thens f) e low = let g = f .begun in never (cc)
+  while-last q x end b (elses f) e low = let g = f .begun in never (cc)
+
+  while-stands : begunAt line true at ≡ done (tree.while c) u → (p : Part) (end : Scanned) → partOf line true at ≡ goodPart p end → Shallow p
+      → WhileStands text line here (place at) t c u
+  while-stands b (last q x) end e low = while-last q x end b (final-view line true at e) e low
+  while-stands b (more q x rest) end e low =
+      let f = more-view line true at e in
+      let g = f .begun in
+      let y : x ≡ tree.while c = cc in
+      let z : f .end ≡ u = cc in
+      while-by (part rest) (after-colon st u (rw z at (f .colon)) (rw z at (f .goes)) (rest-shallow q x rest low)) (rw (f .at, y) at e) (rw (f .at, y) at low)
+
 module _ (text line : List ℕ) (here : Place) (at : ℕ) (m : State) (found : Found) (entry : Record) (input space room : List ℕ) (r : Turn)
     (space′ room′ : List ℕ) where
   abbrev D : Begun → Type 0
@@ -170,7 +207,7 @@ module _ (text line : List ℕ) (here : Place) (at : ℕ) (m : State) (found : F
 
   abbrev TurnsAs : Part → Type 0
   TurnsAs p =
-      Turns text m input space room (Told text (m .tables .numbers .names) (testOf (wishOf (headOf p))) (m .depth) found entry)
+      Turns text m input space room (Told text (m .tables .numbers .names) (testOf (wishOf (here .0) (placeOf p) (headOf p))) (m .depth) found entry)
       (λ n. doStatement text (placeOf p) (headOf p) n (record { lines = linesAt text (here .0); rest = tailOf p })) r space′ room′
 
   last-does : Standing text line here → (q : ℕ) (x : tree.Statement) (end : Scanned) → Final line true at q x end → Shallow (last q x)
@@ -222,10 +259,20 @@ module _ (text line : List ℕ) (here : Place) (at : ℕ) (m : State) (found : F
       → D (byWord line Line t)
   input-does t h = if-so D tt (isKeyword Input (t .token)) _ (by-input D tt line (after line t) (λ prompt v u e p. any-told (h prompt v u p e)))
 
+  pub while-does : Standing text line here → {l : Lead} → l ≡ leadOf line true (tokenAt line (place at)) → {t : Scanned} → l ≡ By While t
+      → Parted line at
+      → ((c : tree.Formula) (u : Scanned) → WhileStands text line here (place at) t c u
+      → Turns text m input space room (Told text (m .tables .numbers .names) (isWhile (here .0) at) (m .depth) found entry)
+      (λ n. doStatement text at (tree.while c) n (positionOf text (afterOf here u))) r space′ room′)
+      → D (byWord line While t)
+  while-does st is {t} by p h =
+      by-repeat D tt line t
+      (λ c u e _. h c u (while-stands st t c u e (lead-there line at is ∙ rw by (rw e)) (p .of) (p .end) (p .is) (p .shallow)))
+
 -- ---- words that lead an empty statement or a remark, or none
 
 abbrev otherWords : List ℕ
-otherWords = 3 ∷ 4 ∷ 9 ∷ 10 ∷ 13 ∷ 16 ∷ 17 ∷ 18 ∷ 19 ∷ 20 ∷ 21 ∷ []
+otherWords = 3 ∷ 4 ∷ 9 ∷ 10 ∷ 13 ∷ 16 ∷ 19 ∷ 20 ∷ 21 ∷ []
 
 module _ (text line : List ℕ) (here : Place) (at : ℕ) (m : State) (found : Found) (entry : Record) (input space room : List ℕ)
     (r : Turn) (sound : Sound m input space room) (t : Scanned) (e : r ≡ turnedTo m (next.On (afterOf here t))) where
@@ -248,8 +295,8 @@ module _ (text line : List ℕ) (here : Place) (at : ℕ) (m : State) (found : F
   other-does End h = absurd (miss otherWords 14 tt h)
   other-does Stop h = absurd (miss otherWords 15 tt h)
   other-does Rem h = λ p. rw e (goes-turn sound _ here t p)
-  other-does While h = tt
-  other-does Wend h = tt
+  other-does While h = absurd (miss otherWords 17 tt h)
+  other-does Wend h = absurd (miss otherWords 18 tt h)
   other-does Data h = tt
   other-does Read h = tt
   other-does Restore h = tt

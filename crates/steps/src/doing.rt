@@ -24,6 +24,8 @@ use machine::Machine;
 use machine::Next;
 use machine::Record;
 use machine::Turned;
+use repeating::repeat;
+use repeating::turn_back;
 use rows::Rows;
 use scanner::token_at;
 use statements::Lead;
@@ -68,7 +70,7 @@ pub fn do_statement(
     ensures { λ r. ⌜
         ((p : Part) (end : Scanned) → partOf (now (line .entry)) true (at .0) ≡ goodPart p end
         → Turns (now (text .entry)) (stateOf machine (now (names .entry)) (now (words .entry)) (now (labels .entry)) (now (lengths .entry))) (now (input .entry)) (now (space .entry)) (now (room .entry))
-        (Told (now (text .entry)) (now (names .entry)) (testOf (wishOf (headOf p))) (machine .depth) found entry)
+        (Told (now (text .entry)) (now (names .entry)) (testOf (wishOf (here .0) (placeOf p) (headOf p))) (machine .depth) found entry)
         (λ n. doStatement (now (text .entry)) (placeOf p) (headOf p) n (record { lines = linesAt (now (text .entry)) (here .0); rest = tailOf p }))
         (turnOf r (now (names .exit)) (now (words .exit)) (now (labels .exit)) (now (lengths .exit))) (now (space .exit)) (now (room .exit)))
         ⌝ }
@@ -127,6 +129,21 @@ pub fn do_statement(
                 space,
             ),
             Word::Next => next_loop(line, here, from, machine, words, found, entry),
+            Word::While => repeat(
+                text,
+                line,
+                here,
+                at,
+                from,
+                machine,
+                names,
+                words,
+                labels,
+                lengths,
+                found,
+                space,
+            ),
+            Word::Wend => turn_back(machine, found, entry),
             Word::Line => line_input(
                 line,
                 here,

@@ -37,7 +37,7 @@ same-tables {text} {rs} {m} h t used long vs e names more =
       taken = h .taken;
       steps = h .steps;
       limit = h .limit ∙ sym long;
-      placed = λ i l. record { back = h .placed i l .back; known = λ f. omega (arith, known i l f) };
+      placed = λ i l. record { back = h .placed i l .back; known = λ f. omega (arith, known i l f); paired = h .placed i l .paired };
     }
 
 -- bytes above those of the variables change none

@@ -3,6 +3,7 @@ pub mod Beginning
 pub mod Doing
 pub mod Keeping
 pub mod Leading
+pub mod Pushing
 pub mod Storing
 pub mod Wholes
 pub mod Working

@@ -18,6 +18,8 @@ use Rattle.whole.specs.declared.errors.Error.the-variants.{
   TypeMismatch,
   LineBufferOverflow,
   ForWithoutNext,
+  WhileWithoutWend,
+  WendWithoutWhile,
   InputPastEnd,
   OutputFull,
 }
@@ -31,9 +33,10 @@ use Rattle.grammar.specs.Trees.{Formula, Variable, Item, Statement, Part}
 use Rattle.variables.specs.Strings.{Value, whole, text, Outcome, value, fault, make}
 use Rattle.variables.specs.Variables.{wordOf, setNumber, setString, numbersFull, stringsFull}
 use Rattle.operators.specs.Values.{valueOf}
-use Rattle.machine.specs.Machine.{Position, Record, loop, call, Machine, mostRecords, roomOf, withVariables, withRecords, withInput, noting, Printed, full, printed, write, commaBlanks, isCall, isLoop, isLoopOf, backOf, Search, missing, found, sought, below, passed, longestInputLine}
-use Rattle.order.specs.Order.{Partner, none, some, past, nextFor}
-use Rattle.statements.specs.Parts.{nothing, part, headOf}
+use Rattle.machine.specs.Machine.{Position, Record, loop, call, again, Machine, mostRecords, roomOf, withVariables, withRecords, withInput, noting, Printed, full, printed, write, commaBlanks, isCall, isLoop, isLoopOf, backOf, Search, missing, found, sought, below, passed, longestInputLine}
+use Rattle.machine.specs.Order.{Stand, Partner, none, some, past, nextFor, wendFor}
+use Rattle.machine.specs.Repeats.{startOf, isWhile, isWhileOf}
+use Rattle.statements.specs.Parts.{Rest, nothing, part, headOf}
 
 -- what a statement comes to: the run goes on at a place, or at a line's start, or it ends
 pub data Next : Type 0 where
@@ -137,6 +140,8 @@ namesOther name tree.return = false
 namesOther name (tree.for v from to by) = false
 namesOther name tree.next = false
 namesOther name (tree.nextOf v) = cond (isWholeKind (v .kind)) (not (alike (v .telling) name)) true
+namesOther name (tree.while c) = false
+namesOther name tree.wend = false
 namesOther name (tree.lineInput t v) = false
 namesOther name tree.end = false
 namesOther name tree.stop = false
@@ -181,6 +186,38 @@ nextOn m missing after = fails NextWithoutFor m
 nextOn m (found (loop v limit step back) under) after =
     turned m v limit step back under after (applied Add (wordOf (m .variables .numbers) v) step)
 nextOn m (found (call p) under) after = fails NextWithoutFor m
+nextOn m (found (again p) under) after = fails NextWithoutFor m
+
+-- ---- WHILE and WEND
+
+-- the part that a statement at a place begins, by what is left after it
+abbrev pub partBegun : ℕ → Statement → Rest → Part
+partBegun at x nothing = tree.last at x
+partBegun at x (part p) = tree.more at x p
+
+-- the position of a WHILE itself
+abbrev pub hereOf : ℕ → Formula → Position → Position
+hereOf at c after = record { lines = after .lines; rest = part (partBegun at (tree.while c) (after .rest)) }
+
+-- a true condition: its own record stays, with those above it dropped, or one is made
+abbrev pub repeated : Machine → Search → Position → Position → Next
+repeated m missing here after = pushed m (again here) (λ n. goesOn n after)
+repeated m (found r under) here after = goesOn (withRecords m (r ∷ under)) after
+
+-- a false one drops it with those above it, and goes on after the WEND
+abbrev pub tested : Machine → Search → ℕ → Stand → Position → Position → Next
+tested m own v w here after = cond (eqb v 0) (goesOn (withRecords m (below (m .records) own)) (past w)) (repeated m own here after)
+
+-- a WHILE at a place, with its WEND; one with none is 29, tested before its condition
+abbrev pub whileBy : Partner → ℕ → Formula → Machine → Position → Next
+whileBy none at c m after = fails WhileWithoutWend m
+whileBy (some w) at c m after =
+    workedWhole c m (λ v n. tested n (sought (isWhile (startOf (after .lines)) at) (n .records)) v w (hereOf at c after) after)
+
+-- WEND begins its WHILE again, dropping the records above that one's
+abbrev pub turnedBack : Machine → Search → Next
+turnedBack m missing = fails WendWithoutWhile m
+turnedBack m (found r under) = goesOn (withRecords m (r ∷ under)) (backOf r)
 
 -- ---- LINE INPUT: its text is printed, then a line of input is taken
 
@@ -241,6 +278,8 @@ doStatement program at (tree.for v from to by) m after =
 doStatement program at tree.next m after = nextOn m (sought isLoop (m .records)) after
 doStatement program at (tree.nextOf v) m after =
     cond (isWholeKind (v .kind)) (nextOn m (sought (isLoopOf (v .telling)) (m .records)) after) (fails TypeMismatch m)
+doStatement program at (tree.while c) m after = whileBy (wendFor at (after .lines)) at c m after
+doStatement program at tree.wend m after = turnedBack m (sought (isWhileOf (startOf (after .lines)) at) (m .records))
 doStatement program at (tree.lineInput t v) m after =
     written m t (λ n. inputLine (n .input) n v (λ o. goesOn o after))
 doStatement program at tree.end m after = ends m

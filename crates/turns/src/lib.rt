@@ -10,5 +10,6 @@ pub use setting::with_string;
 pub use turning::after;
 pub use turning::fails;
 pub use turning::goes_on;
+pub use turning::push;
 pub use turning::turned_to;
 pub use turning::value;

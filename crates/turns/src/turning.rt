@@ -1,10 +1,12 @@
 // How a statement ends, and working out a formula with the machine's tables.
 ghost use mathlib.Core.Path.{_≡_};
+ghost use mathlib.Core.List.{List};
+ghost use Prim.Native.Nat.{ℕ};
 ghost use Rattle.grammar.specs.Trees.{Formula};
 ghost use Rattle.grammar.specs.Formulas.{good, formulaOf};
 ghost use Rattle.machine.specs.bridge.Holding.{stateOf, Settled};
 ghost use Rattle.machine.specs.declared.positions.Next.the-variants as next;
-ghost use Rattle.turns.specs.bridge.Turns.{cameTo, afterOf, Formed, Valued};
+ghost use Rattle.turns.specs.bridge.Turns.{turnOf, cameTo, afterOf, pushedTurn, Formed, Valued};
 use formulas::work_out;
 use grammar::is_symbol;
 use machine::Machine;
@@ -56,6 +58,26 @@ pub fn goes_on(machine: Machine, line: Place, ahead: Scanned) -> Turned
     ensures { λ r. ⌜ r ≡ cameTo machine (next.On (afterOf line ahead)) ⌝ }
 {
     turned_to(machine, Next::On(after(line, ahead)))
+}
+
+// A record more, if there is room.
+pub fn push(machine: Machine, held: Record, onward: Next) -> Turned
+    ensures { λ r. ⌜
+        ((names words labels lengths : List ℕ) → turnOf r names words labels lengths ≡ pushedTurn (stateOf machine names words labels lengths) held onward)
+        ⌝ }
+{
+    let slot = machine.depth;
+    if Machine::RECORDS <= slot {
+        return fails(machine, Error::OutOfMemory);
+    }
+    let mut deeper = machine;
+    deeper.depth = slot + 1;
+    Turned {
+        machine: deeper,
+        next: onward,
+        slot,
+        held,
+    }
 }
 
 // The value of the formula that begins with a token; the tables are the variables' of the machine.

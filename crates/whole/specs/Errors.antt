@@ -16,6 +16,8 @@ use Rattle.whole.specs.declared.errors.Error.the-variants.{
   FormulaTooComplex,
   LineBufferOverflow,
   ForWithoutNext,
+  WhileWithoutWend,
+  WendWithoutWhile,
   InputPastEnd,
   OutputFull,
 }
@@ -35,5 +37,7 @@ errorNumber StringTooLong = 15
 errorNumber FormulaTooComplex = 16
 errorNumber LineBufferOverflow = 23
 errorNumber ForWithoutNext = 26
+errorNumber WhileWithoutWend = 29
+errorNumber WendWithoutWhile = 30
 errorNumber InputPastEnd = 62
 errorNumber OutputFull = 110

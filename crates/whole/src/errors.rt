@@ -17,6 +17,8 @@ pub enum Error {
     FormulaTooComplex,
     LineBufferOverflow,
     ForWithoutNext,
+    WhileWithoutWend,
+    WendWithoutWhile,
     InputPastEnd,
     OutputFull,
 }
@@ -40,6 +42,8 @@ pub fn number_of(error: Error) -> u8
         Error::FormulaTooComplex => 16,
         Error::LineBufferOverflow => 23,
         Error::ForWithoutNext => 26,
+        Error::WhileWithoutWend => 29,
+        Error::WendWithoutWhile => 30,
         Error::InputPastEnd => 62,
         Error::OutputFull => 110,
     }

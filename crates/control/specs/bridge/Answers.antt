@@ -3,8 +3,8 @@
 use mathlib.Core.Path.{_≡_}
 use mathlib.Core.Bool.{Bool, true, false, cond}
 use mathlib.Core.List.{List}
-use Prim.Native.Nat.{ℕ, _+_, _≤_}
-use lib.Dec.{leb, ltb}
+use Prim.Native.Nat.{ℕ, _≤_}
+use lib.Dec.{ltb}
 use lib.ListN.{length, getD, set}
 use Rattle.whole.specs.declared.errors.Error.the-variants.{OutOfMemory}
 use Rattle.words.specs.declared.names.Name.{Name}
@@ -23,7 +23,7 @@ use Rattle.statements.specs.Statements.{done, variableOf, forAt}
 use Rattle.reader.specs.declared.branches.Start.{Start}
 use Rattle.reader.specs.declared.branches.Start.the-variants as branch
 use Rattle.formulas.specs.bridge.Memory.{Scans}
-use Rattle.machine.specs.Machine.{mostRecords, passed}
+use Rattle.machine.specs.Machine.{passed}
 use Rattle.machine.specs.Machine as spec
 use Rattle.machine.specs.bridge.Holding.{loopRecord, State}
 use Rattle.machine.specs.declared.positions.Position.{Position}
@@ -38,13 +38,7 @@ use Rattle.loader.specs.declared.lines.LineFound.{LineFound}
 use Rattle.loader.specs.declared.lines.LineFound.the-variants as line
 use Rattle.control.specs.declared.jumping.Calling.{Calling}
 use Rattle.control.specs.declared.jumping.Calling.the-variants as calling
-use Rattle.turns.specs.bridge.Turns.{Turn, turnedTo, withTables, withDepth, numberSet}
-
--- a record more, written above the others, if there is room
-abbrev pub pushedTurn : State → Record → Next → Turn
-pushedTurn m held n =
-    cond (leb mostRecords (m .depth)) (turnedTo m (next.Fails OutOfMemory))
-    (record { state = withDepth m (m .depth + 1); next = n; slot = m .depth; held = held })
+use Rattle.turns.specs.bridge.Turns.{Turn, turnedTo, pushedTurn, withTables, withDepth, numberSet}
 
 -- what becomes of a GOSUB: its line is tested before room for a record
 abbrev pub callingOf : LineFound → Bool → Calling
@@ -88,9 +82,9 @@ wordSet m slot w =
     let n = m .tables .numbers in
     withTables m (record { numbers = numbersOf (n .names) (wordsSet (n .count) (n .words) slot w) (n .count); strings = m .tables .strings }) (m .used)
 
--- a test that no GOSUB's record passes
+-- a test that no GOSUB's record passes, and no WHILE's
 abbrev pub LoopsOnly : (spec.Record → Bool) → Type 0
-LoopsOnly test = (p : spec.Position) → test (spec.call p) ≡ false
+LoopsOnly test = (p : spec.Position) → (test (spec.call p) ≡ false) × (test (spec.again p) ≡ false)
 
 -- the step of a FOR, from STEP on, if it stands; it is 1 if left out
 abbrev pub stepOf : List ℕ → Scanned → Reading

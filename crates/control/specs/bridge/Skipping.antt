@@ -15,14 +15,14 @@ use Rattle.statements.specs.Statements.{variableOf}
 use Rattle.statements.specs.declared.leading.Lead.{Lead}
 use Rattle.statements.specs.declared.leading.Lead.the-variants.{By, Nothing}
 use Rattle.machine.specs.Machine.{passed}
-use Rattle.machine.specs.bridge.Holding.{linesAt, Positioned, positionOf, State}
+use Rattle.machine.specs.bridge.Holding.{linesAt, State}
 use Rattle.machine.specs.declared.positions.Position.{Position}
 use Rattle.machine.specs.declared.positions.Next.{Next}
 use Rattle.machine.specs.declared.positions.Next.the-variants as next
 use Rattle.machine.specs.declared.records.Found.{Found}
-use Rattle.order.specs.Order.{Stand, past, Partner, none, some, nextFor}
+use Rattle.machine.specs.Order.{Stand, Partner, none, some, nextFor}
 use Rattle.turns.specs.Steps.{namesOther}
-use Rattle.turns.specs.bridge.Turns.{Turn, numberSet}
+use Rattle.turns.specs.bridge.Turns.{Turn, numberSet, GoesPast}
 use Rattle.control.specs.bridge.Answers.{loopTurn}
 
 -- the name after NEXT is another's
@@ -33,13 +33,6 @@ otherNamed line name v = namesOther name (tree.nextOf (variableOf line v))
 abbrev pub otherLed : List ℕ → Telling → Lead → Bool
 otherLed line name (By w t) = onName (t .token) (λ v. otherNamed line name v) false
 otherLed line name Nothing = false
-
--- on after a statement
-pub record GoesPast (text : List ℕ) (r : Next) (x : Stand) : Type 0 where
-  pub to : Position
-  pub is : r ≡ next.On to
-  pub placed : Positioned text to
-  pub there : positionOf text to ≡ past x
 
 -- after a NEXT, unless it names another variable
 abbrev pub PastNext : List ℕ → Telling → Next → Stand → Type 0

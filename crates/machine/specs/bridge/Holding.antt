@@ -1,12 +1,13 @@
 -- Bridge: how the code's machine, records and positions hold the definition's.
 -- The contracts of functions that crates use among themselves cite it; no demand and no promise of run, check_recipe or ask rests on it.
 use mathlib.Core.Path.{_≡_}
-use mathlib.Core.Bool.{Bool, true, false, cond, not}
+use mathlib.Core.Bool.{Bool, true, false, cond, not, _||_}
 use mathlib.Core.List.{List, [], _∷_, _++_}
 use Prim.Native.Nat.{ℕ, zero, suc, _+_, _≤_, _<_}
 use lib.Dec.{leb, eqb}
 use lib.ListN.{length, getD, take, drop}
 use Rattle.words.specs.Places.{place}
+use Rattle.words.specs.declared.places.Place.{Place}
 use Rattle.words.specs.declared.symbols.Scanned.{Scanned}
 use Rattle.loader.specs.Lines.{Line, linesFrom, linesOf, afterNumber}
 use Rattle.grammar.specs.Trees.{Part}
@@ -17,8 +18,10 @@ use Rattle.variables.specs.Tables.{sumOf}
 use Rattle.variables.specs.declared.tables.Tables.{Tables}
 use Rattle.variables.specs.Strings.{longestSpace}
 use Rattle.machine.specs.Machine as spec
-use Rattle.machine.specs.Machine.{loop, call, mostRecords, columnAfter}
-use Rattle.statements.specs.Parts.{Rest, nothing, part, statementsOf, deepestIn}
+use Rattle.machine.specs.Machine.{loop, call, again, mostRecords, columnAfter}
+use Rattle.machine.specs.Order.{Stand, some}
+use Rattle.machine.specs.Repeats.{startOf, wendOf}
+use Rattle.statements.specs.Parts.{Rest, nothing, part, placeOf, statementsOf, deepestIn}
 use Rattle.expressions.specs.Types.{deepestNesting}
 use Rattle.machine.specs.declared.state.Machine.{Machine}
 use Rattle.machine.specs.declared.state.Printer.{Printer}
@@ -78,7 +81,7 @@ pub record Positioned (text : List ℕ) (q : Position) : Type 0 where
 -- ---- records
 
 abbrev pub blankRecord : Record
-blankRecord = record { kind = 0; over = 0; limit = 0; step = 0; slot = 0; line = place 0; at = place 0 }
+blankRecord = record { kind = 0; over = 0; limit = 0; step = 0; slot = 0; line = place 0; at = place 0; ending = place 0; close = place 0 }
 
 abbrev callKind : ℕ
 callKind = 1
@@ -86,9 +89,19 @@ callKind = 1
 abbrev countKind : ℕ
 countKind = 2
 
--- a FOR's: any other kind is a GOSUB's
+abbrev repeatKind : ℕ
+repeatKind = 3
+
+-- a FOR's, and a WHILE's: any other kind is a GOSUB's
 abbrev pub counts : Record → Bool
 counts e = eqb (e .kind) countKind
+
+abbrev pub repeats : Record → Bool
+repeats e = eqb (e .kind) repeatKind
+
+-- a search goes on past it
+abbrev pub passes : Record → Bool
+passes e = counts e || repeats e
 
 -- the place to come back to: any number but 0 says that the line is over
 abbrev pub backOf : Record → Position
@@ -99,16 +112,22 @@ overNumber over = cond over 1 0
 
 abbrev pub callRecord : Position → Record
 callRecord back =
-    record { kind = callKind; over = overNumber (back .over); limit = 0; step = 0; slot = 0; line = back .line; at = back .at }
+    record { kind = callKind; over = overNumber (back .over); limit = 0; step = 0; slot = 0; line = back .line; at = back .at; ending = place 0; close = place 0 }
+
+-- a WHILE's at a place of its line, whose WEND stands at a place of another
+abbrev pub whileRecord : Place → Place → Place → Place → Record
+whileRecord line at ending close =
+    record { kind = repeatKind; over = 0; limit = 0; step = 0; slot = 0; line = line; at = at; ending = ending; close = close }
 
 abbrev pub loopRecord : ℕ → ℕ → ℕ → Position → Record
 loopRecord slot limit step back =
-    record { kind = countKind; over = overNumber (back .over); limit = limit; step = step; slot = slot; line = back .line; at = back .at }
+    record { kind = countKind; over = overNumber (back .over); limit = limit; step = step; slot = slot; line = back .line; at = back .at; ending = place 0; close = place 0 }
 
 -- a loop's variable is the one whose name stands at the entry
 abbrev pub recordOf : List ℕ → List ℕ → Record → spec.Record
 recordOf text names e =
-    cond (counts e) (loop (nameAt names (e .slot)) (e .limit) (e .step) (positionOf text (backOf e))) (call (positionOf text (backOf e)))
+    cond (counts e) (loop (nameAt names (e .slot)) (e .limit) (e .step) (positionOf text (backOf e)))
+    (cond (repeats e) (again (positionOf text (backOf e))) (call (positionOf text (backOf e))))
 
 -- the first so many of some, the topmost first
 unfoldable pub recordsIn : List ℕ → List ℕ → List Record → ℕ → List spec.Record
@@ -180,10 +199,19 @@ pub record Sound (m : State) (input space room : List ℕ) : Type 0 where
   pub taken : m .taken ≤ length input
   pub deep : m .depth ≤ mostRecords
 
+-- a WHILE's record comes back to the WHILE itself, and has the place of its WEND
+pub record Paired (text : List ℕ) (e : Record) : Type 0 where
+  pub ongoing : e .over ≡ 0
+  pub wend : Stand
+  pub is : wendOf (positionOf text (backOf e)) ≡ some wend
+  pub line : startOf (wend .lines) ≡ e .ending .0
+  pub at : placeOf (wend .part) ≡ e .close .0
+
 -- a record comes back to a place where a statement stands, and a loop's variable is one of so many
 pub record Placed (text : List ℕ) (numbers : ℕ) (e : Record) : Type 0 where
   pub back : Positioned text (backOf e)
   pub known : counts e ≡ true → e .slot < numbers
+  pub paired : repeats e ≡ true → Paired text e
 
 -- the definition's machine that it holds; only the highest number of unfinished strings is the definition's alone
 pub record Same (text : List ℕ) (rs : List Record) (m : State) (input space room : List ℕ) (n : spec.Machine) : Type 0 where

@@ -5,7 +5,9 @@ use mathlib.Core.Bool.{Bool, false, cond}
 use mathlib.Core.List.{List}
 use Prim.Native.Nat.{ℕ}
 use lib.Dec.{ltb}
+use Rattle.words.specs.Places.{place}
 use Rattle.words.specs.declared.names.Telling.{Telling}
+use Rattle.words.specs.declared.places.Place.{Place}
 use Rattle.words.specs.declared.symbols.Scanned.{Scanned}
 use Rattle.grammar.specs.Tests.{onName}
 use Rattle.grammar.specs.Trees as tree
@@ -16,6 +18,7 @@ use Rattle.variables.specs.declared.tables.Slot.{Slot}
 use Rattle.variables.specs.declared.tables.Slot.the-variants as slot
 use Rattle.machine.specs.Machine as spec
 use Rattle.machine.specs.Machine.{isCall, isLoop, isLoopOf}
+use Rattle.machine.specs.Repeats.{isWhile, isWhileOf}
 use Rattle.machine.specs.declared.records.Sought.{Sought}
 use Rattle.machine.specs.bridge.Wanted as sought
 
@@ -25,23 +28,28 @@ pub data Wish : Type 0 where
   call : Wish
   loop : Wish
   loopOf : Telling → Wish
+  whileAt : ℕ → ℕ → Wish
+  whileOf : ℕ → ℕ → Wish
 
-abbrev pub wishOf : Statement → Wish
-wishOf tree.empty = nothing
-wishOf (tree.assign v f) = nothing
-wishOf (tree.print is) = nothing
-wishOf (tree.ifThen c p) = nothing
-wishOf (tree.ifElse c p q) = nothing
-wishOf (tree.goto l) = nothing
-wishOf (tree.gosub l) = nothing
-wishOf tree.return = call
-wishOf (tree.for v from to by) = loopOf (v .telling)
-wishOf tree.next = loop
-wishOf (tree.nextOf v) = loopOf (v .telling)
-wishOf (tree.lineInput t v) = nothing
-wishOf tree.end = nothing
-wishOf tree.stop = nothing
-wishOf tree.remark = nothing
+-- of a statement at a place of the line that begins at another
+abbrev pub wishOf : ℕ → ℕ → Statement → Wish
+wishOf line at tree.empty = nothing
+wishOf line at (tree.assign v f) = nothing
+wishOf line at (tree.print is) = nothing
+wishOf line at (tree.ifThen c p) = nothing
+wishOf line at (tree.ifElse c p q) = nothing
+wishOf line at (tree.goto l) = nothing
+wishOf line at (tree.gosub l) = nothing
+wishOf line at tree.return = call
+wishOf line at (tree.for v from to by) = loopOf (v .telling)
+wishOf line at tree.next = loop
+wishOf line at (tree.nextOf v) = loopOf (v .telling)
+wishOf line at (tree.while c) = whileAt line at
+wishOf line at tree.wend = whileOf line at
+wishOf line at (tree.lineInput t v) = nothing
+wishOf line at tree.end = nothing
+wishOf line at tree.stop = nothing
+wishOf line at tree.remark = nothing
 
 -- the test that the definition makes
 abbrev pub testOf : Wish → spec.Record → Bool
@@ -49,6 +57,8 @@ testOf nothing r = false
 testOf call r = isCall r
 testOf loop r = isLoop r
 testOf (loopOf name) r = isLoopOf name r
+testOf (whileAt line at) r = isWhile line at r
+testOf (whileOf line at) r = isWhileOf line at r
 
 -- what the code looks for: a variable that was never assigned has no loop
 abbrev pub bySlot : ℕ → Slot → Sought
@@ -63,12 +73,14 @@ soughtFor names numbers nothing = sought.Nothing
 soughtFor names numbers call = sought.Call
 soughtFor names numbers loop = sought.Loop
 soughtFor names numbers (loopOf name) = loopSought names numbers name
+soughtFor names numbers (whileAt line at) = sought.WhileAt (place line) (place at)
+soughtFor names numbers (whileOf line at) = sought.WhileOf (place line) (place at)
 
 -- the record that is looked up is the one that is asked for
-abbrev pub Seeks : List ℕ → ℕ → Sought → Begun → Type 0
-Seeks names numbers k bad = Unit {0}
-Seeks names numbers k (done x u) = k ≡ soughtFor names numbers (wishOf x)
-Seeks names numbers k (choice c u) = k ≡ sought.Nothing
+abbrev pub Seeks : List ℕ → ℕ → Place → Place → Sought → Begun → Type 0
+Seeks names numbers line at k bad = Unit {0}
+Seeks names numbers line at k (done x u) = k ≡ soughtFor names numbers (wishOf (line .0) (at .0) x)
+Seeks names numbers line at k (choice c u) = k ≡ sought.Nothing
 
 -- the loop's record that a FOR or a NEXT asks for
 abbrev pub soughtLoop : List ℕ → ℕ → List ℕ → Scanned → Sought

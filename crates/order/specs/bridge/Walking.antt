@@ -27,7 +27,8 @@ use Rattle.reader.specs.Lines.{holds, judgement}
 use Rattle.reader.specs.bridge.Walking.{Onto}
 use Rattle.machine.specs.declared.positions.Position.{Position}
 use Rattle.machine.specs.bridge.Holding.{linesAt, bodyOf, Begins}
-use Rattle.order.specs.Order.{Stand, partsHeld, partsIn, placed, stands, Partner, none, some}
+use Rattle.machine.specs.Order as order
+use Rattle.machine.specs.Order.{Stand, partsHeld, partsIn, placed, stands, Partner, none, some}
 use Rattle.order.specs.declared.partners.Bracket.{Bracket}
 use Rattle.order.specs.declared.partners.Bracket.the-variants.{Opens, Closes, Neither}
 use Rattle.order.specs.declared.partners.Waiting.{Waiting}
@@ -115,6 +116,12 @@ pastRead line (statement.Done own) = record { line = line; at = own .ahead .next
 pastRead line (statement.Choice own) = record { line = line; at = line; over = true }
 
 -- ---- partners
+
+-- as the definition names it
+abbrev pub bracketOf : Bracket → order.Bracket
+bracketOf Opens = order.opens
+bracketOf Closes = order.closes
+bracketOf Neither = order.neither
 
 -- by the word that leads a statement
 abbrev pub markedBy : Word → Word → Lead → Bracket

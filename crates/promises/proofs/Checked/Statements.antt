@@ -19,22 +19,23 @@ use Rattle.loader.specs.Lines.{Line, linesOf, numberOf, has, fromNumber}
 use Rattle.grammar.specs.Trees as tree
 use Rattle.grammar.specs.Trees.{Formula, Variable, Item, Statement}
 use Rattle.expressions.specs.Types.{sortOf, isWhole, isText, isSome, isOf}
-use Rattle.statements.specs.Parts.{itemFormulas, isNumber, allSome, rightlyTyped, partsOf, partsWithin, heads, headOf}
+use Rattle.statements.specs.Parts.{Rest, nothing, part, itemFormulas, isNumber, allSome, rightlyTyped, partsOf, partsWithin, heads, headOf}
 use Rattle.expressions.specs.declared.sorts.Sort.{Sort}
 use Rattle.expressions.specs.declared.sorts.Sort.the-variants.{Whole, Text, Wrong}
 use Rattle.checker.specs.Check.{present}
 use Rattle.variables.specs.Strings.{Value, whole, text, Outcome, value, fault, make}
 use Rattle.variables.specs.Variables.{wordOf, numbersFull, stringsFull}
 use Rattle.operators.specs.Values.{valueOf}
-use Rattle.machine.specs.Machine.{Position, Record, loop, call, Machine, mostRecords, roomOf, noting, write, commaBlanks, isCall, isLoop, isLoopOf, Search, missing, found, sought, passed, longestInputLine}
-use Rattle.order.specs.Order.{Stand, later, past, Partner, none, some, pairsBy, nextFor}
+use Rattle.machine.specs.Machine.{Position, Record, loop, call, again, Machine, mostRecords, roomOf, noting, write, commaBlanks, isCall, isLoop, isLoopOf, Search, missing, found, sought, passed, longestInputLine}
+use Rattle.machine.specs.Order.{Stand, later, past, Bracket, Partner, none, some, partner, pairsBy, nextFor, wendFor}
+use Rattle.machine.specs.Repeats.{startOf, isWhile, isWhileOf}
 use Rattle.order.proofs.Laws.{later-throughout, later-lines, StandThroughout, partner-one}
-use Rattle.turns.specs.Steps.{Next, goesOn, enters, ends, stops, fails, worked, workedWhole, storeNumber, storeString, assigned, written, printItems, toLine, pushed, returned, cleared, begun, turned, nextOn, takeLine, filled, inputLine, isWholeKind, doStatement, namesOther, skipped}
+use Rattle.turns.specs.Steps.{Next, goesOn, enters, ends, stops, fails, worked, workedWhole, storeNumber, storeString, assigned, written, printItems, toLine, pushed, returned, cleared, begun, turned, nextOn, takeLine, filled, inputLine, isWholeKind, doStatement, namesOther, skipped, partBegun, hereOf, repeated, whileBy, turnedBack}
 use Rattle.promises.proofs.Records as records
 use Rattle.promises.proofs.Records.{sought-each, below-each}
 use Rattle.promises.proofs.Checked.Operators.{by-choice, Allowed, Answers, applied-answers, Fits, make-fits}
 use Rattle.promises.proofs.Checked.Formulas.{formula-fits}
-use Rattle.promises.proofs.Checked.Lines.{Checked, AllChecked, PartChecked, parts-apart, part-apart, lines-throughout, LinesChecked, PositionChecked, RecordChecked, RecordsChecked}
+use Rattle.promises.proofs.Checked.Lines.{Checked, AllChecked, PartChecked, parts-apart, part-apart, lines-throughout, LinesChecked, RestChecked, PositionChecked, RecordChecked, RecordsChecked}
 use Rattle.promises.proofs.Loops.{looped}
 
 -- ---- formulas of the type that a statement wants
@@ -155,15 +156,14 @@ module _ (all : List Line) where
 
   -- ---- FOR and NEXT
 
-  -- where the run goes on after the NEXT of a FOR
-  past-checked : (at : ℕ) (lines : List Line) → LinesChecked all lines → (x : Stand) → nextFor at lines ≡ some x → PositionChecked all (past x)
-  past-checked at lines h x e =
-      let test = pairsBy word.For word.Next in (
-        partner-one (λ y. LinesChecked all (y .lines)) test 0 (later at lines) (later-lines (LinesChecked all) (λ l ls k. k .1) at lines h) x e,
-        part-apart all (x .part)
-            (partner-one (StandThroughout (Checked all)) test 0 (later at lines)
-            (later-throughout (Checked all) at lines (lines-throughout all lines h)) x e) .2,
-      )
+  -- where the run goes on after the NEXT of a FOR, or the WEND of a WHILE
+  past-checked : (test : Statement → Bracket) (at : ℕ) (lines : List Line) → LinesChecked all lines → (x : Stand)
+      → partner test 0 (later at lines) ≡ some x → PositionChecked all (past x)
+  past-checked test at lines h x e = (
+    partner-one (λ y. LinesChecked all (y .lines)) test 0 (later at lines) (later-lines (LinesChecked all) (λ l ls k. k .1) at lines h) x e,
+    part-apart all (x .part)
+        (partner-one (StandThroughout (Checked all)) test 0 (later at lines) (later-throughout (Checked all) at lines (lines-throughout all lines h)) x e) .2,
+  )
 
   skipped-checked : (name : Telling) (s : Partner) → ((x : Stand) → s ≡ some x → PositionChecked all (past x)) → Continues (skipped name s)
   skipped-checked name none h m r = refl
@@ -175,7 +175,7 @@ module _ (all : List Line) where
       number-stored m name start (looped name at after start limit step) r (λ n q.
       let clear = below-each (RecordChecked all) (isLoopOf name) (n .records) q in
       by-choice NextChecked (passed start limit step)
-      (skipped-checked name (nextFor at (after .lines)) (past-checked at (after .lines) (p .0)) (cleared name n) clear)
+      (skipped-checked name (nextFor at (after .lines)) (past-checked (pairsBy word.For word.Next) at (after .lines) (p .0)) (cleared name n) clear)
       (pushed-checked (cleared name n) (loop name limit step after) (λ o. goesOn o after) clear p (goes-on after p)))
 
   turned-checked : (m : Machine) (v : Telling) (limit step : ℕ) (back : Position) (under : List Record) (after : Position) (a : Answer)
@@ -192,10 +192,38 @@ module _ (all : List Line) where
       let w = wordOf (m .variables .numbers) v in
       turned-checked m v limit step back under after (applied Add w step) (h .0) (h .1) p (applied-answers Add w step)
   found-checked m (found (call q) under) after h p = refl
+  found-checked m (found (again q) under) after h p = refl
 
   next-checked : (test : Record → Bool) (m : Machine) (after : Position) → MachineChecked m → PositionChecked all after
       → NextChecked (nextOn m (sought test (m .records)) after)
   next-checked test m after r p = found-checked m (sought test (m .records)) after (sought-each (RecordChecked all) test (m .records) r) p
+
+  -- ---- WHILE and WEND
+
+  -- the WHILE itself, with what is left after it
+  here-checked : (at : ℕ) (c : Formula) (r : Rest) → Checked all (tree.while c) → RestChecked all r → PartChecked all (partBegun at (tree.while c) r)
+  unfolding partsOf heads
+  here-checked at c nothing h r = (h, tt)
+  here-checked at c (part p) h r = (h, r)
+
+  repeated-checked : (m : Machine) (s : Search) (here after : Position) → MachineChecked m → SearchChecked s → PositionChecked all here
+      → PositionChecked all after → NextChecked (repeated m s here after)
+  repeated-checked m missing here after r h b p = pushed-checked m (again here) (λ n. goesOn n after) r b (goes-on after p)
+  repeated-checked m (found q under) here after r h b p = (h, p)
+
+  while-checked : (s : Partner) (at : ℕ) (c : Formula) (m : Machine) (after : Position) → Checked all (tree.while c) → MachineChecked m
+      → PositionChecked all after → ((x : Stand) → s ≡ some x → PositionChecked all (past x)) → NextChecked (whileBy s at c m after)
+  while-checked none at c m after h r p k = refl
+  while-checked (some w) at c m after h r p k =
+      let test = isWhile (startOf (after .lines)) at in
+      whole-worked c m _ (h .typed) r (λ v n q. by-choice NextChecked (eqb v 0)
+      (below-each (RecordChecked all) test (n .records) q, k w refl)
+      (repeated-checked n (sought test (n .records)) (hereOf at c after) after q (sought-each (RecordChecked all) test (n .records) q)
+      (p .0, here-checked at c (after .rest) h (p .1)) p))
+
+  back-checked : (m : Machine) (s : Search) → SearchChecked s → NextChecked (turnedBack m s)
+  back-checked m missing h = refl
+  back-checked m (found r under) h = (h, h .0)
 
   -- ---- LINE INPUT
 
@@ -257,6 +285,11 @@ module _ (program : List ℕ) (lines : LinesChecked (linesOf program) (linesOf p
   statement-checked at tree.next m after c i r p = next-checked all isLoop m after r p
   statement-checked at (tree.nextOf v) m after c i r p =
       rw (number-kind (v .kind) (c .typed)) (next-checked all (isLoopOf (v .telling)) m after r p)
+  statement-checked at (tree.while f) m after c i r p =
+      while-checked all (wendFor at (after .lines)) at f m after c r p (past-checked all (pairsBy word.While word.Wend) at (after .lines) (p .0))
+  statement-checked at tree.wend m after c i r p =
+      let test = isWhileOf (startOf (after .lines)) at in
+      back-checked all m (sought test (m .records)) (sought-each (RecordChecked all) test (m .records) r)
   statement-checked at (tree.lineInput t v) m after c i r p =
       written-checked all m t _ r (λ n s. input-checked all (n .input) n v _ (c .typed) s (goes-on all after p))
   statement-checked at tree.end m after c i r p = tt

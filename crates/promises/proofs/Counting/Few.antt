@@ -94,6 +94,7 @@ statement-few lines place (tree.ifElse c p q) m k (asks.chosen d) g = fine-few m
 statement-few lines place (tree.for v from to by) m k (asks.started t d) g = fine-few m _ k (g .0) d
 statement-few lines place (tree.for v from to by) m k (asks.limited t e d) g = fine-few m _ k (g .1 .0) d
 statement-few lines place (tree.for v from to by) m k (asks.stepped t e c d) g = fine-few m _ k (g .1 .1 .0) d
+statement-few lines place (tree.while c) m k (asks.repeated e d) g = fine-few m _ k (g .0) d
 statement-few lines place (tree.lineInput t v) m k (asks.input w e s) g = omega arith
 
 -- ---- a statement that a run begins

@@ -13,13 +13,14 @@ use Rattle.grammar.specs.Trees.{Formula, Variable, Item, Statement}
 use Rattle.variables.specs.Strings.{make}
 use Rattle.variables.specs.Variables.{stringBytes}
 use Rattle.operators.specs.Values.{valueOf}
-use Rattle.machine.specs.Machine.{Position, Machine, roomOf, withInput, noting, commaBlanks, longestInputLine}
-use Rattle.turns.specs.Steps.{Next, shownValue, printItems, takeLine, inputLine, branch, lineOver, doStatement}
+use Rattle.machine.specs.Machine.{Position, Machine, roomOf, withInput, noting, commaBlanks, sought, longestInputLine}
+use Rattle.machine.specs.Repeats.{startOf, isWhile}
+use Rattle.turns.specs.Steps.{Next, shownValue, printItems, takeLine, inputLine, branch, lineOver, doStatement, hereOf}
 use Rattle.promises.specs.Unfinished.{LiveIsExact}
 use Rattle.promises.specs.StringSpace as asks
 use Rattle.promises.specs.StringSpace.{Ask, bytesIn, FormulaAsks, PrintAsks, StatementAsks}
 use Rattle.promises.specs.Requests.{atOnce}
-use Rattle.promises.proofs.Limits.Keeping.{Leaves, Keeps, written-keeps, begun-keeps, whole-keeps, items-keep}
+use Rattle.promises.proofs.Limits.Keeping.{Leaves, Keeps, written-keeps, begun-keeps, tested-keeps, whole-keeps, items-keep}
 use Rattle.promises.proofs.Counting.Rising.{highestOf, value-rises}
 use Rattle.promises.proofs.Counting.Formulas.{make-counts, formula-counts}
 use Rattle.promises.proofs.Counting.Noting.{write-same, FitsIn, fits-later, unnoted, worked-notes, whole-notes, assigned-notes, filled-notes}
@@ -100,6 +101,10 @@ module _ (exact : LiveIsExact) where
       rw (t, e, c)
       (whole-notes (counts k) by (noting m next) _ (counted by (noting m next) k d h) (λ s last f q.
       begun-keeps (P k) (kept k .changes) (v .telling) place after a b s (noting m last) q))
+  statement-counts program place (tree.while c) m after k (asks.repeated {w = w} e d) h =
+      rw e
+      (whole-notes (counts k) c m _ (counted c m k d h) (λ v room f q.
+      tested-keeps (P k) (kept k .changes) (noting m room) (sought (isWhile (startOf (after .lines)) place) (m .records)) v w (hereOf place c after) after q))
   statement-counts program place (tree.lineInput t v) m after k (asks.input {n = n} {b = b} {s = s} w e short) h =
       let x = fits-later {m = m} {n = n} k (write-same m t n w) h in
       rw w (input-counts (n .input) n v _ b s e short (omega (arith, x)) (λ o q. q))

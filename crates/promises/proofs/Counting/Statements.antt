@@ -16,12 +16,14 @@ use Rattle.variables.specs.Strings.{make}
 use Rattle.variables.specs.Variables.{stringBytes}
 use Rattle.operators.specs.Values.{valueOf}
 use Rattle.machine.specs.Machine.{Position, call, Machine, roomOf, withInput, noting, commaBlanks, isCall, isLoop, isLoopOf, sought, longestInputLine}
-use Rattle.turns.specs.Steps.{Next, enters, shownValue, printItems, takeLine, inputLine, isWholeKind, branch, lineOver, doStatement}
+use Rattle.machine.specs.Order.{Partner, none, some, wendFor}
+use Rattle.machine.specs.Repeats.{startOf, isWhile, isWhileOf}
+use Rattle.turns.specs.Steps.{Next, enters, shownValue, printItems, takeLine, inputLine, isWholeKind, branch, lineOver, doStatement, hereOf, whileBy}
 use Rattle.promises.specs.Unfinished.{LiveIsExact}
 use Rattle.promises.specs.StringSpace as asks
 use Rattle.promises.specs.StringSpace.{Ask, bytesIn, FormulaAsks, PrintAsks, StatementAsks}
 use Rattle.promises.specs.Requests.{atOnce}
-use Rattle.promises.proofs.Limits.Keeping.{line-keeps, pushed-keeps, returned-keeps, begun-keeps, next-keeps}
+use Rattle.promises.proofs.Limits.Keeping.{line-keeps, pushed-keeps, returned-keeps, begun-keeps, tested-keeps, back-keeps, next-keeps}
 use Rattle.promises.proofs.Counting.Rising.{highestOf}
 use Rattle.promises.proofs.Counting.Raising.{Raised, raised-on, raised-as, make-raised}
 use Rattle.promises.proofs.Counting.Asked.{AskedBy, formula-raised}
@@ -84,6 +86,15 @@ module _ (exact : LiveIsExact) (program : List ℕ) (place : ℕ) (m : Machine) 
   abbrev Same : Statement → Machine → Type 0
   Same s n = R s (n .highest)
 
+  while-raises : (c : Formula) (p : Partner) → wendFor place (after .lines) ≡ p → Notes (R (tree.while c)) (whileBy p place c m after)
+  while-raises c none e = inl refl
+  while-raises c (some w) e =
+      let s = tree.while c in
+      whole-notes (R s) c m _
+      (told exact (AskedOf (after .lines) place s m) (m .highest) c m
+      (λ k d x. record { ask = k; asks = asks.repeated e d; fits = x; counted = refl }) (inl refl))
+      (λ v room f q. tested-keeps (Same s) (unnoted (R s)) (noting m room) (sought (isWhile (startOf (after .lines)) place) (m .records)) v w (hereOf place c after) after q)
+
   pub statement-raises : (s : Statement) → Notes (R s) (doStatement program place s m after)
   unfolding bytesIn
   statement-raises tree.empty = inl refl
@@ -135,6 +146,9 @@ module _ (exact : LiveIsExact) (program : List ℕ) (place : ℕ) (m : Machine) 
       by-test (isWholeKind (v .kind))
       (λ t. rw t (next-keeps (Same s) (unnoted (R s)) m (sought (isLoopOf (v .telling)) (m .records)) after (inl refl)))
       (λ t. rw t (inl refl))
+  statement-raises (tree.while c) = while-raises c (wendFor place (after .lines)) refl
+  statement-raises tree.wend =
+      back-keeps (Same tree.wend) (unnoted (R tree.wend)) m (sought (isWhileOf (startOf (after .lines)) place) (m .records)) (inl refl)
   statement-raises (tree.lineInput t v) =
       let s = tree.lineInput t v in
       written-notes (R s) m t _ (inl refl) (λ n w q.

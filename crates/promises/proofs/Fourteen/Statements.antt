@@ -22,10 +22,11 @@ use Rattle.grammar.specs.Trees.{Formula, Variable, Item, Statement}
 use Rattle.variables.specs.Strings.{Value, whole, text, Room, Outcome, value, fault, make}
 use Rattle.variables.specs.Variables.{Variables, wordOf, stringBytes, numbersFull, stringsFull}
 use Rattle.operators.specs.Values.{valueOf}
-use Rattle.machine.specs.Machine.{Position, Record, loop, call, Machine, mostRecords, roomOf, withRecords, withOutput, withInput, noting, columnAfter, Printed, full, printed, write, commaBlanks, isCall, isLoop, isLoopOf, Search, missing, found, sought, passed, longestInputLine}
-use Rattle.order.specs.Order.{Partner, none, some, nextFor}
+use Rattle.machine.specs.Machine.{Position, Record, loop, call, again, Machine, mostRecords, roomOf, withRecords, withOutput, withInput, noting, columnAfter, Printed, full, printed, write, commaBlanks, isCall, isLoop, isLoopOf, Search, missing, found, sought, passed, longestInputLine}
+use Rattle.machine.specs.Order.{Stand, Partner, none, some, nextFor, wendFor}
+use Rattle.machine.specs.Repeats.{startOf, isWhile, isWhileOf}
 use Rattle.statements.specs.Parts.{headOf}
-use Rattle.turns.specs.Steps.{Next, goesOn, enters, ends, stops, fails, worked, wholeOnly, workedWhole, withNumber, withString, storeNumber, storeString, assigned, written, shownValue, printItems, toLine, pushed, returned, cleared, begun, turned, nextOn, Taken, takeLine, filled, lineTaken, inputLine, isWholeKind, branch, lineOver, doStatement, namesOther, skipped}
+use Rattle.turns.specs.Steps.{Next, goesOn, enters, ends, stops, fails, worked, wholeOnly, workedWhole, withNumber, withString, storeNumber, storeString, assigned, written, shownValue, printItems, toLine, pushed, returned, cleared, begun, turned, nextOn, Taken, takeLine, filled, lineTaken, inputLine, isWholeKind, branch, lineOver, doStatement, namesOther, skipped, hereOf, repeated, tested, whileBy, turnedBack}
 use Rattle.promises.specs.Unfinished.{LiveIsExact}
 use Rattle.promises.specs.StringSpace as asks
 use Rattle.promises.specs.StringSpace.{Ask, bytesIn, Exceeds, FormulaAsks, PrintAsks, StatementAsks}
@@ -154,6 +155,18 @@ module _ (X : Type 0) where
       turned-tells m v limit step back under after (applied Add (wordOf (m .variables .numbers) v) step)
       (applied-spares Add (wordOf (m .variables .numbers) v) step)
   next-tells m (found (call q) under) after = λ t. never (cc)
+  next-tells m (found (again q) under) after = λ t. never (cc)
+
+  repeated-tells : (m : Machine) (s : Search) (here after : Position) → Tells X (repeated m s here after)
+  repeated-tells m missing here after = pushed-tells m (again here) (λ n. goesOn n after) (λ n. tt)
+  repeated-tells m (found r under) here after = tt
+
+  tested-tells : (m : Machine) (s : Search) (v : ℕ) (w : Stand) (here after : Position) → Tells X (tested m s v w here after)
+  tested-tells m s v w here after = by-test (eqb v 0) (λ e. rw e tt) (λ e. rw e (repeated-tells m s here after))
+
+  back-tells : (m : Machine) (s : Search) → Tells X (turnedBack m s)
+  back-tells m missing = λ t. never (cc)
+  back-tells m (found r under) = tt
 
   filled-tells : (sort : Kind) (name : Telling) (b : List ℕ) (m : Machine) (go : Machine → Next) → ((n : Machine) → Tells X (go n))
       → Tells X (filled sort name b m go)
@@ -205,6 +218,15 @@ module _ (exact : LiveIsExact) where
       items-tell X false is n go
       (λ k d x. over k (asks.afterItem e w d) (over-before {m = noting m room} k (write-same (noting m room) (shownValue v) n w) x)) h))
 
+  -- a WHILE's condition is worked out where it has its WEND
+  while-tells : (at : ℕ) (c : Formula) (m : Machine) (after : Position) (p : Partner) → wendFor at (after .lines) ≡ p
+      → Tells (StatementOver (after .lines) at (tree.while c) m) (whileBy p at c m after)
+  while-tells at c m after none e = λ t. never (cc)
+  while-tells at c m after (some w) e =
+      whole-tells (StatementOver (after .lines) at (tree.while c) m) c m _
+      (formula-tells c m (λ k d x. record { ask = k; asks = asks.repeated e d; exceeds = x }))
+      (λ v room f. tested-tells _ (noting m room) (sought (isWhile (startOf (after .lines)) at) (m .records)) v w (hereOf at c after) after)
+
   pub statement-tells : (program : List ℕ) (at : ℕ) (s : Statement) (m : Machine) (after : Position)
       → Tells (StatementOver (after .lines) at s m) (doStatement program at s m after)
   unfolding bytesIn
@@ -241,6 +263,8 @@ module _ (exact : LiveIsExact) where
   statement-tells program at (tree.nextOf v) m after =
       by-test (isWholeKind (v .kind)) (λ t. rw t (next-tells _ m (sought (isLoopOf (v .telling)) (m .records)) after))
       (λ t. rw t (λ x. never (cc)))
+  statement-tells program at (tree.while c) m after = while-tells at c m after (wendFor at (after .lines)) refl
+  statement-tells program at tree.wend m after = back-tells _ m (sought (isWhileOf (startOf (after .lines)) at) (m .records))
   statement-tells program at (tree.lineInput t v) m after =
       written-tells (StatementOver (after .lines) at (tree.lineInput t v) m) m t _ (λ n w.
       input-tells _ (n .input) n v _
@@ -286,6 +310,7 @@ module _ (exact : LiveIsExact) where
       let y = formula-refused to (noting m room) k d h in (noting m (y .0), rw (t, e, y .1))
   statement-fails program at (tree.for v from to by) m after k (asks.stepped {next = next} t e c d) h =
       let y = formula-refused by (noting m next) k d h in (noting m (y .0), rw (t, e, c, y .1))
+  statement-fails program at (tree.while c) m after k (asks.repeated e d) h = let y = formula-refused c m k d h in (noting m (y .0), rw (e, y .1))
   statement-fails program at (tree.lineInput t v) m after k (asks.input {n = n} {b = b} {s = s} w e short) h =
       let line = takeLine (b ∷ s) in
       let taken = withInput n (line .left) (n .taken + (length (n .input) - length (line .left))) in

@@ -21,10 +21,11 @@ use Rattle.grammar.specs.Trees.{Formula, Variable, Item, Statement}
 use Rattle.variables.specs.Strings.{Value, whole, text, Room, Outcome, value, fault, make}
 use Rattle.variables.specs.Variables.{Variables, wordOf, numbersFull, stringsFull}
 use Rattle.operators.specs.Values.{valueOf}
-use Rattle.machine.specs.Machine.{Position, Record, loop, call, Machine, mostRecords, roomOf, withRecords, withOutput, withInput, noting, columnAfter, write, commaBlanks, isCall, isLoop, isLoopOf, Search, missing, found, sought, passed, longestInputLine}
-use Rattle.order.specs.Order.{Partner, none, some, nextFor}
+use Rattle.machine.specs.Machine.{Position, Record, loop, call, again, Machine, mostRecords, roomOf, withRecords, withOutput, withInput, noting, columnAfter, write, commaBlanks, isCall, isLoop, isLoopOf, Search, missing, found, sought, below, passed, longestInputLine}
+use Rattle.machine.specs.Order.{Stand, Partner, none, some, nextFor, wendFor}
+use Rattle.machine.specs.Repeats.{startOf, isWhile, isWhileOf}
 use Rattle.statements.specs.Parts.{headOf}
-use Rattle.turns.specs.Steps.{Next, goesOn, enters, ends, stops, fails, worked, wholeOnly, workedWhole, withNumber, withString, storeNumber, storeString, assigned, written, shownValue, printItems, toLine, pushed, returned, cleared, begun, turned, nextOn, Taken, firstLine, takeLine, filled, lineTaken, inputLine, isWholeKind, branch, lineOver, doStatement, namesOther, skipped}
+use Rattle.turns.specs.Steps.{Next, goesOn, enters, ends, stops, fails, worked, wholeOnly, workedWhole, withNumber, withString, storeNumber, storeString, assigned, written, shownValue, printItems, toLine, pushed, returned, cleared, begun, turned, nextOn, Taken, firstLine, takeLine, filled, lineTaken, inputLine, isWholeKind, branch, lineOver, doStatement, namesOther, skipped, hereOf, repeated, tested, whileBy, turnedBack}
 use Rattle.whole.proofs.Never.{never}
 use Rattle.promises.proofs.Counting.Rising.{highestOf, make-rises, value-rises}
 use Rattle.promises.proofs.Loops.{looped}
@@ -121,6 +122,19 @@ module _ (P : Machine → Type 0) (k : Changes P) where
   next-keeps m (found (loop v limit step back) under) after p =
       turned-keeps m v limit step back under after (applied Add (wordOf (m .variables .numbers) v) step) p
   next-keeps m (found (call q) under) after p = p
+  next-keeps m (found (again q) under) after p = p
+
+  repeated-keeps : (m : Machine) (s : Search) (here after : Position) → P m → Leaves P (repeated m s here after)
+  repeated-keeps m missing here after p = pushed-keeps m (again here) (λ n. goesOn n after) p (λ n q. q)
+  repeated-keeps m (found r under) here after p = k .records m (r ∷ under) p
+
+  pub tested-keeps : (m : Machine) (s : Search) (v : ℕ) (w : Stand) (here after : Position) → P m → Leaves P (tested m s v w here after)
+  tested-keeps m s v w here after p =
+      by-test (eqb v 0) (λ e. rw e (k .records m (below (m .records) s) p)) (λ e. rw e (repeated-keeps m s here after p))
+
+  pub back-keeps : (m : Machine) (s : Search) → P m → Leaves P (turnedBack m s)
+  back-keeps m missing p = p
+  back-keeps m (found r under) p = k .records m (r ∷ under) p
 
 module _ (P : Machine → Type 0) (k : Keeps P) where
   -- ---- working out
@@ -195,6 +209,13 @@ module _ (P : Machine → Type 0) (k : Keeps P) where
   input-keeps [] m v go e p h = p
   input-keeps (b ∷ s) m v go e p h = taken-keeps m v (takeLine (b ∷ s)) go (rw e (left-less (b ∷ s))) p h
 
+  -- ---- WHILE
+
+  while-keeps : (s : Partner) (at : ℕ) (c : Formula) (m : Machine) (after : Position) → P m → Leaves P (whileBy s at c m after)
+  while-keeps none at c m after p = p
+  while-keeps (some w) at c m after p =
+      whole-keeps c m _ p (λ v n q. tested-keeps P (k .changes) n (sought (isWhile (startOf (after .lines)) at) (n .records)) v w (hereOf at c after) after q)
+
   -- ---- all statements
 
   pub statement-keeps : (program : List ℕ) (at : ℕ) (s : Statement) (m : Machine) (after : Position) → P m → Leaves P (doStatement program at s m after)
@@ -218,6 +239,9 @@ module _ (P : Machine → Type 0) (k : Keeps P) where
   statement-keeps program at tree.next m after p = next-keeps P (k .changes) m (sought isLoop (m .records)) after p
   statement-keeps program at (tree.nextOf v) m after p =
       by-test (isWholeKind (v .kind)) (λ e. rw e (next-keeps P (k .changes) m (sought (isLoopOf (v .telling)) (m .records)) after p)) (λ e. rw e p)
+  statement-keeps program at (tree.while c) m after p = while-keeps (wendFor at (after .lines)) at c m after p
+  statement-keeps program at tree.wend m after p =
+      back-keeps P (k .changes) m (sought (isWhileOf (startOf (after .lines)) at) (m .records)) p
   statement-keeps program at (tree.lineInput t v) m after p = written-keeps P (k .changes) m t _ p (λ n q. input-keeps (n .input) n v _ refl q (λ o r. r))
   statement-keeps program at tree.end m after p = p
   statement-keeps program at tree.stop m after p = p

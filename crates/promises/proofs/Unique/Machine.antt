@@ -25,11 +25,23 @@ record-calls κs a p z z′ ws ws′ e e′ = (same e e′, refl)
 pub record-counts : Unique machine.records.Record.counts.Kinds.ps machine.records.Record.counts.Kinds.r machine.records.Record.counts.Reads.Pre machine.records.Record.counts.Reads.Post
 record-counts κs a p z z′ ws ws′ e e′ = (same e e′, refl)
 
+pub record-repeats : Unique machine.records.Record.repeats.Kinds.ps machine.records.Record.repeats.Kinds.r machine.records.Record.repeats.Reads.Pre machine.records.Record.repeats.Reads.Post
+record-repeats κs a p z z′ ws ws′ e e′ = (same e e′, refl)
+
 pub record-back : Unique machine.records.Record.back.Kinds.ps machine.records.Record.back.Kinds.r machine.records.Record.back.Reads.Pre machine.records.Record.back.Reads.Post
 record-back κs a p z z′ ws ws′ e e′ = (same e e′, refl)
 
 pub sought-loop-of : Unique machine.records.Sought.loop_of.Kinds.ps machine.records.Sought.loop_of.Kinds.r machine.records.Sought.loop_of.Reads.Pre machine.records.Sought.loop_of.Reads.Post
 sought-loop-of κs a p z z′ ws ws′ e e′ = (same e e′, refl)
+
+pub sought-while-at : Unique machine.records.Sought.while_at.Kinds.ps machine.records.Sought.while_at.Kinds.r machine.records.Sought.while_at.Reads.Pre machine.records.Sought.while_at.Reads.Post
+sought-while-at κs a p z z′ ws ws′ e e′ = (same e e′, refl)
+
+pub sought-while-of : Unique machine.records.Sought.while_of.Kinds.ps machine.records.Sought.while_of.Kinds.r machine.records.Sought.while_of.Reads.Pre machine.records.Sought.while_of.Reads.Post
+sought-while-of κs a p z z′ ws ws′ e e′ = (same e e′, refl)
+
+pub is-sought : Unique machine.is_sought.Kinds.ps machine.is_sought.Kinds.r machine.is_sought.Reads.Pre machine.is_sought.Reads.Post
+is-sought κs a p z z′ ws ws′ e e′ = (same e e′, refl)
 
 pub stack-empty : Unique machine.records.Stack.empty.Kinds.ps machine.records.Stack.empty.Kinds.r machine.records.Stack.empty.Reads.Pre machine.records.Stack.empty.Reads.Post
 stack-empty κs a p z z′ ws ws′ e e′ = (λ i. record { records = same e e′ i }, refl)

@@ -2,26 +2,32 @@
 use mathlib.Core.Path.{_≡_, refl}
 use mathlib.Core.List.{[]}
 use Rattle.turns.proofs as turns
-use Rattle.turns.specs.bridge.Turns.{Storage, storageOf}
+use Rattle.machine.specs.bridge.Holding.{State}
+use Rattle.machine.specs.declared.positions.Turned.{Turned}
+use Rattle.machine.specs.declared.state.Machine.{Machine}
+use Rattle.turns.specs.bridge.Turns.{Turn, turnOf, Storage, storageOf}
 use Rattle.turns.specs.declared.setting.Stored.{Stored}
 use Rattle.promises.specs.Calls.{Unique}
 use Rattle.promises.proofs.Unique.{same, pair}
 
--- the code's answer, told by the storage that it is
-abbrev storedFrom : Storage → Stored
-storedFrom s = record {
-  ok = s .ok;
-  slot = s .slot;
-  machine = record {
-    numbers = s .state .tables .numbers .count;
-    strings = s .state .tables .strings .count;
-    used = record { 0 = s .state .used };
-    printer = s .state .printer;
-    taken = record { 0 = s .state .taken };
-    steps = s .state .steps;
-    depth = s .state .depth;
-  };
+-- the code's machine, told by the state that it is
+abbrev machineFrom : State → Machine
+machineFrom s = record {
+  numbers = s .tables .numbers .count;
+  strings = s .tables .strings .count;
+  used = record { 0 = s .used };
+  printer = s .printer;
+  taken = record { 0 = s .taken };
+  steps = s .steps;
+  depth = s .depth;
 }
+
+-- and its answers, by the storage and the turn that they are
+abbrev storedFrom : Storage → Stored
+storedFrom s = record { ok = s .ok; slot = s .slot; machine = machineFrom (s .state) }
+
+abbrev turnedFrom : Turn → Turned
+turnedFrom t = record { machine = machineFrom (t .state); next = t .next; slot = t .slot; held = t .held }
 
 pub turned-to : Unique turns.turned_to.Kinds.ps turns.turned_to.Kinds.r turns.turned_to.Reads.Pre turns.turned_to.Reads.Post
 turned-to κs a p z z′ ws ws′ e e′ = (same e e′, refl)
@@ -34,6 +40,11 @@ after κs a p z z′ ws ws′ e e′ = (same e e′, refl)
 
 pub goes-on : Unique turns.goes_on.Kinds.ps turns.goes_on.Kinds.r turns.goes_on.Reads.Pre turns.goes_on.Reads.Post
 goes-on κs a p z z′ ws ws′ e e′ = (same e e′, refl)
+
+-- whatever tables there are, and so where they are none
+pub push : Unique turns.push.Kinds.ps turns.push.Kinds.r turns.push.Reads.Pre turns.push.Reads.Post
+push κs a p z z′ ws ws′ e e′ =
+    let q : turnOf z [] [] [] [] ≡ turnOf z′ [] [] [] [] = same (e [] [] [] []) (e′ [] [] [] []) in (λ i. turnedFrom (q i), refl)
 
 pub stored-or-full : Unique turns.stored_or_full.Kinds.ps turns.stored_or_full.Kinds.r turns.stored_or_full.Reads.Pre turns.stored_or_full.Reads.Post
 stored-or-full κs a p z z′ ws ws′ e e′ = (same e e′, refl)

@@ -22,10 +22,11 @@ use Rattle.statements.specs.Parts.{itemFormulas, formulasOf, headOf, tailOf, Re
 use Rattle.variables.specs.Strings.{Value, whole, text, Room, Outcome, value, fault, make}
 use Rattle.variables.specs.Variables.{wordOf, numbersFull, stringsFull}
 use Rattle.operators.specs.Values.{valueOf}
-use Rattle.machine.specs.Machine.{Position, Record, loop, call, Machine, mostRecords, roomOf, withInput, noting, write, commaBlanks, Search, missing, found, sought, passed, isCall, isLoop, isLoopOf, backOf, longestInputLine}
-use Rattle.order.specs.Order.{Stand, later, Partner, none, some, pairsBy, nextFor}
+use Rattle.machine.specs.Machine.{Position, Record, loop, call, again, Machine, mostRecords, roomOf, withInput, noting, write, commaBlanks, Search, missing, found, sought, passed, isCall, isLoop, isLoopOf, backOf, longestInputLine}
+use Rattle.machine.specs.Order.{Stand, later, Bracket, Partner, none, some, partner, pairsBy, nextFor, wendFor}
+use Rattle.machine.specs.Repeats.{startOf, isWhile, isWhileOf}
 use Rattle.order.proofs.Laws.{later-throughout, StandThroughout, partner-one}
-use Rattle.turns.specs.Steps.{Next, goesOn, enters, ends, stops, fails, worked, wholeOnly, workedWhole, withNumber, assigned, written, shownValue, printItems, toLine, pushed, returned, turned, nextOn, takeLine, filled, inputLine, isWholeKind, doStatement, cleared, begun, namesOther, skipped}
+use Rattle.turns.specs.Steps.{Next, goesOn, enters, ends, stops, fails, worked, wholeOnly, workedWhole, withNumber, assigned, written, shownValue, printItems, toLine, pushed, returned, turned, nextOn, takeLine, filled, inputLine, isWholeKind, doStatement, cleared, begun, namesOther, skipped, partBegun, hereOf, repeated, tested, whileBy, turnedBack}
 use Rattle.promises.specs.Unfinished.{mostUnfinished}
 use Rattle.promises.proofs.Records as records
 use Rattle.promises.proofs.Records.{sought-each, below-each}
@@ -156,12 +157,13 @@ next-sound missing after s h a = s
 next-sound {m} (found (loop v limit step back) under) after s h a =
     turned-sound v limit step back under after (applied Add (wordOf (m .variables .numbers) v) step) s (h .0) (h .1) a
 next-sound (found (call back) under) after s h a = s
+next-sound (found (again back) under) after s h a = s
 
--- the NEXT of a FOR
-partner-fine : (at : ℕ) (lines : List Line) (x : Stand) → nextFor at lines ≡ some x → PartFine (x .part)
-partner-fine at lines x e =
+-- the NEXT of a FOR, or the WEND of a WHILE
+partner-fine : (test : Statement → Bracket) (at : ℕ) (lines : List Line) (x : Stand) → partner test 0 (later at lines) ≡ some x → PartFine (x .part)
+partner-fine test at lines x e =
     let P : Statement → Type 0 = λ x. Each Fine (formulasOf x) in
-    partner-one (StandThroughout P) (pairsBy word.For word.Next) 0 (later at lines) (later-throughout P at lines (lines-fine lines)) x e
+    partner-one (StandThroughout P) test 0 (later at lines) (later-throughout P at lines (lines-fine lines)) x e
 
 skipped-sound : {m : Machine} (v : Telling) (p : Partner) → Sound m → ((x : Stand) → p ≡ some x → PartFine (x .part)) → NextFine (skipped v p m)
 skipped-sound v none s h = s
@@ -174,8 +176,35 @@ loop-sound m v at from limit step after s a =
     let clear : Sound (cleared v q) = record { few = s .few; held = below-each RecordFine (isLoopOf v) (m .records) (s .held) } in
     either-fine (numbersFull (m .variables .numbers) v) _ _ s
     (either-fine (passed from limit step) _ _
-    (skipped-sound v (nextFor at (after .lines)) clear (partner-fine at (after .lines)))
+    (skipped-sound v (nextFor at (after .lines)) clear (partner-fine (pairsBy word.For word.Next) at (after .lines)))
     (pushed-sound (loop v limit step after) (λ r. goesOn r after) clear a (λ r t. (t, a))))
+
+-- ---- WHILE and WEND
+
+-- the WHILE itself, with what is left after it
+here-fine : (at : ℕ) (c : Formula) (r : Rest) → Each Fine (c ∷ []) → RestFine r → PartFine (partBegun at (tree.while c) r)
+unfolding partsOf heads
+here-fine at c nothing g h = (g, tt)
+here-fine at c (part p) g h = (g, h)
+
+repeated-sound : {m : Machine} (x : Search) (here after : Position) → Sound m → SearchFine x → RestFine (here .rest) → RestFine (after .rest)
+    → NextFine (repeated m x here after)
+repeated-sound missing here after s h b a = pushed-sound (again here) (λ n. goesOn n after) s b (λ n t. (t, a))
+repeated-sound (found r under) here after s h b a = (record { few = s .few; held = h }, a)
+
+while-sound : (p : Partner) (at : ℕ) (c : Formula) (m : Machine) (after : Position) → Each Fine (c ∷ []) → Sound m → RestFine (after .rest)
+    → ((x : Stand) → p ≡ some x → PartFine (x .part)) → NextFine (whileBy p at c m after)
+while-sound none at c m after g s a h = s
+while-sound (some w) at c m after g s a h =
+    let test = isWhile (startOf (after .lines)) at in
+    whole-sound m _ (g .0) s (λ v n t. either-fine (eqb v 0) _ _
+    (record { few = t .few; held = below-each RecordFine test (n .records) (t .held) }, head-fine (w .part) (h w refl) .2)
+    (repeated-sound (sought test (n .records)) (hereOf at c after) after t (sought-each RecordFine test (n .records) (t .held))
+    (here-fine at c (after .rest) g a) a))
+
+back-sound : {m : Machine} (x : Search) → Sound m → SearchFine x → NextFine (turnedBack m x)
+back-sound missing s h = s
+back-sound (found r under) s h = (record { few = s .few; held = h }, h .0)
 
 -- ---- LINE INPUT
 
@@ -227,6 +256,11 @@ statement-sound program at (tree.nextOf v) m after g p s a =
     (next-sound (sought (isLoopOf (v .telling)) (m .records)) after s
     (sought-each RecordFine (isLoopOf (v .telling)) (m .records) (s .held)) a)
     s
+statement-sound program at (tree.while c) m after g p s a =
+    while-sound (wendFor at (after .lines)) at c m after g s a (partner-fine (pairsBy word.While word.Wend) at (after .lines))
+statement-sound program at tree.wend m after g p s a =
+    let test = isWhileOf (startOf (after .lines)) at in
+    back-sound (sought test (m .records)) s (sought-each RecordFine test (m .records) (s .held))
 statement-sound program at (tree.lineInput t v) m after g p s a =
     written-sound m t _ s (λ n i. input-sound (n .input) n v after i a)
 statement-sound program at tree.end m after g p s a = s

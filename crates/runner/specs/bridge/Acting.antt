@@ -1,9 +1,9 @@
 -- Bridge: one turn of a run: what the statement asks for, what was looked up for it, and what it leaves.
 -- The contracts of functions inside this crate cite it; no demand and no promise of run, check_recipe or ask rests on it.
 use mathlib.Core.Path.{_≡_}
-use mathlib.Core.Bool.{Bool, true, false, not}
+use mathlib.Core.Bool.{Bool, true, false, not, cond}
 use mathlib.Core.List.{List}
-use Prim.Native.Nat.{ℕ, _+_, _<_}
+use Prim.Native.Nat.{ℕ, _+_, _-_, _<_}
 use lib.Dec.{eqb, ltb}
 use lib.ListN.{length, set}
 use Rattle.words.specs.declared.places.Place.{Place}
@@ -15,7 +15,7 @@ use Rattle.machine.specs.Machine.{mostRecords}
 use Rattle.machine.specs.Machine as spec
 use Rattle.machine.specs.bridge.Holding.{linesAt, blankRecord, State, Sound, Same}
 use Rattle.machine.specs.bridge.Seeking.{Seeks}
-use Rattle.machine.specs.bridge.Wanted.{foundIn, entryAt}
+use Rattle.machine.specs.bridge.Wanted.{isSought, foundIn, entryAt}
 use Rattle.machine.specs.declared.positions.Next.the-variants as next
 use Rattle.machine.specs.declared.records.Record.{Record}
 use Rattle.machine.specs.declared.records.Found.{Found}
@@ -52,12 +52,12 @@ pub record StandsAt (text rows : List ℕ) (s : Standing) : Type 0 where
   pub here : At text rows (row .0) at
 
 -- how it is led, and the record that it asks for; the names are those of so many number variables
-pub record Asks (names : List ℕ) (numbers : ℕ) (line : List ℕ) (at : Place) (asked : Asked) : Type 0 where
+pub record Asks (names : List ℕ) (numbers : ℕ) (line : List ℕ) (here at : Place) (asked : Asked) : Type 0 where
   pub led : asked .lead ≡ leadOf line true (tokenAt line at)
-  pub seeks : Seeks names numbers (asked .sought) (begunBy line (asked .lead))
+  pub seeks : Seeks names numbers here at (asked .sought) (begunBy line (asked .lead))
 
 pub record AsksAt (text rows names : List ℕ) (numbers : ℕ) (s : Standing) (asked : Asked) : Type 0 where
-  pub asks : (row : Row) (at : Place) → s ≡ standing.At row at → Asks names numbers (lineIn text (spanIn rows (row .0))) at asked
+  pub asks : (row : Row) (at : Place) → s ≡ standing.At row at → Asks names numbers (lineIn text (spanIn rows (row .0))) (spanIn rows (row .0) .place) at asked
 
 abbrev pub seeksOne : Asked → Bool
 seeksOne asked = not (eqb (asked .sought .kind) 0)
@@ -70,6 +70,18 @@ slotOf found.None = mostRecords
 
 abbrev pub noLookup : Lookup
 noLookup = record { found = found.None; entry = blankRecord }
+
+-- the topmost record, if it is asked for; whether the others are to be looked through
+abbrev pub topLookup : Sought → ℕ → Record → Lookup
+topLookup k depth top =
+    cond (eqb depth 0) noLookup (cond (isSought k top) (record { found = found.At (depth - 1); entry = top }) noLookup)
+
+abbrev pub looksOnFor : Found → Bool
+looksOnFor (found.At i) = false
+looksOnFor found.None = true
+
+abbrev pub looksOn : Lookup → Bool
+looksOn l = looksOnFor (l .found)
 
 -- in some records, down from a depth
 pub record LooksUp (sought : Sought) (depth : ℕ) (rs : List Record) (lookup : Lookup) : Type 0 where

@@ -39,7 +39,7 @@ module _ (text line : List ℕ) (here : Place) (at : ℕ) (m : State) (found : F
   Does bad = Unit {0}
   Does (done x u) =
       Positioned text (afterOf here u)
-      → Turns text m input space room (Looked (wishOf x))
+      → Turns text m input space room (Looked (wishOf (here .0) at x))
       (λ n. doStatement text at x n (positionOf text (afterOf here u))) r space′ room′
   Does (choice c way) =
       (p : Part) (u : Scanned) (after : spec.Position) → after .lines ≡ linesAt text (here .0)

@@ -3,7 +3,8 @@
 use mathlib.Core.Path.{_≡_}
 use mathlib.Core.Bool.{Bool, cond, not}
 use mathlib.Core.List.{List}
-use Prim.Native.Nat.{ℕ, _≤_, _<_}
+use Prim.Native.Nat.{ℕ, _+_, _≤_, _<_}
+use lib.Dec.{leb}
 use lib.ListN.{length, set, drop}
 use Rattle.whole.specs.declared.errors.Error.the-variants.{OutOfMemory}
 use Rattle.words.specs.declared.names.Telling.{Telling}
@@ -24,7 +25,7 @@ use Rattle.variables.specs.bridge.Memory.{Held, Agrees, Framed, GoesOn, NumberS
 use Rattle.variables.specs.declared.tables.Tables.{Tables}
 use Rattle.variables.specs.declared.values.Worked.{Worked}
 use Rattle.machine.specs.Machine as spec
-use Rattle.machine.specs.Machine.{mostRecords}
+use Rattle.machine.specs.Order.{Stand, past}
 use Rattle.machine.specs.bridge.Holding.{linesAt, bodyOf, Begins, Positioned, positionOf, blankRecord, State, stateOf, variablesOf, Sound, Same}
 use Rattle.machine.specs.declared.state.Machine.{Machine}
 use Rattle.machine.specs.declared.state.Printer.{Printer}
@@ -192,3 +193,19 @@ storedAs s line ahead =
 abbrev pub storedTurn : Storage → Place → Scanned → Turn
 storedTurn s line ahead =
     cond (s .ok) (turnedTo (s .state) (next.On (afterOf line ahead))) (turnedTo (s .state) (next.Fails OutOfMemory))
+
+-- ---- a record more
+
+-- written above the others, if there is room
+abbrev pub pushedTurn : State → Record → Next → Turn
+pushedTurn m held n =
+    cond (leb mostRecords (m .depth)) (turnedTo m (next.Fails OutOfMemory))
+    (record { state = withDepth m (m .depth + 1); next = n; slot = m .depth; held = held })
+
+-- ---- on after a statement of the text
+
+pub record GoesPast (text : List ℕ) (r : Next) (x : Stand) : Type 0 where
+  pub to : Position
+  pub is : r ≡ next.On to
+  pub placed : Positioned text to
+  pub there : positionOf text to ≡ past x

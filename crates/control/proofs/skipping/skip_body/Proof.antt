@@ -2,8 +2,9 @@
 use mathlib.Core.Path.{refl}
 use borrow.Author.Needs.{needs}
 use Rattle.machine.specs.bridge.Holding.{linesAt}
-use Rattle.order.specs.Order.{nextFor}
-use Rattle.control.proofs.Skips.{spot-of, skips-none, skips-past}
+use Rattle.machine.specs.Order.{nextFor}
+use Rattle.order.proofs.Laws.{spot-of}
+use Rattle.control.proofs.Skips.{skips-none, skips-past}
 use Rattle.control.proofs.skipping.skip_body.Statement.{statement}
 use Rattle.control.proofs.skipping.skip_body.Tie as tie
 

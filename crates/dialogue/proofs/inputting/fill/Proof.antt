@@ -49,5 +49,5 @@ fill-spec =
     (λ c κs. search needs)
     (λ c. search needs)
     returns-2
-    (λ c. search needs)
+    (λ c. search (needs, c .before .before .before .before .before .before .before .before .before .before .before .space))
     returns-3)

@@ -3,7 +3,7 @@ use mathlib.Core.Path.{_≡_, refl, sym, _∙_}
 use Prim.Native.Nat.{_≤_}
 use native.Mathlib.Omega.{arith}
 use borrow.Author.Needs.{needs}
-use borrow.Author.Tests.{eq-eqb, ne-eqb}
+use borrow.Author.Tests.{not-true, not-false}
 use lib.ListN.{length}
 use Rattle.machine.specs.Machine.{mostRecords}
 use Rattle.machine.specs.bridge.Wanted.{foundIn}
@@ -31,7 +31,7 @@ returns-3 c =
     let e = c .before .before in
     let t = e .before .before .before in let l = t .before .loop in let a = t .before .before .before .before .args in
     ends-none (a .sought) (a .t1 .records) (l .i) _ (t .loop-test .taken) (omega arith) (sym (e .before .is-sought .ensures) ∙ e .if2 .left)
-    (ne-eqb _ 2 (c .if3 .taken))
+    (sym (c .before .passes .ensures) ∙ not-true _ (c .if3 .taken))
     ∙ l .inv .2
 
 loop-again : tie.Need-loop-again Inv-loop μ-loop
@@ -41,7 +41,7 @@ loop-again c =
       l .inv .0,
       omega arith,
       goes-on (a .sought) (a .t1 .records) (l .i) _ (t .loop-test .taken) (omega arith) (sym (e .before .is-sought .ensures) ∙ e .if2 .left)
-          (eq-eqb _ 2 (c .if3 .left))
+          (sym (c .before .passes .ensures) ∙ not-false _ (c .if3 .left))
           ∙ l .inv .2,
     )
 
@@ -58,6 +58,7 @@ find-record-spec =
     (λ c. search needs)
     (λ c κs. search needs)
     returns-2
+    (λ c κs. search needs)
     returns-3
     (λ c. search needs)
     loop-again

@@ -10,7 +10,7 @@ use Rattle.statements.proofs.Parts.{weightAt}
 use Rattle.reader.specs.Lines.{holds, judgement}
 use Rattle.reader.specs.bridge.Walking.{Onto, StartsAs, Further}
 use Rattle.reader.specs.declared.branches.Start.{Start}
-use Rattle.order.specs.Order.{beyond}
+use Rattle.machine.specs.Order.{beyond}
 use Rattle.order.proofs.Lining.{steps}
 use Rattle.order.proofs.Rising.{Seeks, seeks-first, seeks-here, seeks-on, seeks-end, seeks-next}
 use Rattle.order.proofs.lines.first_beyond.Statement.{statement}

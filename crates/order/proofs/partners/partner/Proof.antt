@@ -5,8 +5,8 @@ use Prim.Native.Nat.{ℕ, _+_, _≤_}
 use native.Mathlib.Omega.{arith}
 use borrow.Author.Needs.{needs}
 use Rattle.statements.specs.Parts.{headOf}
-use Rattle.order.specs.Order.{Stand, partner, pairsBy}
-use Rattle.order.specs.bridge.Walking.{Ahead, Spotted, Walks, Walking, leftOf, markedBy}
+use Rattle.machine.specs.Order.{Stand, partner, pairsBy}
+use Rattle.order.specs.bridge.Walking.{Ahead, Spotted, Walks, Walking, leftOf, bracketOf, markedBy}
 use Rattle.order.specs.declared.texts.Spot.{Spot}
 use Rattle.order.proofs.Pairing.{Seeking, seeking-over, met, met-here, met-still, whereat, still-few, left-few, spot-marked}
 use Rattle.order.proofs.partners.partner.Statement.{statement}
@@ -40,16 +40,16 @@ module _ (c : tie.After-marked Inv-loop μ-loop) where
   text = c .before .before .before .before .before .before .before .args .text .now
 
   marks : (x : Stand) (xs : List Stand) → Ahead text (there (c .before .before .before)) (x ∷ xs)
-      → c .marked .result ≡ pairsBy (c .before .before .before .before .before .before .before .args .opens) (c .before .before .before .before .before .before .before .args .closes) (headOf (x .part))
+      → bracketOf (c .marked .result) ≡ pairsBy (c .before .before .before .before .before .before .before .args .opens) (c .before .before .before .before .before .before .before .args .closes) (headOf (x .part))
   marks x xs a =
       let g = c .before .before .before .before .before .before .before .args in
-      c .marked .ensures ∙ ap (markedBy (g .opens) (g .closes)) (c .before .lead-of .ensures) ∙ spot-marked (g .opens) (g .closes) a
+      ap bracketOf (c .marked .ensures ∙ ap (markedBy (g .opens) (g .closes)) (c .before .lead-of .ensures)) ∙ spot-marked (g .opens) (g .closes) a
 
 returns-2 : tie.Need-returns-2 Inv-loop μ-loop
 returns-2 c = λ xs w.
     let m = c .before .before .before in
     let k = met ((rw (m .before .before .before .walk .given .1) at (m .before .before .before .before .before .loop .inv .1 .1)) xs w) in
-    met-here k (marks m (k .x) (k .xs) (k .ahead)) (sym (c .enum-told2 .given .1) ∙ c .before .before .counted .ensures)
+    met-here k (m .marked .result) (marks m (k .x) (k .xs) (k .ahead)) (sym (c .enum-told2 .given .1) ∙ c .before .before .counted .ensures)
 
 loop-again : tie.Need-loop-again Inv-loop μ-loop
 loop-again c =
@@ -65,7 +65,7 @@ loop-again c =
         omega (arith, f, n, c .onward .ensures .1),
         λ xs v.
             let k = met ((rw w at (l .inv .1 .1)) xs v) in
-            met-still k (marks m (k .x) (k .xs) (k .ahead)) e (c .onward .ensures .0 (k .x) (k .xs) (k .ahead)),
+            met-still k (m .marked .result) (marks m (k .x) (k .xs) (k .ahead)) e (c .onward .ensures .0 (k .x) (k .xs) (k .ahead)),
       ),
     )
 

@@ -6,7 +6,7 @@ use borrow.Author.Needs.{needs}
 use lib.ListN.{length}
 use Rattle.words.specs.Places.{place}
 use Rattle.machine.specs.bridge.Holding.{linesAt}
-use Rattle.order.specs.Order.{stands}
+use Rattle.machine.specs.Order.{stands}
 use Rattle.order.specs.bridge.Walking.{Reached}
 use Rattle.order.proofs.Texting.{Here, here-reached, told, reached-next, left-here, enter-over, enter-at, enter-next}
 use Rattle.order.proofs.texts.enter.Statement.{statement}

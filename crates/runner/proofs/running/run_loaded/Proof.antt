@@ -4,13 +4,13 @@ use mathlib.Core.Logic.{⊎-elim}
 use mathlib.Core.Bool.{true}
 use Prim.Native.Nat.{_-_}
 use native.Mathlib.Omega.{arith}
-use lib.ListN.{set}
+use lib.ListN.{getD, set}
 use Rattle.rows.proofs.Ordering.{ordered}
 use Rattle.machine.specs.bridge.Holding.{stateOf}
-use Rattle.runner.specs.bridge.Acting.{goesOf, LooksUp}
+use Rattle.runner.specs.bridge.Acting.{goesOf, topLookup, looksOn, LooksUp}
 use Rattle.runner.specs.bridge.Endings.{ranOf}
 use Rattle.runner.specs.declared.going.Acted.{Acted}
-use Rattle.runner.proofs.Turning.{looked-none, left-none}
+use Rattle.runner.proofs.Turning.{looked-none, looked-top, left-none}
 use Rattle.runner.proofs.Looping.{Kept, kept-fresh, kept-out, kept-at, kept-ready, kept-less, kept-again}
 use borrow.Author.Needs.{needs}
 use Rattle.runner.proofs.running.run_loaded.Statement.{statement}
@@ -38,24 +38,38 @@ looked : (c : tie.Joined2 Inv-loop μ-loop)
     LooksUp (a .asks .result .sought) (l .going .machine .depth) (l .stack .records) (c .if2 .lookup)
 looked c =
     let n = c .before .before in
-    ⊎-elim (λ w. rw (w .4) (w .3 .ensures))
-    (λ w. looked-none (n .before .asks .result) _ _ (sym (c .before .seeks .ensures) ∙ w .0 .left) (w .1 ∙ n .no-lookup .ensures))
+    let l = n .before .before .before .before .before .loop in
+    ⊎-elim (λ w. rw (w .8) (w .7 .ensures))
+    (⊎-elim
+    (λ w. looked-top (n .before .asks .result .sought) (l .going .machine .depth) (l .stack .records) _ (omega (arith, l .inv .slots, l .inv .sound .deep))
+    (w .7 ∙ w .4 .ensures ∙ ap (λ s. topLookup (n .before .asks .result .sought) (l .going .machine .depth) (getD (l .stack .records) s _)) (w .2 .ensures))
+    (ap looksOn (w .7) ∙ sym (w .5 .ensures) ∙ w .6 .left))
+    (λ w. looked-none (n .before .asks .result) _ _ (sym (c .before .seeks .ensures) ∙ w .0 .left) (w .1 ∙ n .no-lookup .ensures)))
     (c .if2 .came)
 
 -- the one that was left was written, or none was left
-module _ (c : tie.Joined3 Inv-loop μ-loop) where
+module _ (c : tie.Joined4 Inv-loop μ-loop) where
   abbrev acted : Acted
   acted = c .before .before .before .before .before .before .act .result
 
   abbrev loop : tie.At-loop Inv-loop μ-loop
   loop = c .before .before .before .before .before .before .before .before .before .before .before .before .before .before .before .before .before .before .before .before
 
-  stored : c .if3 .stack .records ≡ set (loop .loop .stack .records) (acted .slot) (acted .held)
+  stored : c .if4 .stack .records ≡ set (loop .loop .stack .records) (acted .slot) (acted .held)
   stored =
-      ⊎-elim {C = c .if3 .stack .records ≡ set (loop .loop .stack .records) (acted .slot) (acted .held)}
+      ⊎-elim {C = c .if4 .stack .records ≡ set (loop .loop .stack .records) (acted .slot) (acted .held)}
       (λ w. ap (λ x. x .records) (w .3) ∙ w .2 .ensures)
       (λ w. ap (λ x. x .records) (w .1) ∙ left-none acted _ (loop .loop .inv .slots) (sym (c .before .leaves .ensures) ∙ w .0 .left))
-      (c .if3 .came)
+      (c .if4 .came)
+
+mul-top : tie.Need-mul-top Inv-loop μ-loop
+mul-top c = omega (arith, c .topmost .ensures, c .before .before .before .before .before .before .before .before .before .loop .inv .sound .deep)
+
+element-copy-out-top : tie.Need-element-copy-out-top Inv-loop μ-loop
+element-copy-out-top c = omega (arith, c .topmost .ensures, c .before .before .before .before .before .before .before .before .before .loop .inv .sound .deep, c .before .before .before .before .before .before .before .before .before .loop .inv .slots)
+
+look-up-requires : tie.Need-look-up-requires Inv-loop μ-loop
+look-up-requires c κs = c .before .before .before .before .before .before .before .before .before .before .before .before .before .loop .inv .sound .deep
 
 act-requires : tie.Need-act-requires Inv-loop μ-loop
 act-requires c κs =
@@ -92,7 +106,12 @@ run-loaded-spec =
     (λ c κs. kept-at (c .before .before .before .before .before .before .before .before .before .before .pre .0) (c .before .before .before .loop .inv) (sym (c .before .before .goes .ensures) ∙ c .before .if1 .taken))
     (λ c κs. search needs)
     (λ c κs. search needs)
-    (λ c κs. c .before .before .before .before .before .before .before .before .before .loop .inv .sound .deep)
+    (λ c κs. search needs)
+    mul-top
+    element-copy-out-top
+    (λ c κs. search needs)
+    (λ c κs. search needs)
+    look-up-requires
     act-requires
     (λ c κs. search needs)
     (λ c κs. search needs)

@@ -4,9 +4,10 @@ use borrow.Author.Needs.{needs}
 use Rattle.rows.proofs.Ordering.{ordered}
 use Rattle.machine.specs.bridge.Holding.{stateOf, positionOf}
 use Rattle.turns.specs.bridge.Turns.{turnOf, afterOf}
+use Rattle.machine.proofs.Standing.{begins-at}
 use Rattle.turns.proofs.Doing.{ends-turn, stops-turn}
-use Rattle.steps.proofs.Beginning.{print-itemed, if-formed, input-asks}
-use Rattle.steps.proofs.Dispatching.{lead-begins, lead-from, lead-reads, lead-does, print-does, if-does, input-does, other-does}
+use Rattle.steps.proofs.Beginning.{print-itemed, if-formed, while-formed, input-asks}
+use Rattle.steps.proofs.Dispatching.{lead-begins, lead-from, lead-reads, lead-does, print-does, if-does, while-does, input-does, other-does}
 use Rattle.steps.proofs.doing.do_statement.Statement.{statement}
 use Rattle.steps.proofs.doing.do_statement.Tie as tie
 
@@ -32,11 +33,17 @@ count-requires c κs =
     let t = c .before .before .before .before .before .before .before .before in let k = t .before .before .before .before .before .before .before in let a = k .args in
     (rw (c .before .before .before .before .before .enum-told7 .given .1) at (lead-begins (a .line .now) (a .at .0) (k .pre .1 .1 .1 .1 .0) (t .lead .given .1) (k .pre .1 .0)), (k .pre .0 .short, ((k .pre .1 .1 .0) .settled, (k .pre .1 .1 .1 .0, record { loads = k .pre .0 .loads; begins = k .pre .0 .begins }))))
 
+repeat-requires : tie.Need-repeat-requires
+repeat-requires c κs =
+    let t = c .before .before .before .before .before .before .before .before in let k = t .before .before .before .before .before .before .before in let a = k .args in
+    let f = lead-from (a .line .now) (a .at .0) (k .pre .1 .1 .1 .1 .0) (t .lead .given .1) in
+    (while-formed (a .line .now) (k .pre .0 .short) (f .place) (f .is) (rw (c .before .before .before .before .before .enum-told9 .given .1) at (lead-begins (a .line .now) (a .at .0) (k .pre .1 .1 .1 .1 .0) (t .lead .given .1) (k .pre .1 .0))), ((k .pre .1 .1 .0) .settled, (k .pre .1 .1 .1 .0, record { loads = k .pre .0 .loads; begins = k .pre .0 .begins })))
+
 line-input-requires : tie.Need-line-input-requires
 line-input-requires c κs =
     let t = c .before .before .before .before .before .before .before .before in let k = t .before .before .before .before .before .before .before in let a = k .args in
     let s = (k .pre .1 .1 .0) .settled in (
-      rw (c .before .before .before .before .token-at .ensures) (input-asks (a .line .now) (k .pre .0 .short) (t .lead .given .0 .1 .0) (rw (c .before .before .before .before .before .enum-told9 .given .1) at (lead-begins (a .line .now) (a .at .0) (k .pre .1 .1 .1 .1 .0) (t .lead .given .1) (k .pre .1 .0)))),
+      rw (c .before .before .before .before .token-at .ensures) (input-asks (a .line .now) (k .pre .0 .short) (t .lead .given .0 .1 .0) (rw (c .before .before .before .before .before .enum-told11 .given .1) at (lead-begins (a .line .now) (a .at .0) (k .pre .1 .1 .1 .1 .0) (t .lead .given .1) (k .pre .1 .0)))),
       (record { all = s .all; within = s .within }, (k .pre .1 .1 .0) .fitting),
     )
 
@@ -90,32 +97,44 @@ returns-8 c =
 
 returns-9 : tie.Need-returns-9
 returns-9 c =
-    let t = c .before .before .before .before .before .before .before .before .before .before .before .before .before in let k = t .before .before .before .before .before .before .before in let a = k .args in
+    let t = c .before .before .before .before .before .before .before .before .before .before .before in let k = t .before .before .before .before .before .before .before in let a = k .args in
     lead-does (a .text .now) (a .line .now) (a .here) (a .at .0) (stateOf (a .machine) (a .names .now) (a .words .now) (a .labels .now) (a .lengths .now)) (a .found) (a .entry) (a .input .now) (a .space .now) (a .room .now) _ _ _ (k .pre .0) (k .pre .1 .1 .1 .1 .0) (t .lead .given .1) (k .pre .1 .0)
-    (rw (c .before .before .before .before .before .before .before .before .before .before .enum-told9 .given .1) (input-does (a .text .now) (a .line .now) (a .here) (a .at .0) (stateOf (a .machine) (a .names .now) (a .words .now) (a .labels .now) (a .lengths .now)) (a .found) (a .entry) (a .input .now) (a .space .now) (a .room .now) _ _ _ (t .lead .given .0 .1 .0) (λ prompt v u p e. c .before .before .before .before .line-input .ensures (a .text .now) prompt (a .names .now) (a .words .now) (a .at .0) v u (k .pre .1 .1 .0) p (rw (← (c .before .before .before .before .before .before .before .before .before .token-at .ensures)) at e))))
+    (rw (c .before .before .before .before .before .before .before .before .enum-told9 .given .1) (while-does (a .text .now) (a .line .now) (a .here) (a .at .0) (stateOf (a .machine) (a .names .now) (a .words .now) (a .labels .now) (a .lengths .now)) (a .found) (a .entry) (a .input .now) (a .space .now) (a .room .now) _ _ _ (k .pre .0) (k .pre .1 .1 .1 .1 .0) (rw (c .before .before .before .before .before .before .before .before .enum-told9 .given .1) at (t .lead .given .1)) (k .pre .1 .0) (λ f u w. c .before .before .repeat .ensures (a .input .now) (a .room .now) (a .entry) f u (k .pre .1 .1 .0) w)))
 
 returns-10 : tie.Need-returns-10
 returns-10 c =
     let t = c .before .before .before .before in let k = t .before .before .before .before .before .before .before in let a = k .args in
-    lead-does (a .text .now) (a .line .now) (a .here) (a .at .0) (stateOf (a .machine) (a .names .now) (a .words .now) (a .labels .now) (a .lengths .now)) (a .found) (a .entry) (a .input .now) (a .space .now) (a .room .now) (turnOf (c .turned-to .result) (a .names .now) (a .words .now) (a .labels .now) (a .lengths .now)) (a .space .now) (a .room .now) (k .pre .0) (k .pre .1 .1 .1 .1 .0) (t .lead .given .1) (k .pre .1 .0)
-    (rw (c .before .enum-told10 .given .1, c .turned-to .ensures) (λ p. ends-turn (k .pre .1 .1 .0) _))
+    lead-does (a .text .now) (a .line .now) (a .here) (a .at .0) (stateOf (a .machine) (a .names .now) (a .words .now) (a .labels .now) (a .lengths .now)) (a .found) (a .entry) (a .input .now) (a .space .now) (a .room .now) (turnOf (c .turn-back .result) (a .names .now) (a .words .now) (a .labels .now) (a .lengths .now)) (a .space .now) (a .room .now) (k .pre .0) (k .pre .1 .1 .1 .1 .0) (t .lead .given .1) (k .pre .1 .0)
+    (rw (c .before .enum-told10 .given .1) (λ p. c .turn-back .ensures (a .text .now) (a .input .now) (a .space .now) (a .room .now) (a .names .now) (a .words .now) (a .labels .now) (a .lengths .now) (a .here .0) (a .at .0) (positionOf (a .text .now) (afterOf (a .here) (t .lead .given .0 .1 .0))) (begins-at (k .pre .0 .begins)) (k .pre .1 .1 .0)))
 
 returns-11 : tie.Need-returns-11
 returns-11 c =
-    let t = c .before .before .before .before in let k = t .before .before .before .before .before .before .before in let a = k .args in
-    lead-does (a .text .now) (a .line .now) (a .here) (a .at .0) (stateOf (a .machine) (a .names .now) (a .words .now) (a .labels .now) (a .lengths .now)) (a .found) (a .entry) (a .input .now) (a .space .now) (a .room .now) (turnOf (c .turned-to2 .result) (a .names .now) (a .words .now) (a .labels .now) (a .lengths .now)) (a .space .now) (a .room .now) (k .pre .0) (k .pre .1 .1 .1 .1 .0) (t .lead .given .1) (k .pre .1 .0)
-    (rw (c .before .enum-told11 .given .1, c .turned-to2 .ensures) (λ p. stops-turn (k .pre .1 .1 .0) _))
+    let t = c .before .before .before .before .before .before .before .before .before .before .before .before .before in let k = t .before .before .before .before .before .before .before in let a = k .args in
+    lead-does (a .text .now) (a .line .now) (a .here) (a .at .0) (stateOf (a .machine) (a .names .now) (a .words .now) (a .labels .now) (a .lengths .now)) (a .found) (a .entry) (a .input .now) (a .space .now) (a .room .now) _ _ _ (k .pre .0) (k .pre .1 .1 .1 .1 .0) (t .lead .given .1) (k .pre .1 .0)
+    (rw (c .before .before .before .before .before .before .before .before .before .before .enum-told11 .given .1) (input-does (a .text .now) (a .line .now) (a .here) (a .at .0) (stateOf (a .machine) (a .names .now) (a .words .now) (a .labels .now) (a .lengths .now)) (a .found) (a .entry) (a .input .now) (a .space .now) (a .room .now) _ _ _ (t .lead .given .0 .1 .0) (λ prompt v u p e. c .before .before .before .before .line-input .ensures (a .text .now) prompt (a .names .now) (a .words .now) (a .at .0) v u (k .pre .1 .1 .0) p (rw (← (c .before .before .before .before .before .before .before .before .before .token-at .ensures)) at e))))
 
 returns-12 : tie.Need-returns-12
 returns-12 c =
-    let t = c .before .before .before in let k = t .before .before .before .before .before .before .before in let a = k .args in
-    lead-does (a .text .now) (a .line .now) (a .here) (a .at .0) (stateOf (a .machine) (a .names .now) (a .words .now) (a .labels .now) (a .lengths .now)) (a .found) (a .entry) (a .input .now) (a .space .now) (a .room .now) (turnOf (c .goes-on .result) (a .names .now) (a .words .now) (a .labels .now) (a .lengths .now)) (a .space .now) (a .room .now) (k .pre .0) (k .pre .1 .1 .1 .1 .0) (t .lead .given .1) (k .pre .1 .0)
-    (other-does (a .text .now) (a .line .now) (a .here) (a .at .0) (stateOf (a .machine) (a .names .now) (a .words .now) (a .labels .now) (a .lengths .now)) (a .found) (a .entry) (a .input .now) (a .space .now) (a .room .now) (turnOf (c .goes-on .result) (a .names .now) (a .words .now) (a .labels .now) (a .lengths .now)) (k .pre .1 .1 .0) (t .lead .given .0 .1 .0) (rw (c .goes-on .ensures) refl) (t .lead .given .0 .0) (c .before .match2 .keys12))
+    let t = c .before .before .before .before in let k = t .before .before .before .before .before .before .before in let a = k .args in
+    lead-does (a .text .now) (a .line .now) (a .here) (a .at .0) (stateOf (a .machine) (a .names .now) (a .words .now) (a .labels .now) (a .lengths .now)) (a .found) (a .entry) (a .input .now) (a .space .now) (a .room .now) (turnOf (c .turned-to .result) (a .names .now) (a .words .now) (a .labels .now) (a .lengths .now)) (a .space .now) (a .room .now) (k .pre .0) (k .pre .1 .1 .1 .1 .0) (t .lead .given .1) (k .pre .1 .0)
+    (rw (c .before .enum-told12 .given .1, c .turned-to .ensures) (λ p. ends-turn (k .pre .1 .1 .0) _))
 
 returns-13 : tie.Need-returns-13
 returns-13 c =
+    let t = c .before .before .before .before in let k = t .before .before .before .before .before .before .before in let a = k .args in
+    lead-does (a .text .now) (a .line .now) (a .here) (a .at .0) (stateOf (a .machine) (a .names .now) (a .words .now) (a .labels .now) (a .lengths .now)) (a .found) (a .entry) (a .input .now) (a .space .now) (a .room .now) (turnOf (c .turned-to2 .result) (a .names .now) (a .words .now) (a .labels .now) (a .lengths .now)) (a .space .now) (a .room .now) (k .pre .0) (k .pre .1 .1 .1 .1 .0) (t .lead .given .1) (k .pre .1 .0)
+    (rw (c .before .enum-told13 .given .1, c .turned-to2 .ensures) (λ p. stops-turn (k .pre .1 .1 .0) _))
+
+returns-14 : tie.Need-returns-14
+returns-14 c =
+    let t = c .before .before .before in let k = t .before .before .before .before .before .before .before in let a = k .args in
+    lead-does (a .text .now) (a .line .now) (a .here) (a .at .0) (stateOf (a .machine) (a .names .now) (a .words .now) (a .labels .now) (a .lengths .now)) (a .found) (a .entry) (a .input .now) (a .space .now) (a .room .now) (turnOf (c .goes-on .result) (a .names .now) (a .words .now) (a .labels .now) (a .lengths .now)) (a .space .now) (a .room .now) (k .pre .0) (k .pre .1 .1 .1 .1 .0) (t .lead .given .1) (k .pre .1 .0)
+    (other-does (a .text .now) (a .line .now) (a .here) (a .at .0) (stateOf (a .machine) (a .names .now) (a .words .now) (a .labels .now) (a .lengths .now)) (a .found) (a .entry) (a .input .now) (a .space .now) (a .room .now) (turnOf (c .goes-on .result) (a .names .now) (a .words .now) (a .labels .now) (a .lengths .now)) (k .pre .1 .1 .0) (t .lead .given .0 .1 .0) (rw (c .goes-on .ensures) refl) (t .lead .given .0 .0) (c .before .match2 .keys14))
+
+returns-15 : tie.Need-returns-15
+returns-15 c =
     let k = c .before .before .before .before .before .before .before .before in let a = k .args in
-    lead-reads (a .line .now) (a .at .0) (k .pre .1 .1 .1 .1 .0) (c .before .enum-told12 .given .1) (k .pre .1 .0)
+    lead-reads (a .line .now) (a .at .0) (k .pre .1 .1 .1 .1 .0) (c .before .enum-told14 .given .1) (k .pre .1 .0)
 
 pub do-statement-spec : {M : Type 1} → statement M
 do-statement-spec =
@@ -136,6 +155,10 @@ do-statement-spec =
     (λ c κs. search needs)
     (λ c. search needs)
     count-requires
+    (λ c. search needs)
+    (λ c κs. search needs)
+    (λ c. search needs)
+    repeat-requires
     (λ c. search needs)
     (λ c κs. search needs)
     (λ c. search needs)
@@ -162,9 +185,12 @@ do-statement-spec =
     returns-7
     returns-8
     (λ c. search needs)
-    (λ c. search needs)
     returns-9
     returns-10
+    (λ c. search needs)
+    (λ c. search needs)
     returns-11
     returns-12
-    returns-13)
+    returns-13
+    returns-14
+    returns-15)

@@ -8,12 +8,10 @@ use Rattle.words.specs.declared.symbols.Word.{Word}
 use Rattle.words.specs.declared.symbols.Word.the-variants as word
 use Rattle.loader.specs.Lines.{Line, afterNumber, nextLine}
 use Rattle.grammar.specs.Tests.{wordRank}
-use Rattle.grammar.specs.Trees.{Statement, empty, assign, print, ifThen, ifElse, goto, gosub, return, for, next, nextOf, lineInput, end, stop, remark, Part}
+use Rattle.grammar.specs.Trees.{Statement, empty, assign, print, ifThen, ifElse, goto, gosub, return, for, next, nextOf, while, wend, lineInput, end, stop, remark, Part}
 use Rattle.statements.specs.Parts.{headOf, placeOf, tailOf, partsOf}
 use Rattle.reader.specs.Lines.{Judgement, unreadable, tooDeep, holds, judgement}
 use Rattle.machine.specs.Machine.{Position}
-use Rattle.order.specs.declared.partners.Bracket.{Bracket}
-use Rattle.order.specs.declared.partners.Bracket.the-variants.{Opens, Closes, Neither}
 
 -- ---- the statements of a line
 
@@ -69,16 +67,22 @@ past s = record { lines = s .lines; rest = tailOf (s .part) }
 
 -- ---- pairs by nesting
 
+-- what a statement does to a pairing
+pub data Bracket : Type 0 where
+  opens : Bracket
+  closes : Bracket
+  neither : Bracket
+
 pub data Partner : Type 0 where
   none : Partner
   some : Stand → Partner
 
 -- one that opens waits for one more that closes; the one that closes while none waits is the partner
 abbrev pub paired : Bracket → ℕ → Stand → (ℕ → Partner) → Partner
-paired Opens k s go = go (suc k)
-paired Closes zero s go = some s
-paired Closes (suc k) s go = go k
-paired Neither k s go = go k
+paired opens k s go = go (suc k)
+paired closes zero s go = some s
+paired closes (suc k) s go = go k
+paired neither k s go = go k
 
 -- the first of some statements that closes, once those that open before it have been paired; k wait already
 unfoldable pub partner : (Statement → Bracket) → ℕ → List Stand → Partner
@@ -98,6 +102,8 @@ wordOf return = word.Return
 wordOf (for v from to by) = word.For
 wordOf next = word.Next
 wordOf (nextOf v) = word.Next
+wordOf (while c) = word.While
+wordOf wend = word.Wend
 wordOf (lineInput t v) = word.Line
 wordOf end = word.End
 wordOf stop = word.Stop
@@ -108,8 +114,12 @@ isLed w x = eqb (wordRank (wordOf x)) (wordRank w)
 
 -- two words, one that opens and one that closes
 abbrev pub pairsBy : Word → Word → Statement → Bracket
-pairsBy first second x = cond (isLed first x) Opens (cond (isLed second x) Closes Neither)
+pairsBy first second x = cond (isLed first x) opens (cond (isLed second x) closes neither)
 
 -- the NEXT of a FOR that stands at a place of the first of some lines, whatever it names
 abbrev pub nextFor : ℕ → List Line → Partner
 nextFor at lines = partner (pairsBy word.For word.Next) 0 (later at lines)
+
+-- the WEND of a WHILE that stands there
+abbrev pub wendFor : ℕ → List Line → Partner
+wendFor at lines = partner (pairsBy word.While word.Wend) 0 (later at lines)

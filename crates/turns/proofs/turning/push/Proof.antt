@@ -1,8 +1,8 @@
 use borrow.Author.Tests.{le-leb, lt-leb}
 use Rattle.machine.specs.Machine.{mostRecords}
 use borrow.Author.Needs.{needs}
-use Rattle.control.proofs.jumping.push.Statement.{statement}
-use Rattle.control.proofs.jumping.push.Tie as tie
+use Rattle.turns.proofs.turning.push.Statement.{statement}
+use Rattle.turns.proofs.turning.push.Tie as tie
 
 returns : tie.Need-returns
 returns c = λ names words labels lengths. rw (c .fails .ensures, le-leb mostRecords _ (c .before .if1 .taken))
