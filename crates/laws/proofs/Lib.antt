@@ -1,3 +1,4 @@
 pub mod Rooms
 pub mod Texts
 pub mod Wholes
+pub mod Positions

@@ -1,5 +1,5 @@
 -- What a formula comes to in two rooms: the same value or the same error, as far as the rooms allow. How near the rooms are, and which errors
--- are spared on one side, is left open: any two rooms but for 14, and rooms with the same space and live bytes with nothing spared.
+-- are spared on which side, is left open: any two rooms but for 14, and rooms with the same space and live bytes with nothing spared.
 use mathlib.Core.Path.{_≡_, refl}
 use mathlib.Core.Bool.{Bool, true, false, cond, not, _&&_, false≢true}
 use mathlib.Core.List.{List, [], _∷_, _++_}
@@ -33,26 +33,30 @@ use Rattle.strings.specs.Functions.{argument, word, bytes, answered, within, ra
 use Rattle.operators.specs.Values.{wholeThen, isBefore, onTexts, joined, leftRight, sides, Taken, taken, stopped, meets, wantAt, tested, further, result, valueOf, valuesOf}
 use Rattle.laws.specs.Laws.{isFre, withoutFre, noneWithFre}
 
+pub data Side : Type 0 where
+  leftSide : Side
+  rightSide : Side
+
 -- the same value or the same error in rooms that are near, or an error that is spared on one side
-pub data Agree (Near : Room → Room → Type 0) (Spared : Error → Type 0) : Outcome → Outcome → Type 0 where
+pub data Agree (Near : Room → Room → Type 0) (Spared : Side → Error → Type 0) : Outcome → Outcome → Type 0 where
   values : (v : Value) {r s : Room} → Near r s → Agree Near Spared (value v r) (value v s)
   faults : {e : Error} {r s : Room} → Near r s → Agree Near Spared (fault e r) (fault e s)
-  onLeft : {e : Error} {r : Room} {o : Outcome} → Spared e → Agree Near Spared (fault e r) o
-  onRight : {e : Error} {r : Room} {o : Outcome} → Spared e → Agree Near Spared o (fault e r)
+  onLeft : {e : Error} {r : Room} {o : Outcome} → Spared leftSide e → Agree Near Spared (fault e r) o
+  onRight : {e : Error} {r : Room} {o : Outcome} → Spared rightSide e → Agree Near Spared o (fault e r)
 
 -- the same of a function's arguments
-pub data AllAgree (Near : Room → Room → Type 0) (Spared : Error → Type 0) : Taken → Taken → Type 0 where
+pub data AllAgree (Near : Room → Room → Type 0) (Spared : Side → Error → Type 0) : Taken → Taken → Type 0 where
   takens : (vs : List Value) {r s : Room} → Near r s → AllAgree Near Spared (taken vs r) (taken vs s)
   stops : {e : Error} {r s : Room} → Near r s → AllAgree Near Spared (stopped e r) (stopped e s)
-  stopsLeft : {e : Error} {r : Room} {t : Taken} → Spared e → AllAgree Near Spared (stopped e r) t
-  stopsRight : {e : Error} {r : Room} {t : Taken} → Spared e → AllAgree Near Spared t (stopped e r)
+  stopsLeft : {e : Error} {r : Room} {t : Taken} → Spared leftSide e → AllAgree Near Spared (stopped e r) t
+  stopsRight : {e : Error} {r : Room} {t : Taken} → Spared rightSide e → AllAgree Near Spared t (stopped e r)
 
 -- what making a string and letting one go must do
-pub record Lasting (Near : Room → Room → Type 0) (Spared : Error → Type 0) : Type 0 where
+pub record Lasting (Near : Room → Room → Type 0) (Spared : Side → Error → Type 0) : Type 0 where
   pub makes : (b : List ℕ) (r s : Room) → Near r s → Agree Near Spared (make b r) (make b s)
   pub frees : (v : Value) (r s : Room) → Near r s → Near (letGo v r) (letGo v s)
 
-module _ (Near : Room → Room → Type 0) (Spared : Error → Type 0) (k : Lasting Near Spared) where
+module _ (Near : Room → Room → Type 0) (Spared : Side → Error → Type 0) (k : Lasting Near Spared) where
   -- ---- one thing after another
 
   then-agree : {o p : Outcome} (go : Value → Room → Outcome) → Agree Near Spared o p
@@ -211,8 +215,8 @@ module _ (Near : Room → Room → Type 0) (Spared : Error → Type 0) (k : Last
 abbrev AnyRooms : Room → Room → Type 0
 AnyRooms r s = Unit {0}
 
-abbrev IsFourteen : Error → Type 0
-IsFourteen e = e ≡ OutOfStringSpace
+abbrev IsFourteen : Side → Error → Type 0
+IsFourteen side e = e ≡ OutOfStringSpace
 
 abbrev pub AgreeBarFourteen : Outcome → Outcome → Type 0
 AgreeBarFourteen o p = Agree AnyRooms IsFourteen o p
@@ -237,8 +241,8 @@ pub record SameSpace (r s : Room) : Type 0 where
   pub limit : s .limit ≡ r .limit
   pub live : s .live ≡ r .live
 
-abbrev pub Nothing : Error → Type 0
-Nothing e = ⊥
+abbrev pub Nothing : Side → Error → Type 0
+Nothing side e = ⊥
 
 space-lasts : Lasting SameSpace Nothing
 unfolding make letGo

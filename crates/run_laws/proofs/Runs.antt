@@ -16,12 +16,13 @@ use Rattle.promises.specs.StringSpace as space
 use Rattle.promises.specs.StringSpace.{Begins}
 use Rattle.laws.specs.Laws.{Gives, parted, leftFirst, rightFirst, notBoth, eitherNot, dividedAgain}
 use Rattle.run_laws.specs.Runs.{AreBytes, Assigns, OneOf, first, second, spotOf, partsJoinAgainInRuns, bracketsDoNotMatterInRuns, notOfAndInRuns, divisionComesBackInRuns}
+use Rattle.laws.proofs.Positions.{head-throughout, next-throughout}
 use Rattle.laws.proofs.Texts.{parts-join-again, brackets-do-not-matter}
 use Rattle.laws.proofs.Wholes.{not-of-and, division-comes-back}
 use Rattle.run_laws.proofs.Carrying.{one-value, one-value-bar-fourteen, given}
 use Rattle.run_laws.proofs.Proper.{each-byte, Proper, ProperFormula, value-proper}
 use Rattle.run_laws.proofs.Lines.{ProperStatement, loaded-proper}
-use Rattle.run_laws.proofs.Turning.{ProperLines, ProperPart, ProperRest, head-proper, Sound, ProperNext, statement-sound}
+use Rattle.run_laws.proofs.Turning.{ProperLines, ProperPart, ProperRest, Sound, ProperNext, statement-sound}
 
 -- ---- where a run stands
 
@@ -39,12 +40,8 @@ entering-proper m (l ∷ ls) s h = by-judgement (judgement (afterNumber l)) refl
     by-judgement tooDeep e = tt
     by-judgement (holds p) e = (s, h, h .0 p e)
 
-next-proper : (lines : List Line) → ProperLines lines → ProperLines (nextLine lines)
-next-proper [] h = tt
-next-proper (l ∷ ls) h = h .1
-
 onward-proper : (m : Machine) (lines : List Line) (r : Rest) → Sound m → ProperLines lines → ProperRest r → ProperStanding (onward m lines r)
-onward-proper m lines nothing s h r = entering-proper m (nextLine lines) s (next-proper lines h)
+onward-proper m lines nothing s h r = entering-proper m (nextLine lines) s (next-throughout ProperStatement lines h)
 onward-proper m lines (part p) s h r = (s, h, r)
 
 following-proper : (l : LineNumber) (x : Next) → ProperNext x → ProperStanding (following l x)
@@ -60,7 +57,7 @@ counted s = record { variables = s .variables; input = s .input; held = s .held 
 turn-proper : (program : List ℕ) (m : Machine) (lines : List Line) (p : Part) → ProperLines (linesOf program) → ProperStanding (at m lines p)
     → ProperStanding (turn program m lines p)
 turn-proper program m lines p l h =
-    let k = head-proper p (h .2) in
+    let k = head-throughout ProperStatement p (h .2) in
     let after : Position = record { lines = lines; rest = tailOf p } in
     following-proper (lineNumberOf lines) (doStatement program (placeOf p) (headOf p) (withStep m) after)
     (statement-sound program (placeOf p) (headOf p) (withStep m) after l (k .0) (k .1) (counted (h .0)) (h .1, k .2))
@@ -68,7 +65,7 @@ turn-proper program m lines p l h =
 -- a statement that a run begins
 pub begun-proper : {program : List ℕ} {n : ℕ} {x : Standing} {ls : List Line} {q : ℕ} {s : Statement} {m : Machine} → Begins program n x ls q s m
     → ProperLines (linesOf program) → ProperStanding x → Sound m × ProperStatement s
-begun-proper (space.first {p = p}) l h = (counted (h .0), head-proper p (h .2) .0)
+begun-proper (space.first {p = p}) l h = (counted (h .0), head-throughout ProperStatement p (h .2) .0)
 begun-proper {program = program} (space.later {m = m} {lines = lines} {p = p} b) l h =
     begun-proper b l (turn-proper program m lines p l h)
 

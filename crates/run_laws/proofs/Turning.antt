@@ -18,20 +18,21 @@ use Rattle.words.specs.declared.names.Kind.the-variants as kind
 use Rattle.words.specs.declared.names.Telling.{Telling}
 use Rattle.words.specs.declared.symbols.Word.the-variants as word
 use Rattle.words.proofs.Choices.{by-test}
-use Rattle.loader.specs.Lines.{Line, endsLine, dropped, inFront, startedAt, withByte, linesFrom, linesOf, has, numberOf, fromNumber}
+use Rattle.loader.specs.Lines.{Line, endsLine, dropped, inFront, startedAt, withByte, linesFrom, linesOf, fromNumber}
 use Rattle.grammar.specs.Trees as tree
-use Rattle.grammar.specs.Trees.{Formula, Variable, Item, Statement, Part, last, more}
-use Rattle.statements.specs.Parts.{itemFormulas, headOf, tailOf, Rest, nothing, part, partsOf, partsWithin, heads, statementsOf}
+use Rattle.grammar.specs.Trees.{Formula, Variable, Item, Statement, Part}
+use Rattle.statements.specs.Parts.{itemFormulas, headOf, Rest, part, partsOf, partsWithin, heads, statementsOf}
 use Rattle.statements.proofs.Depths.{heads-append}
 use Rattle.variables.specs.Strings.{Value, whole, text, Outcome, value, fault, make}
 use Rattle.variables.specs.Variables.{wordOf, numbersFull, stringsFull}
 use Rattle.operators.specs.Values.{valueOf}
-use Rattle.machine.specs.Machine.{Position, Record, loop, call, again, Machine, mostRecords, roomOf, withRecords, withInput, write, commaBlanks, Search, missing, found, sought, passed, isCall, isLoop, isLoopOf, backOf, longestInputLine}
-use Rattle.machine.specs.Order.{Stand, later, Bracket, Partner, none, some, past, partner, pairsBy, nextFor, wendFor}
+use Rattle.machine.specs.Machine.{Position, Record, loop, call, again, Machine, mostRecords, roomOf, withRecords, withInput, write, commaBlanks, Search, missing, found, sought, passed, isCall, isLoop, isLoopOf, longestInputLine}
+use Rattle.machine.specs.Order.{Stand, Partner, none, some, past, pairsBy, nextFor, wendFor}
 use Rattle.machine.specs.Repeats.{startOf, isWhile, isWhileOf}
-use Rattle.order.proofs.Laws.{Every, every-front, every-back, Throughout, LinesThroughout, StandThroughout, later-throughout, later-lines, partner-one}
-use Rattle.turns.specs.Steps.{Next, goesOn, enters, ends, stops, fails, worked, wholeOnly, workedWhole, withNumber, withString, assigned, written, shownValue, printItems, toLine, pushed, returned, turned, nextOn, firstLine, takeLine, filled, inputLine, isWholeKind, doStatement, cleared, begun, namesOther, skipped, partBegun, hereOf, repeated, whileBy, turnedBack}
+use Rattle.order.proofs.Laws.{Every, every-front, every-back, Throughout, LinesThroughout}
+use Rattle.turns.specs.Steps.{Next, goesOn, enters, ends, stops, fails, worked, wholeOnly, workedWhole, withNumber, withString, assigned, written, shownValue, printItems, toLine, pushed, returned, turned, nextOn, firstLine, takeLine, filled, inputLine, isWholeKind, doStatement, cleared, begun, namesOther, skipped, hereOf, repeated, whileBy, turnedBack}
 use Rattle.laws.specs.Laws.{words}
+use Rattle.laws.proofs.Positions.{RestThroughout, PositionThroughout, RecordThroughout, from-throughout, partner-throughout, here-throughout}
 use Rattle.run_laws.proofs.Proper.{Bytes, drop-bytes, Proper, ProperAnswer, fit-proper, ProperOutcome, make-proper, ProperVariables, set-number, set-string, ProperFormula, value-proper}
 use Rattle.run_laws.proofs.Lines.{ProperStatement}
 use Rattle.promises.proofs.Records as records
@@ -46,31 +47,15 @@ abbrev pub ProperPart : Part → Type 0
 ProperPart p = Throughout ProperStatement p
 
 abbrev pub ProperRest : Rest → Type 0
-ProperRest nothing = Unit {0}
-ProperRest (part p) = ProperPart p
+ProperRest r = RestThroughout ProperStatement r
 
 abbrev pub ProperPosition : Position → Type 0
-ProperPosition p = ProperLines (p .lines) × ProperRest (p .rest)
-
--- its first statement, the parts of that, and what is left
-pub head-proper : (p : Part) → ProperPart p
-    → ProperStatement (headOf p) × Every ProperStatement (heads (partsWithin (headOf p))) × ProperRest (tailOf p)
-unfolding partsOf heads
-head-proper (last q x) h = (h .0, h .1, tt)
-head-proper (more q x rest) h =
-    let k = rw (heads-append (partsWithin x) (partsOf rest)) at (h .1) in
-    (h .0, every-front ProperStatement (heads (partsWithin x)) (statementsOf rest) k, every-back ProperStatement (heads (partsWithin x)) (statementsOf rest) k)
-
--- the lines from a number on are some of them
-from-proper : (n : ℕ) (ls : List Line) → ProperLines ls → ProperLines (fromNumber n ls)
-unfolding fromNumber
-from-proper n [] h = tt
-from-proper n (l ∷ ls) h = by-test (has n (numberOf (l .bytes))) (λ e. rw e h) (λ e. rw e (from-proper n ls (h .1)))
+ProperPosition p = PositionThroughout ProperStatement p
 
 -- ---- what the machine holds
 
 abbrev ProperRecord : Record → Type 0
-ProperRecord r = ProperPosition (backOf r)
+ProperRecord r = RecordThroughout ProperStatement r
 
 pub record Sound (m : Machine) : Type 0 where
   pub variables : ProperVariables (m .variables)
@@ -189,14 +174,6 @@ next-sound {m} (found (loop v limit step back) under) after s h a =
 next-sound (found (call back) under) after s h a = s
 next-sound (found (again back) under) after s h a = s
 
--- the NEXT of a FOR, or the WEND of a WHILE
-partner-proper : (test : Statement → Bracket) (at : ℕ) (lines : List Line) → ProperLines lines → (x : Stand) → partner test 0 (later at lines) ≡ some x
-    → ProperPosition (past x)
-partner-proper test at lines h x e =
-    let own = partner-one (StandThroughout ProperStatement) test 0 (later at lines) (later-throughout ProperStatement at lines h) x e in
-    let there = partner-one (λ y. ProperLines (y .lines)) test 0 (later at lines) (later-lines ProperLines (λ l ls k. k .1) at lines h) x e in
-    (there, head-proper (x .part) own .2)
-
 skipped-sound : {m : Machine} (v : Telling) (p : Partner) → Sound m → ((x : Stand) → p ≡ some x → ProperPosition (past x))
     → ProperNext (skipped v p m)
 skipped-sound v none s h = s
@@ -209,16 +186,10 @@ loop-sound m v at from limit step after h s a =
     records-sound _ (number-sound v from h s) (below-each ProperRecord (isLoopOf v) (m .records) (s .held)) in
     either-proper (numbersFull (m .variables .numbers) v) _ _ s
     (either-proper (passed from limit step) _ _
-    (skipped-sound v (nextFor at (after .lines)) clear (partner-proper (pairsBy word.For word.Next) at (after .lines) (a .0)))
+    (skipped-sound v (nextFor at (after .lines)) clear (partner-throughout ProperStatement (pairsBy word.For word.Next) at (after .lines) (a .0)))
     (pushed-sound (loop v limit step after) (λ r. goesOn r after) clear a (λ r t. (t, a))))
 
 -- ---- WHILE and WEND
-
--- the WHILE itself, with what is left after it
-here-proper : (at : ℕ) (c : Formula) (r : Rest) → ProperStatement (tree.while c) → ProperRest r → ProperRest (part (partBegun at (tree.while c) r))
-unfolding partsOf heads
-here-proper at c nothing g h = (g, tt)
-here-proper at c (part p) g h = (g, h)
 
 repeated-sound : {m : Machine} (x : Search) (here after : Position) → Sound m → records.Found ProperRecord x → ProperPosition here
     → ProperPosition after → ProperNext (repeated m x here after)
@@ -233,7 +204,7 @@ while-sound (some w) at c m after g s a h =
     whole-sound c m _ (g .0) s (λ v n i t. either-proper (eqb v 0) _ _
     (records-sound _ t (below-each ProperRecord test (n .records) (t .held)), h w refl)
     (repeated-sound (sought test (n .records)) (hereOf at c after) after t (sought-each ProperRecord test (n .records) (t .held))
-    (a .0, here-proper at c (after .rest) g (a .1)) a))
+    (a .0, here-throughout ProperStatement at c (after .rest) g (a .1)) a))
 
 back-sound : {m : Machine} (x : Search) → Sound m → records.Found ProperRecord x → ProperNext (turnedBack m x)
 back-sound missing s h = s
@@ -301,9 +272,9 @@ statement-sound program at (tree.ifElse c q r) m after l g p s a =
     let back = every-back ProperStatement (statementsOf q) (statementsOf r) k in
     whole-sound c m _ (g .0) s (λ w n h t. by-test (eqb w 0) (λ e. rw e (t, (a .0, back))) (λ e. rw e (t, (a .0, front))))
 statement-sound program at (tree.goto n) m after l g p s a =
-    line-sound (fromNumber (n .0) (linesOf program)) _ s (from-proper (n .0) (linesOf program) l) (λ ls h. (s, h))
+    line-sound (fromNumber (n .0) (linesOf program)) _ s (from-throughout ProperStatement (n .0) (linesOf program) l) (λ ls h. (s, h))
 statement-sound program at (tree.gosub n) m after l g p s a =
-    line-sound (fromNumber (n .0) (linesOf program)) _ s (from-proper (n .0) (linesOf program) l) (λ ls h.
+    line-sound (fromNumber (n .0) (linesOf program)) _ s (from-throughout ProperStatement (n .0) (linesOf program) l) (λ ls h.
     pushed-sound (call after) (λ o. enters o ls) s a (λ o t. (t, h)))
 statement-sound program at tree.return m after l g p s a =
     returned-sound (sought isCall (m .records)) s (sought-each ProperRecord isCall (m .records) (s .held))
@@ -321,7 +292,7 @@ statement-sound program at (tree.nextOf v) m after l g p s a =
     (sought-each ProperRecord (isLoopOf (v .telling)) (m .records) (s .held)) a)
     s
 statement-sound program at (tree.while c) m after l g p s a =
-    while-sound (wendFor at (after .lines)) at c m after g s a (partner-proper (pairsBy word.While word.Wend) at (after .lines) (a .0))
+    while-sound (wendFor at (after .lines)) at c m after g s a (partner-throughout ProperStatement (pairsBy word.While word.Wend) at (after .lines) (a .0))
 statement-sound program at tree.wend m after l g p s a =
     let test = isWhileOf (startOf (after .lines)) at in
     back-sound (sought test (m .records)) s (sought-each ProperRecord test (m .records) (s .held))

@@ -1,0 +1,5 @@
+pub mod Rooms
+pub mod Machines
+pub mod Turning
+pub mod Runs
+pub mod Calls
