@@ -1,4 +1,4 @@
-"""The stored cases, as crates/vectors holds them: make-vectors says how."""
+"""The stored cases, as crates/vectors holds them (make-vectors says how), and what the programs write of them."""
 import os
 import struct
 from started import ROOT
@@ -18,3 +18,24 @@ def stored():
         start = place + HEAD.size
         place = start + text_len + input_len
         yield kind, cases[start:start + text_len], cases[start + text_len:place], lent, row
+
+
+def line(*fields):
+    return '\t'.join(str(field) for field in fields).encode() + b'\n'
+
+
+def run_output(outcome, number, at, steps, printed):
+    return printed + line(outcome, number, at, steps)
+
+
+def answered():
+    """The same, but what run_recipe or check_recipe must write for the row."""
+    for kind, text, taken, lent, row in stored():
+        word, *numbers = row.split()
+        numbers = [int(number) for number in numbers]
+        if kind == CHECK:
+            yield CHECK, text, b'', [], line(word, *numbers)
+        else:
+            number, at, refused_at, steps = numbers[:4]
+            printed = bytes(numbers[7:7 + numbers[6]])
+            yield RUN, text, taken, lent, run_output(word, number, refused_at if word == 'refused' else at, steps, printed)

@@ -1,0 +1,3 @@
+pub mod Ahead
+pub mod Turning
+pub mod Bounds
