@@ -23,7 +23,7 @@ extern "C" {
 #endif
 
 /* How many bytes of stack to keep for a call. */
-#define QUERNHEM_STACK 65536
+#define QUERNHEM_STACK 69632
 
 /* The largest string space and text: a larger one is refused. */
 #define QUERNHEM_SPACE 16384
