@@ -49,7 +49,7 @@ isWhileSought k e =
 abbrev pub isLoopSought : Sought → Record → Bool
 isLoopSought k e = counts e && cond (eqb (k .kind) 2) true (cond (eqb (k .kind) 3) (eqb (e .slot) (k .slot)) false)
 
--- the test that the code makes
+-- the test that the code makes: the kinds above 3, that of a variable's loop, are those of WHILE
 abbrev pub isSought : Sought → Record → Bool
 isSought k e = cond (eqb (k .kind) 1) (not (passes e)) (cond (ltb 3 (k .kind)) (isWhileSought k e) (isLoopSought k e))
 
