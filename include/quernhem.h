@@ -23,7 +23,7 @@ extern "C" {
 #endif
 
 /* How many bytes of stack to keep for a call. */
-#define QUERNHEM_STACK 69632
+#define QUERNHEM_STACK 65536
 
 /* The largest string space and text: a larger one is refused. */
 #define QUERNHEM_SPACE 16384
@@ -33,15 +33,16 @@ extern "C" {
 
 /* The variable tables: a block of so many bytes that the host keeps between a run and its questions, and where each part of it begins.
  * Zeros at first: no variables. A run leaves its variables in order of first assignment, and zeros after them. */
-#define QUERNHEM_TABLES 450
+#define QUERNHEM_TABLES 5314
 #define QUERNHEM_VARIABLES 64 /* of each kind, at most */
+#define QUERNHEM_NAME 40      /* bytes of a name in the tables: its characters in capitals, without `$` or `%`, and zeros after them */
 enum {
-    QUERNHEM_NUMBER_NAMES = 0,   /* two bytes each: the first two characters of a name, in capitals; the second is 0 where there is one */
-    QUERNHEM_WORDS = 128,        /* two bytes each, the low one first: 16 bits of two's complement */
-    QUERNHEM_STRING_NAMES = 256, /* two bytes each */
-    QUERNHEM_LENGTHS = 384,      /* a byte each: the strings' bytes stand joined at the front of the space */
-    QUERNHEM_NUMBER_COUNT = 448, /* how many number variables there are */
-    QUERNHEM_STRING_COUNT = 449  /* and how many string variables */
+    QUERNHEM_NUMBER_NAMES = 0,    /* QUERNHEM_NAME bytes each */
+    QUERNHEM_WORDS = 2560,        /* two bytes each, the low one first: 16 bits of two's complement */
+    QUERNHEM_STRING_NAMES = 2688, /* QUERNHEM_NAME bytes each */
+    QUERNHEM_LENGTHS = 5248,      /* a byte each: the strings' bytes stand joined at the front of the space */
+    QUERNHEM_NUMBER_COUNT = 5312, /* how many number variables there are */
+    QUERNHEM_STRING_COUNT = 5313  /* and how many string variables */
 };
 
 /* The answer of a run: so many words, and which is which. */

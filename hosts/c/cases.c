@@ -48,12 +48,12 @@ static void ask_for(const uint8_t *tables, const uint8_t *space, size_t space_le
 static void ask_all(const uint8_t *tables, const uint8_t *space, size_t space_len) {
     uint64_t found[QUERNHEM_FOUND], start = 0;
     for (size_t i = 0; i < tables[QUERNHEM_NUMBER_COUNT]; i++) {
-        ask_for(tables, space, space_len, tables + QUERNHEM_NUMBER_NAMES + 2 * i, 0, found);
+        ask_for(tables, space, space_len, tables + QUERNHEM_NUMBER_NAMES + QUERNHEM_NAME * i, 0, found);
         if (found[QUERNHEM_FOUND_NUMBER] || found[QUERNHEM_KIND] || (int64_t)found[QUERNHEM_VALUE] != number_of_entry(tables, i))
             printf("number %zu is answered otherwise ", i);
     }
     for (size_t i = 0; i < tables[QUERNHEM_STRING_COUNT]; i++) {
-        ask_for(tables, space, space_len, tables + QUERNHEM_STRING_NAMES + 2 * i, 1, found);
+        ask_for(tables, space, space_len, tables + QUERNHEM_STRING_NAMES + QUERNHEM_NAME * i, 1, found);
         if (found[QUERNHEM_FOUND_NUMBER] || !found[QUERNHEM_KIND] || found[QUERNHEM_START] != start ||
             found[QUERNHEM_LENGTH] != tables[QUERNHEM_LENGTHS + i])
             printf("string %zu is answered otherwise ", i);
@@ -64,8 +64,8 @@ static void ask_all(const uint8_t *tables, const uint8_t *space, size_t space_le
 /* The names and words in use, and how many of the unused ones are not zero. */
 static void show_numbers(const uint8_t *tables) {
     size_t count = tables[QUERNHEM_NUMBER_COUNT], unused = 0;
-    front(tables + QUERNHEM_NUMBER_NAMES, 2 * count);
-    others(tables + QUERNHEM_NUMBER_NAMES, 2 * count, 2 * QUERNHEM_VARIABLES, 0);
+    front(tables + QUERNHEM_NUMBER_NAMES, QUERNHEM_NAME * count);
+    others(tables + QUERNHEM_NUMBER_NAMES, QUERNHEM_NAME * count, QUERNHEM_NAME * QUERNHEM_VARIABLES, 0);
     for (size_t i = 0; i < count; i++) number((uint16_t)number_of_entry(tables, i));
     for (size_t i = count; i < QUERNHEM_VARIABLES; i++) unused += number_of_entry(tables, i) != 0;
     number(unused);
@@ -73,8 +73,8 @@ static void show_numbers(const uint8_t *tables) {
 
 static void show_strings(const uint8_t *tables) {
     size_t count = tables[QUERNHEM_STRING_COUNT];
-    front(tables + QUERNHEM_STRING_NAMES, 2 * count);
-    others(tables + QUERNHEM_STRING_NAMES, 2 * count, 2 * QUERNHEM_VARIABLES, 0);
+    front(tables + QUERNHEM_STRING_NAMES, QUERNHEM_NAME * count);
+    others(tables + QUERNHEM_STRING_NAMES, QUERNHEM_NAME * count, QUERNHEM_NAME * QUERNHEM_VARIABLES, 0);
     front(tables + QUERNHEM_LENGTHS, count);
     others(tables + QUERNHEM_LENGTHS, count, QUERNHEM_VARIABLES, 0);
 }

@@ -40,9 +40,9 @@ static void expect_tables(void) {
         expect(0, "more variables or bytes than there can be");
         return;
     }
-    expect_zeros(&tables, QUERNHEM_NUMBER_NAMES + 2 * numbers, QUERNHEM_WORDS, "an unused number has a name");
+    expect_zeros(&tables, QUERNHEM_NUMBER_NAMES + QUERNHEM_NAME * numbers, QUERNHEM_WORDS, "an unused number has a name");
     expect_zeros(&tables, QUERNHEM_WORDS + 2 * numbers, QUERNHEM_STRING_NAMES, "an unused number has a word");
-    expect_zeros(&tables, QUERNHEM_STRING_NAMES + 2 * strings, QUERNHEM_LENGTHS, "an unused string has a name");
+    expect_zeros(&tables, QUERNHEM_STRING_NAMES + QUERNHEM_NAME * strings, QUERNHEM_LENGTHS, "an unused string has a name");
     expect_zeros(&tables, QUERNHEM_LENGTHS + strings, QUERNHEM_NUMBER_COUNT, "an unused string has a length");
     expect_zeros(&space, used, space.len, "it is not zero after the strings");
 }
@@ -138,7 +138,7 @@ static const uint64_t *expect_ask(void) {
 
 static const uint64_t *ask_entry(size_t names, size_t entry, int is_text) {
     uint8_t asked[LONGEST_NAME];
-    size_t len = name_of_entry(tables.lent + names + 2 * entry, is_text, asked);
+    size_t len = name_of_entry(tables.lent + names + QUERNHEM_NAME * entry, is_text, asked);
     lend_bytes(&name, asked, len);
     return expect_ask();
 }
@@ -172,9 +172,10 @@ static void expect_strange_question(size_t space_len) {
         lend_random(&name, below(below(8) ? 6 : 400));
     if (name.len) {
         static const size_t tellings[] = {QUERNHEM_NUMBER_NAMES, QUERNHEM_STRING_NAMES};
-        uint8_t *entry = tables.lent + ANY(tellings) + 2 * below(QUERNHEM_VARIABLES);
-        entry[0] = name.lent[0];
-        entry[1] = name.len > 1 && below(2) ? name.lent[1] : 0;
+        uint8_t *entry = tables.lent + ANY(tellings) + QUERNHEM_NAME * below(QUERNHEM_VARIABLES);
+        size_t len = 1 + below(name.len < QUERNHEM_NAME ? name.len : QUERNHEM_NAME);
+        memcpy(entry, name.lent, len);
+        if (len < QUERNHEM_NAME) entry[len] = 0;
     }
     expect_ask();
 }

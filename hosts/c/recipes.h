@@ -17,13 +17,14 @@ static const char *const words[] = {
     "LET ", "PRINT ", "?", "IF ", " THEN ", " ELSE ", "GOTO ", "GOSUB ", "RETURN", "FOR ", " TO ", " STEP ", "NEXT ", "WHILE ", "WEND", "LINE INPUT ",
     "END", "STOP", "REM x", "'x", ":", ",", ";", "=", "<>", "<", ">=", "+", "-", "*", "\\", " MOD ", " NOT ", " AND ", " OR ", " XOR ",
     " EQV ", " IMP ", "(", ")", "(", ")", "LEN(", "ASC(", "CHR$(", "LEFT$(", "MID$(", "RIGHT$(", "SPACE$(", "STRING$(", "INSTR(", "STR$(",
-    "HEX$(", "VAL(", "ABS(", "SGN(", "FRE(", "A", "B%", "TOP", "A$", "LOT$", "XY$", "I", "I=", "A$=", "0", "1", "2", "10", "20", "255",
+    "HEX$(", "VAL(", "ABS(", "SGN(", "FRE(", "A", "B%", "TOP", "A$", "LOT$", "XY$", "RINSE", "RIVET", "RIVET$", "I", "I=",
+    "A234567890B234567890C234567890D234567890", "A234567890B234567890C234567890D2345678901$", "A$=", "0", "1", "2", "10", "20", "255",
     "32767", "32768", "&H8000", "&HF", "65529", "\"\"", "\"AB\"", "\"LOT 41\"", " ", "\"", "#", "\n", "\r\n",
 };
 
 static const char *const statements[] = {
     "A=A+1", "B%=A*3\\2", "C=-A MOD 7", "A$=A$+\"AB\"", "LOT$=STR$(A)+HEX$(B)", "A$=LEFT$(A$,A)", "B$=MID$(A$,2,B)", "X$=CHR$(A+64)",
-    "C$=STRING$(A*20,\"*\")", "D=INSTR(A$,\"B\")", "E=VAL(B$)+LEN(A$)", "F=FRE(0)", "PRINT A,B$;", "PRINT \"LOT \";LOT$;A", "?A$,,C;",
+    "C$=STRING$(A*20,\"*\")", "D=INSTR(A$,\"B\")", "RINSE=RIVET+1", "RIVET$=LOT$", "A234567890B234567890C234567890D234567890=A", "E=VAL(B$)+LEN(A$)", "F=FRE(0)", "PRINT A,B$;", "PRINT \"LOT \";LOT$;A", "?A$,,C;",
     "FOR I=1 TO 4", "FOR J=A TO 1 STEP -2", "NEXT", "NEXT I", "NEXT J", "WHILE A<5", "WHILE B%", "WEND", "GOSUB 40", "RETURN", "GOTO 20", "GOTO 30:REM x",
     "IF A>3 THEN 50 ELSE PRINT \"N\"", "IF A$<B$ THEN A$=B$:B=B+1", "IF NOT A AND 1 THEN END", "LINE INPUT A$", "LINE INPUT \"LOT? \";B$",
     "END", "STOP", "", "'x",

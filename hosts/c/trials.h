@@ -63,15 +63,14 @@ static inline int16_t number_of_entry(const uint8_t *tables, size_t entry) {
     return (int16_t)(at[0] | at[1] << 8);
 }
 
-enum { LONGEST_NAME = 4 };
+enum { LONGEST_NAME = QUERNHEM_NAME + 1 };
 
-/* A name that tells as an entry's does: of two characters a third is put behind them, since the two may be a reserved word. */
+/* The name of an entry, as it is asked for. */
 static inline size_t name_of_entry(const uint8_t *telling, int is_text, uint8_t name[LONGEST_NAME]) {
     size_t len = 0;
-    name[len++] = telling[0];
-    if (telling[1]) {
-        name[len++] = telling[1];
-        name[len++] = 'q';
+    while (len < QUERNHEM_NAME && telling[len]) {
+        name[len] = telling[len];
+        len++;
     }
     if (is_text) name[len++] = '$';
     return len;

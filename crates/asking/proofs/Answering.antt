@@ -7,11 +7,10 @@ use borrow.Author.Tests.{eq-eqb, ne-eqb, le-leb, lt-leb}
 use denote.Enum.Declared.{tagOf}
 use types.Run.{OneOf, miss}
 use lib.ListN.{length, getD, take}
-use Rattle.words.specs.Names.{nameBytes, tellingOf}
+use Rattle.words.specs.Names.{Telling, nameBytes, tellingOf}
 use Rattle.words.specs.Places.{place}
 use Rattle.words.specs.declared.names.Kind.{Kind}
 use Rattle.words.specs.declared.names.Name.{Name}
-use Rattle.words.specs.declared.names.Telling.{Telling}
 use Rattle.words.specs.declared.symbols.Scanned.{Scanned}
 use Rattle.words.specs.declared.symbols.Token.{Token}
 use Rattle.words.specs.declared.symbols.Token.the-variants as token
@@ -73,20 +72,20 @@ module _ (tables : Tables) (space : ℕ) (given : List ℕ) {t : Scanned} (s : t
   ask-other h = rw (← s) (sym (no-name (t .token) _ Refused h))
 
   -- blanks do,
-  pub ask-late : {v : Name} → t .token ≡ token.Named v → (v .at .0 ≡ 0 → ⊥) → Refused ≡ askOf tables space given
+  pub ask-late : {v : Name} → t .token ≡ token.Named v → (v .at ≡ 0 → ⊥) → Refused ≡ askOf tables space given
   unfolding askOf
-  ask-late {v} e h = rw (← s, e, ne-eqb (v .at .0) 0 h)
+  ask-late {v} e h = rw (← s, e, ne-eqb (v .at) 0 h)
 
   -- something follows it,
-  pub ask-more : {v : Name} → t .token ≡ token.Named v → v .at .0 ≡ 0 → (t .next .0 ≡ length given → ⊥) → Refused ≡ askOf tables space given
+  pub ask-more : {v : Name} → t .token ≡ token.Named v → v .at ≡ 0 → (t .next .0 ≡ length given → ⊥) → Refused ≡ askOf tables space given
   unfolding askOf
-  ask-more {v} e z h = rw (← s, e, eq-eqb (v .at .0) 0 z, ne-eqb (t .next .0) (length given) h)
+  ask-more {v} e z h = rw (← s, e, eq-eqb (v .at) 0 z, ne-eqb (t .next .0) (length given) h)
 
   -- or it is a name, and of its kind
-  pub ask-name : {v : Name} → t .token ≡ token.Named v → v .at .0 ≡ 0 → t .next .0 ≡ length given
+  pub ask-name : {v : Name} → t .token ≡ token.Named v → v .at ≡ 0 → t .next .0 ≡ length given
       → {k : Kind} {name : Telling} {r : Asked} → v .kind ≡ k → name ≡ tellingOf (nameBytes given v) → r ≡ asked k name tables space
       → r ≡ askOf tables space given
   unfolding askOf
   ask-name {v} e z n {k} {name} f g h =
-      rw (← s, e, eq-eqb (v .at .0) 0 z, eq-eqb (t .next .0) (length given) n)
+      rw (← s, e, eq-eqb (v .at) 0 z, eq-eqb (t .next .0) (length given) n)
       (h ∙ ap (λ x. asked x name tables space) (sym f) ∙ ap (λ x. asked (v .kind) x tables space) g)

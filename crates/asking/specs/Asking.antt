@@ -5,12 +5,11 @@ use mathlib.Core.List.{List}
 use Prim.Native.Nat.{ℕ, _+_}
 use lib.Dec.{leb, eqb}
 use lib.ListN.{length, getD, take}
-use Rattle.words.specs.Names.{nameBytes, tellingOf}
+use Rattle.words.specs.Names.{Telling, nameBytes, tellingOf}
 use Rattle.words.specs.Places.{place}
 use Rattle.words.specs.declared.names.Kind.{Kind}
 use Rattle.words.specs.declared.names.Kind.the-variants as kind
 use Rattle.words.specs.declared.names.Name.{Name}
-use Rattle.words.specs.declared.names.Telling.{Telling}
 use Rattle.words.specs.declared.symbols.Scanned.{Scanned}
 use Rattle.scanner.specs.Tokens.{tokenAt}
 use Rattle.loader.specs.Refusals.{refusalNumber}
@@ -26,7 +25,7 @@ use Rattle.asking.specs.declared.questions.Asked.the-variants.{Whole, Te
 
 -- the whole of what is given is one name
 abbrev pub isWholeName : List ℕ → Scanned → Name → Bool
-isWholeName given t v = eqb (v .at .0) 0 && eqb (t .next .0) (length given)
+isWholeName given t v = eqb (v .at) 0 && eqb (t .next .0) (length given)
 
 -- where a string stands in the space, by its entry in the table: after those before it
 abbrev pub stringAsked : Slot → List ℕ → ℕ → Asked

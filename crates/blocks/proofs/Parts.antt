@@ -1,14 +1,16 @@
 -- The parts of a block, laid side by side.
 use mathlib.Core.Path.{_≡_, sym, ap, _∙_}
 use mathlib.Core.List.{List, _++_, append-assoc, append-nil}
-use Prim.Native.Nat.{ℕ, _+_, _-_, _≤_}
+use Prim.Native.Nat.{ℕ, _+_, _-_, _*_, _≤_}
 use native.Mathlib.Omega.{arith}
 use lib.ListN.{length, take, drop, replicate, length-append, length-drop, length-replicate, drop-of-length-le}
 use lib.Seq.{length-take-le}
 use Rattle.space.specs.Moves.{copied, overlaid}
 use Rattle.space.proofs.Frames.{copied-lies}
 use Rattle.space.proofs.Overlaid.{overlaid-length, overlaid-after}
+use Rattle.variables.specs.Tables.{namesLong}
 use Rattle.variables.specs.Variables.{mostVariables}
+use Rattle.blocks.specs.Blocks.{wordsAt, labelsAt, lengthsAt, countsAt}
 
 -- bytes copied over as many others
 pub copied-whole : (space bytes : List ℕ) → length bytes ≡ length space → copied space 0 bytes ≡ bytes
@@ -31,19 +33,19 @@ copied-after space a b at e h =
     ∙ overlaid-after space 0 a b (omega arith)
     ∙ sym (copied-lies space 0 (a ++ b) m)
 
-module _ (space a b s l c : List ℕ) (whole : length space ≡ 450) where
+module _ (space a b s l c : List ℕ) (whole : length space ≡ countsAt + 2) where
   -- five parts that fill a block
-  pub laid-out : length a ≡ 128 → length b ≡ 128 → length s ≡ 128 → length l ≡ mostVariables → length c ≡ 2
-      → copied (copied (copied (copied (copied space 0 a) 128 b) 256 s) 384 l) 448 c ≡ a ++ (b ++ (s ++ (l ++ c)))
+  pub laid-out : length a ≡ wordsAt → length b ≡ 2 * mostVariables → length s ≡ namesLong → length l ≡ mostVariables → length c ≡ 2
+      → copied (copied (copied (copied (copied space 0 a) wordsAt b) labelsAt s) lengthsAt l) countsAt c ≡ a ++ (b ++ (s ++ (l ++ c)))
   laid-out ea eb es el ec =
-      let e2 : length (a ++ b) ≡ 256 = simp length-append (omega arith) in
-      let e3 : length ((a ++ b) ++ s) ≡ 384 = simp length-append (omega arith) in
-      let e4 : length (((a ++ b) ++ s) ++ l) ≡ 448 = simp length-append (omega arith) in
+      let e2 : length (a ++ b) ≡ labelsAt = simp length-append (omega arith) in
+      let e3 : length ((a ++ b) ++ s) ≡ lengthsAt = simp length-append (omega arith) in
+      let e4 : length (((a ++ b) ++ s) ++ l) ≡ countsAt = simp length-append (omega arith) in
       let e5 : length ((((a ++ b) ++ s) ++ l) ++ c) ≡ length space = simp length-append (omega arith) in
-      ap (λ x. copied (copied (copied x 256 s) 384 l) 448 c) (copied-after space a b 128 ea (omega arith))
-      ∙ ap (λ x. copied (copied x 384 l) 448 c) (copied-after space (a ++ b) s 256 e2 (omega arith))
-      ∙ ap (λ x. copied x 448 c) (copied-after space ((a ++ b) ++ s) l 384 e3 (omega arith))
-      ∙ copied-after space (((a ++ b) ++ s) ++ l) c 448 e4 (omega arith)
+      ap (λ x. copied (copied (copied x labelsAt s) lengthsAt l) countsAt c) (copied-after space a b wordsAt ea (omega arith))
+      ∙ ap (λ x. copied (copied x lengthsAt l) countsAt c) (copied-after space (a ++ b) s labelsAt e2 (omega arith))
+      ∙ ap (λ x. copied x countsAt c) (copied-after space ((a ++ b) ++ s) l lengthsAt e3 (omega arith))
+      ∙ copied-after space (((a ++ b) ++ s) ++ l) c countsAt e4 (omega arith)
       ∙ copied-whole space ((((a ++ b) ++ s) ++ l) ++ c) e5
       ∙ simp append-assoc
 

@@ -48,12 +48,15 @@ blockOf t =
     ++ (t .strings .lengths
     ++ ((t .numbers .count % 256) ∷ (t .strings .count % 256) ∷ []))))
 
--- tables as a run makes them: 64 names, as many words or lengths, and a count that a byte holds. Written to a block and read
--- again they are the same (`round-trip`, proved)
-pub record Held (t : Tables) : Type 0 where
+-- tables as long as their types say: 64 names, and as many words or lengths
+pub record Long (t : Tables) : Type 0 where
   pub numberNames : length (t .numbers .names) ≡ namesLong
   pub words : length (t .numbers .words) ≡ mostVariables
-  pub fewNumbers : t .numbers .count < 256
   pub stringNames : length (t .strings .names) ≡ namesLong
   pub lengths : length (t .strings .lengths) ≡ mostVariables
+
+-- tables as a run makes them: with counts that a byte holds. Written to a block and read again they are the same (`round-trip`, proved)
+pub record Held (t : Tables) : Type 0 where
+  pub long : Long t
+  pub fewNumbers : t .numbers .count < 256
   pub fewStrings : t .strings .count < 256

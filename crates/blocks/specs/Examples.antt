@@ -6,11 +6,11 @@ use Rattle.variables.specs.Tables.{emptyTables}
 use Rattle.blocks.specs.Blocks.{wordsFrom, wordBytes, tablesIn, blockOf}
 
 -- a block of zeros holds no variables
-none : tablesIn (replicate 450 0) ≡ emptyTables
+none : tablesIn (replicate 5314 0) ≡ emptyTables
 unfolding wordsFrom
 none = refl
 
-none-written : blockOf emptyTables ≡ replicate 450 0
+none-written : blockOf emptyTables ≡ replicate 5314 0
 unfolding blockOf wordBytes
 none-written = refl
 

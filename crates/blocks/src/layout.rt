@@ -1,10 +1,10 @@
 // The variable tables as the block of bytes that a host keeps between a run and its questions.
 ghost use mathlib.Core.Path.{_≡_};
-ghost use mathlib.Core.List.{_++_};
 ghost use Prim.Native.Nat.{_+_, _*_, _/_, _%_, _≤_, _<_};
 ghost use lib.ListN.{length, take, drop};
-ghost use Rattle.blocks.specs.Blocks.{wordsFrom, wordBytes, tablesIn, blockOf};
+ghost use Rattle.blocks.specs.Blocks.{wordsFrom, wordBytes, tablesIn, blockOf, Long};
 ghost use Rattle.variables.specs.Tables.{namesLong};
+ghost use Rattle.variables.specs.bridge.Memory.{numbersOf, stringsOf};
 ghost use Rattle.variables.specs.Variables.{mostVariables};
 use space::Offset;
 use space::copy_in;
@@ -14,22 +14,23 @@ use variables::Strings;
 use variables::Tables;
 use variables::wide;
 
+// How many bytes the words have.
+const WORD_BYTES: usize = 2 * Tables::MOST;
+
 // Where each part of a block begins, and where the last one ends.
 const NUMBER_NAMES: usize = 0;
 
 const WORDS: usize = NUMBER_NAMES + Tables::NAMES;
 
-const STRING_NAMES: usize = WORDS + 2 * Tables::MOST;
+const STRING_NAMES: usize = WORDS + WORD_BYTES;
 
 const LENGTHS: usize = STRING_NAMES + Tables::NAMES;
 
-const NUMBER_COUNT: usize = LENGTHS + Tables::MOST;
+const COUNTS: usize = LENGTHS + Tables::MOST;
 
-const STRING_COUNT: usize = NUMBER_COUNT + 1;
+const LONG: usize = COUNTS + 2;
 
-const LONG: usize = STRING_COUNT + 1;
-
-// Names, words, names, lengths and two counts: see `side_by_side`.
+// Names, words, names, lengths and two counts: see `write_block`.
 pub type Block = [u8; LONG];
 
 fn wide_word(byte: u8) -> u16
@@ -64,15 +65,15 @@ fn count_byte(count: usize) -> u8
     (count % 256) as u8
 }
 
-// Names in a block, or the bytes of words, which are as many.
-fn bytes_at(block: &[u8], from: usize) -> NameTable
+// The names in a block, as many as a table has.
+fn names_at(block: &[u8], from: usize) -> NameTable
     requires { ⌜ from + namesLong ≤ length (now block) ⌝ }
     ensures { λ r. ⌜ r ≡ take namesLong (drop from (now (block .entry))) ⌝ }
 {
-    let mut bytes = [0; Tables::NAMES];
+    let mut names = [0; Tables::NAMES];
     let end = from + Tables::NAMES;
-    copy_in(&mut bytes, Offset(0), &block[from..end]);
-    bytes
+    copy_in(&mut names, Offset(0), &block[from..end]);
+    names
 }
 
 // The lengths in a block, one a variable.
@@ -87,8 +88,9 @@ fn lengths_at(block: &[u8], from: usize) -> [u8; Tables::MOST]
 }
 
 // The words from their bytes.
-fn words_of(bytes: NameTable) -> [u16; Tables::MOST]
-    ensures { λ r. ⌜ r ≡ wordsFrom mostVariables bytes ⌝ }
+fn words_of(bytes: &[u8]) -> [u16; Tables::MOST]
+    requires { ⌜ length (now bytes) ≡ 2 * mostVariables ⌝ }
+    ensures { λ r. ⌜ r ≡ wordsFrom mostVariables (now (bytes .entry)) ⌝ }
 {
     let mut words = [0; Tables::MOST];
     let mut i = 0;
@@ -100,11 +102,21 @@ fn words_of(bytes: NameTable) -> [u16; Tables::MOST]
     words
 }
 
-// The bytes of the words.
-fn bytes_of(words: [u16; Tables::MOST]) -> NameTable
-    ensures { λ r. ⌜ r ≡ wordBytes words ⌝ }
+// The words in a block.
+fn words_at(block: &[u8], from: usize) -> [u16; Tables::MOST]
+    requires { ⌜ from + 2 * mostVariables ≤ length (now block) ⌝ }
+    ensures { λ r. ⌜ r ≡ wordsFrom mostVariables (take (2 * mostVariables) (drop from (now (block .entry)))) ⌝ }
 {
-    let mut bytes = [0; Tables::NAMES];
+    let end = from + WORD_BYTES;
+    words_of(&block[from..end])
+}
+
+// The bytes of the words.
+fn bytes_of(words: &[u16]) -> [u8; WORD_BYTES]
+    requires { ⌜ length (now words) ≡ mostVariables ⌝ }
+    ensures { λ r. ⌜ r ≡ wordBytes (now (words .entry)) ⌝ }
+{
+    let mut bytes = [0; WORD_BYTES];
     let mut i = 0;
     while i < Tables::MOST {
         let at = 2 * i;
@@ -120,55 +132,43 @@ fn bytes_of(words: [u16; Tables::MOST]) -> NameTable
 pub fn tables_in(block: &Block) -> Tables
     ensures { λ r. ⌜ r ≡ tablesIn (now (block .entry)) ⌝ }
 {
-    let number_names = bytes_at(block, NUMBER_NAMES);
-    let words = words_of(bytes_at(block, WORDS));
-    let string_names = bytes_at(block, STRING_NAMES);
+    let number_names = names_at(block, NUMBER_NAMES);
+    let words = words_at(block, WORDS);
+    let string_names = names_at(block, STRING_NAMES);
     let lengths = lengths_at(block, LENGTHS);
     let numbers = Numbers {
         names: number_names,
         words,
-        count: wide(block[NUMBER_COUNT]),
+        count: wide(block[COUNTS]),
     };
     let strings = Strings {
         names: string_names,
         lengths,
-        count: wide(block[STRING_COUNT]),
+        count: wide(block[COUNTS + 1]),
     };
     Tables { numbers, strings }
 }
 
-// The parts of a block, each after the one before it.
-fn side_by_side(
-    number_names: &NameTable,
-    words: &NameTable,
-    string_names: &NameTable,
+// Tables are written to a block, each part after the one before it.
+pub fn write_block(
+    block: &mut Block,
+    names: &NameTable,
+    words: &[u16; Tables::MOST],
+    labels: &NameTable,
     lengths: &[u8; Tables::MOST],
-    counts: &[u8; 2],
-) -> Block
-    ensures { λ r. ⌜
-        r ≡ now («number_names» .entry) ++ (now (words .entry) ++ (now («string_names» .entry) ++ (now (lengths .entry) ++ now (counts .entry))))
+    numbers: usize,
+    strings: usize,
+)
+    ensures { λ _. ⌜
+        (now (block .exit) ≡ blockOf (record { numbers = numbersOf (now (names .entry)) (now (words .entry)) numbers; strings = stringsOf (now (labels .entry)) (now (lengths .entry)) strings }))
+        × Long (record { numbers = numbersOf (now (names .entry)) (now (words .entry)) numbers; strings = stringsOf (now (labels .entry)) (now (lengths .entry)) strings })
         ⌝ }
 {
-    let mut block = [0; LONG];
-    copy_in(&mut block, Offset(NUMBER_NAMES), number_names);
-    copy_in(&mut block, Offset(WORDS), words);
-    copy_in(&mut block, Offset(STRING_NAMES), string_names);
-    copy_in(&mut block, Offset(LENGTHS), lengths);
-    copy_in(&mut block, Offset(NUMBER_COUNT), counts);
-    block
-}
-
-// The block that holds some tables.
-pub fn block_of(tables: Tables) -> Block
-    ensures { λ r. ⌜ r ≡ blockOf tables ⌝ }
-{
-    let numbers = tables.numbers;
-    let strings = tables.strings;
-    let number_names = numbers.names;
-    let words = numbers.words;
     let word_bytes = bytes_of(words);
-    let string_names = strings.names;
-    let lengths = strings.lengths;
-    let counts = [count_byte(numbers.count), count_byte(strings.count)];
-    side_by_side(&number_names, &word_bytes, &string_names, &lengths, &counts)
+    let counts = [count_byte(numbers), count_byte(strings)];
+    copy_in(block, Offset(NUMBER_NAMES), names);
+    copy_in(block, Offset(WORDS), &word_bytes);
+    copy_in(block, Offset(STRING_NAMES), labels);
+    copy_in(block, Offset(LENGTHS), lengths);
+    copy_in(block, Offset(COUNTS), &counts);
 }

@@ -2,5 +2,5 @@
 mod layout;
 
 pub use layout::Block;
-pub use layout::block_of;
 pub use layout::tables_in;
+pub use layout::write_block;

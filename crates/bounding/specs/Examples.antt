@@ -8,7 +8,7 @@ use Rattle.words.specs.Places.{place}
 use Rattle.words.specs.Spellings.{sameBytes, meaning}
 use Rattle.words.specs.Classes.{capitalOf, isLetter, isHex, hexDigit, signs, pairs, classOf}
 use Rattle.words.specs.Vocabulary.{reserved}
-use Rattle.words.specs.Names.{tellingOf}
+use Rattle.words.specs.Names.{telling, tellingOf}
 use Rattle.scanner.specs.Tokens.{markOf, wordToken, numberToken, hexFrom, hexToken, textToken, signToken, tokenAt}
 use Rattle.loader.specs.Lines.{linesFrom, numberOf}
 use Rattle.loader.specs.Loading.{isPlain, numbered, judged, loadLines, loadOf}
@@ -61,5 +61,5 @@ recipes =
     ∷ []
 
 pub recipes-hold : map (λ (e : Example). boundOf (bytes (e .text))) recipes ≡ map (λ (e : Example). e .bound) recipes
-unfolding recipes bytes leading isDigit valueFrom sameBytes meaning capitalOf isLetter isHex hexDigit signs pairs classOf reserved tellingOf markOf wordToken numberToken hexFrom hexToken textToken signToken tokenAt linesFrom numberOf isPlain numbered judged loadLines loadOf formFor anyFor countOf formulaAt climbAt operandAt argumentsAt formulaOf depthOf deepestOf itemsAt printAt forAt inputAt begunAt partAt readLine deepest partsOf heads deepestIn placed stands allJumpOn boundOf
+unfolding recipes bytes leading isDigit valueFrom sameBytes meaning capitalOf isLetter isHex hexDigit signs pairs classOf reserved telling tellingOf markOf wordToken numberToken hexFrom hexToken textToken signToken tokenAt linesFrom numberOf isPlain numbered judged loadLines loadOf formFor anyFor countOf formulaAt climbAt operandAt argumentsAt formulaOf depthOf deepestOf itemsAt printAt forAt inputAt begunAt partAt readLine deepest partsOf heads deepestIn placed stands allJumpOn boundOf
 recipes-hold = refl

@@ -11,7 +11,7 @@ use Rattle.whole.specs.Digits.{leadingValue}
 use Rattle.whole.specs.declared.errors.Error.{Error}
 use Rattle.words.specs.declared.names.Kind.{Kind}
 use Rattle.words.specs.declared.names.Kind.the-variants as kind
-use Rattle.words.specs.declared.names.Telling.{Telling}
+use Rattle.words.specs.Names.{Telling}
 use Rattle.words.specs.declared.places.LineNumber.{LineNumber}
 use Rattle.words.proofs.Choices.{by-test}
 use Rattle.loader.specs.Lines.{Line, linesOf, fromNumber, afterNumber, nextLine}

@@ -9,7 +9,7 @@ use Rattle.words.specs.Places.{place, lineNumber}
 use Rattle.words.specs.Spellings.{sameBytes, meaning}
 use Rattle.words.specs.Classes.{capitalOf, isLetter, isHex, hexDigit, signs, pairs, classOf}
 use Rattle.words.specs.Vocabulary.{reserved}
-use Rattle.words.specs.Names.{tellingOf}
+use Rattle.words.specs.Names.{telling, tellingOf}
 use Rattle.scanner.specs.Tokens.{markOf, wordToken, numberToken, hexFrom, hexToken, textToken, signToken, tokenAt}
 use Rattle.loader.specs.Lines.{linesFrom, numberOf}
 use Rattle.loader.specs.Loading.{isPlain, numbered, judged, loadLines, loadOf}
@@ -51,5 +51,5 @@ recipes =
     ∷ []
 
 pub recipes-hold : map (λ (e : Example). checkOf (bytes (e .text))) recipes ≡ map (λ (e : Example). e .verdict) recipes
-unfolding recipes bytes leading isDigit valueFrom sameBytes meaning capitalOf isLetter isHex hexDigit signs pairs classOf reserved tellingOf markOf wordToken numberToken hexFrom hexToken textToken signToken tokenAt linesFrom numberOf isPlain numbered judged loadLines loadOf formFor anyFor countOf formulaAt climbAt operandAt argumentsAt formulaOf allMeet sortOf sortsOf depthOf deepestOf itemsAt printAt forAt inputAt begunAt partAt readLine deepest allSome partsOf heads deepestIn allTyped present anyMissing firstFault checkOf
+unfolding recipes bytes leading isDigit valueFrom sameBytes meaning capitalOf isLetter isHex hexDigit signs pairs classOf reserved telling tellingOf markOf wordToken numberToken hexFrom hexToken textToken signToken tokenAt linesFrom numberOf isPlain numbered judged loadLines loadOf formFor anyFor countOf formulaAt climbAt operandAt argumentsAt formulaOf allMeet sortOf sortsOf depthOf deepestOf itemsAt printAt forAt inputAt begunAt partAt readLine deepest allSome partsOf heads deepestIn allTyped present anyMissing firstFault checkOf
 recipes-hold = refl

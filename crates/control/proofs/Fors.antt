@@ -8,8 +8,7 @@ use Rattle.whole.proofs.Never.{never}
 use Rattle.whole.specs.declared.errors.Error.the-variants.{OutOfMemory, TypeMismatch}
 use Rattle.words.specs.declared.names.Kind.the-variants as kind
 use Rattle.words.specs.declared.names.Name.{Name}
-use Rattle.words.specs.Names.{alike}
-use Rattle.words.specs.declared.names.Telling.{Telling}
+use Rattle.words.specs.Names.{Telling, alike}
 use Rattle.words.specs.declared.places.Place.{Place}
 use Rattle.words.specs.declared.symbols.Scanned.{Scanned}
 use Rattle.words.specs.declared.symbols.Sign.the-variants.{Equal}
@@ -23,7 +22,8 @@ use Rattle.statements.specs.Parts.{deepest}
 use Rattle.grammar.specs.Formulas as formulas
 use Rattle.grammar.specs.Formulas.{Reading, good, after, formulaOf}
 use Rattle.statements.specs.Statements.{Begun, bad, done, onFormula, variableOf, limitAt, stepAt, forAt}
-use Rattle.variables.specs.bridge.Memory.{nameAt}
+use Rattle.words.proofs.Tellings.{told-again}
+use Rattle.variables.specs.bridge.Memory.{Tells, nameAt}
 use Rattle.variables.proofs.Names.{alike-is}
 use Rattle.variables.proofs.StoredNumbers.{number-stored}
 use Rattle.variables.specs.declared.values.Worked.the-variants.{Whole}
@@ -183,31 +183,31 @@ dropped-printer m found.None = refl
 dropped-printer m (found.At i) = refl
 
 -- a variable is set
-pub sound-set : {m : State} {input space room : List ℕ} (name : Telling) (w : ℕ) → Sound m input space room
+pub sound-set : {m : State} {input space room : List ℕ} (name : Telling) → Tells name → (w : ℕ) → Sound m input space room
     → Sound (numberSet m name w .state) input space room
-sound-set name w s = sound-tables s (number-settled name w (s .settled))
+sound-set name own w s = sound-tables s (number-settled name own w (s .settled))
 
 -- the record made is that of the variable's loop
-module _ (text : List ℕ) {m : State} {space : List ℕ} (name : Telling) (from limit by : ℕ) (back : Position) (f : Found) (settled : Settled m space)
+module _ (text : List ℕ) {m : State} {space : List ℕ} (name : Telling) (own : Tells name) (from limit by : ℕ) (back : Position) (f : Found) (settled : Settled m space)
     (yes : numberSet m name from .ok ≡ true) where
   abbrev made : Storage
   made = numberSet m name from
 
   made-slot : (made .slot < made .state .tables .numbers .count) × (alike (nameAt (made .state .tables .numbers .names) (made .slot)) name ≡ true)
-  made-slot = number-stored (m .tables .numbers) name from (settled .numbers) .slot yes
+  made-slot = number-stored (m .tables .numbers) name from (settled .numbers) own .slot yes
 
   loop-is : recordOf text (droppedTo (made .state) f .tables .numbers .names) (loopRecord (made .slot) limit by back)
       ≡ spec.loop name limit by (positionOf text back)
   loop-is =
       rw (dropped-tables (made .state) f)
       (loop-held text (made .state .tables .numbers .names) (made .slot) limit by back
-      ∙ ap (λ v. spec.loop v limit by (positionOf text back)) (alike-is (nameAt (made .state .tables .numbers .names) (made .slot)) name (made-slot .1)))
+      ∙ ap (λ v. spec.loop v limit by (positionOf text back)) (alike-is (nameAt (made .state .tables .numbers .names) (made .slot)) name (told-again _) own (made-slot .1)))
 
   loop-placed : Positioned text back → Placed text (droppedTo (made .state) f .tables .numbers .count) (loopRecord (made .slot) limit by back)
   loop-placed p =
       rw (dropped-tables (made .state) f) (record { back = rw (loop-back (made .slot) limit by back) p; known = λ _. made-slot .0; paired = λ e. absurd (false≢true e) })
 
-module _ {text : List ℕ} {m : State} {input space room : List ℕ} (entry : Record) (at : Place) (name : Telling) (from limit by : ℕ) (back : Position) (f : Found)
+module _ {text : List ℕ} {m : State} {input space room : List ℕ} (entry : Record) (at : Place) (name : Telling) (own : Tells name) (from limit by : ℕ) (back : Position) (f : Found)
     (sound : Sound m input space room) (low : FoundBelow (m .depth) f) (p : Positioned text back) {r : Turn} (b : LoopBegun text at m name from limit by back f r) where
   abbrev told : List Record → Type 0
   told = Told text (m .tables .numbers .names) (isLoopOf name) (m .depth) f entry
@@ -225,14 +225,14 @@ module _ {text : List ℕ} {m : State} {input space room : List ℕ} (entry : Re
     under = droppedTo (numberSet m name from .state) f
 
     sound-under : Sound under input space room
-    sound-under = sound-dropped f low (sound-set name from sound)
+    sound-under = sound-dropped f low (sound-set name own from sound)
 
     -- whatever the definition does then
     leads-cleared : (go : spec.Machine → step.Next)
         → Led text m input space room told (λ n. step.storeNumber n name from (λ q. go (cleared name q))) under space room go
     leads-cleared go rs l t n s =
-        let k = rw yes at (leads-number name from (sound .settled) s (λ q. go (cleared name q))) in
-        let kept = number-stored (m .tables .numbers) name from (sound .settled .numbers) in
+        let k = rw yes at (leads-number name own from (sound .settled) s (λ q. go (cleared name q))) in
+        let kept = number-stored (m .tables .numbers) name from (sound .settled .numbers) own in
         let names = numberSet m name from .state .tables .numbers .names in
         let u = told-kept text (m .tables .numbers .names) names (m .tables .numbers .count) (kept .names) rs (isLoopOf name) (m .depth)
         (λ i h. s .placed i h .known) f entry t in
@@ -249,8 +249,8 @@ module _ {text : List ℕ} {m : State} {input space room : List ℕ} (entry : Re
         (pushedTurn under (loopRecord (numberSet m name from .slot) limit by back) (next.On back)) space room
     turns-made q =
         let set = numberSet m name from in
-        turns-pushed (loopRecord (set .slot) limit by back) (next.On back) (spec.loop name limit by (positionOf text back)) (loop-is text name from limit by back f (sound .settled) yes)
-        (λ r. goesOn r (positionOf text back)) sound-under refl (dropped-steps (set .state) f) (dropped-printer (set .state) f) (loop-placed text name from limit by back f (sound .settled) yes p) (λ o S s. (p, (refl, s)))
+        turns-pushed (loopRecord (set .slot) limit by back) (next.On back) (spec.loop name limit by (positionOf text back)) (loop-is text name own from limit by back f (sound .settled) yes)
+        (λ r. goesOn r (positionOf text back)) sound-under refl (dropped-steps (set .state) f) (dropped-printer (set .state) f) (loop-placed text name own from limit by back f (sound .settled) yes p) (λ o S s. (p, (refl, s)))
         (λ rs l t n s. let k = leads-cleared after-clearing rs l t n s in record { machine = k .machine; is = k .is ∙ rw q; same = k .same })
 
   pub turns-loop : Turns text m input space room told (begun name (at .0) (positionOf text back) from limit by) r space room
@@ -261,8 +261,8 @@ module _ {text : List ℕ} {m : State} {input space room : List ℕ} (entry : Re
       (λ q. let is : r ≡ pushedTurn (under e) (loopRecord (numberSet m name from .slot) limit by back) (next.On back) = b .is ∙ rw (e, q) in
       rw is (turns-made e q)))
       (λ e. let is : r ≡ turnedTo (numberSet m name from .state) (next.Fails OutOfMemory) = b .is ∙ rw e in rw is
-      (turns-fails (leaves-unprinted (sound-set name from sound) refl refl refl)
-      (λ rs l t n s. rw e at (leads-number name from (sound .settled) s (λ q. after-clearing (cleared name q))))))
+      (turns-fails (leaves-unprinted (sound-set name own from sound) refl refl refl)
+      (λ rs l t n s. rw e at (leads-number name own from (sound .settled) s (λ q. after-clearing (cleared name q))))))
 
   -- the step that is left out is 1
   pub turns-by-one : by ≡ 1 → Turns text m input space room told (fromStep name (at .0) (positionOf text back) (number 1) from limit) r space room
@@ -294,7 +294,7 @@ module _ (text : List ℕ) (at : Place) (m : State) (name : Telling) (from limit
       record { skip = next.Ends; skips = λ _ so. absurd (false≢true (sym q ∙ so)); is = is ∙ rw (made, low, same, k, q, e) }
 
 -- with the step that was worked out
-module _ {text : List ℕ} {m : State} {input space room : List ℕ} (entry : Record) (at : Place) (name : Telling) (from limit : ℕ) (here : Place) (f : Found)
+module _ {text : List ℕ} {m : State} {input space room : List ℕ} (entry : Record) (at : Place) (name : Telling) (own : Tells name) (from limit : ℕ) (here : Place) (f : Found)
     (sound : Sound m input space room) (low : FoundBelow (m .depth) f) where
   pub turns-stepped : {by : Formula} {w : ℕ} {u x : Scanned} {space′ : List ℕ} {r : Turn} → Positioned text (afterOf here u)
       → Valued m by u space (Whole w x) space′ → LoopBegun text at m name from limit w (afterOf here x) f r
@@ -302,7 +302,7 @@ module _ {text : List ℕ} {m : State} {input space room : List ℕ} (entry : Re
       (fromStep name (at .0) (positionOf text (afterOf here u)) by from limit) r space′ room
   turns-stepped {w = w} {u = u} p v b =
       turns-whole (begun name (at .0) (positionOf text (afterOf here u)) from limit) sound v
-      (turns-loop entry at name from limit w (afterOf here u) f (sound-kept (v .framed .long) sound) low p (rw (v .goes) at b))
+      (turns-loop entry at name own from limit w (afterOf here u) f (sound-kept (v .framed .long) sound) low p (rw (v .goes) at b))
 
 -- ---- the whole statement
 

@@ -13,9 +13,10 @@ use Rattle.whole.specs.declared.arithmetic.Answer.the-variants as answer
 use Rattle.whole.specs.declared.arithmetic.Operator.the-variants.{Add}
 use Rattle.whole.specs.declared.errors.Error.{Error}
 use Rattle.whole.specs.declared.errors.Error.the-variants.{NextWithoutFor}
-use Rattle.words.specs.declared.names.Telling.{Telling}
+use Rattle.words.specs.Names.{Telling}
 use Rattle.variables.specs.Variables.{wordOf, mostVariables}
 use Rattle.words.proofs.Choices.{by-test}
+use Rattle.words.proofs.Tellings.{told-again}
 use Rattle.variables.specs.bridge.Memory.{nameAt, wordAt, numbersHeld}
 use Rattle.variables.proofs.Names.{alike-self, name-slot}
 use Rattle.variables.proofs.StoredNumbers.{number-at}
@@ -78,7 +79,7 @@ module _ {m : State} {space : List ℕ} (settled : Settled m space) (slot : ℕ)
 
   set-is : (w : ℕ) → numberSet m (nameAt (m .tables .numbers .names) slot) w ≡ record { ok = true; slot = slot; state = wordSet m slot w }
   set-is w =
-      ap (numberKept m) (number-at (m .tables .numbers) (nameAt (m .tables .numbers .names) slot) w (settled .numbers) slot known)
+      ap (numberKept m) (number-at (m .tables .numbers) (nameAt (m .tables .numbers .names) slot) w (settled .numbers) (told-again _) slot known)
       ∙ rw (lt-ltb slot (m .tables .numbers .count) known, lt-ltb slot mostVariables (omega (arith, settled .numbers .few)))
 
 -- a number at any entry in use leaves the machine sound
@@ -86,7 +87,7 @@ sound-word : {m : State} {input space room : List ℕ} (slot w : ℕ) → Sound 
 sound-word {m} {input} {space} {room} slot w s =
     by-test (ltb slot (m .tables .numbers .count))
     (λ t. let k = ltb-true slot (m .tables .numbers .count) t in
-    subst (λ x. Sound x input space room) (ap (λ x. x .state) (set-is (s .settled) slot k w)) (sound-set (nameAt (m .tables .numbers .names) slot) w s))
+    subst (λ x. Sound x input space room) (ap (λ x. x .state) (set-is (s .settled) slot k w)) (sound-set (nameAt (m .tables .numbers .names) slot) (told-again _) w s))
     (λ t. rw t s)
 
 module _ (text : List ℕ) {m : State} {input space room : List ℕ} (entry : Record) (test : spec.Record → Bool) (after : spec.Position)
@@ -127,7 +128,7 @@ module _ (text : List ℕ) {m : State} {input space room : List ℕ} (entry : Re
         leads-set w e =
             let go = going text (variable m entry) entry (under rs) after w in
             let l = subst (λ x. Leads text rs (x .state) input space room (storeNumber n (variable m entry) w go) (storedMet (x .ok) go))
-            (set-is (sound .settled) (entry .slot) known w) (leads-number (variable m entry) w (sound .settled) s go) in
+            (set-is (sound .settled) (entry .slot) known w) (leads-number (variable m entry) (told-again _) w (sound .settled) s go) in
             record { machine = l .machine; is = nexts-turned e ∙ l .is; same = l .same }
 
     pub next-fault : {e : Error} → applied Add (wordIn (m .tables .numbers .words) (entry .slot)) (entry .step) ≡ answer.Fault e

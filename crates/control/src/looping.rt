@@ -47,9 +47,7 @@ use words::Kind;
 use words::Name;
 use words::Place;
 use words::Scanned;
-use words::Telling;
 use words::Word;
-use words::telling_of;
 
 // An older loop of the variable is dropped with all above it.
 fn dropped_to(machine: Machine, found: Found) -> Machine
@@ -70,9 +68,10 @@ fn dropped_to(machine: Machine, found: Found) -> Machine
 // The variable is set, an older loop of it is dropped, then the body is skipped or a record is made.
 fn begin_loop(
     text: &[u8],
+    line: &[u8],
     here: Place,
     at: Place,
-    name: Telling,
+    name: Name,
     from: u16,
     limit: u16,
     step: u16,
@@ -84,18 +83,18 @@ fn begin_loop(
 ) -> Turned
     requires { ⌜ Lined (now text) (here .0) ⌝ }
     ensures { λ r. ⌜
-        ((labels lengths : List ℕ) → LoopBegun (now (text .entry)) at (stateOf machine (now (names .entry)) (now (words .entry)) labels lengths) name from limit step (afterOf here ahead) found
+        ((labels lengths : List ℕ) → LoopBegun (now (text .entry)) at (stateOf machine (now (names .entry)) (now (words .entry)) labels lengths) (tellingOf (nameBytes (now (line .entry)) name)) from limit step (afterOf here ahead) found
         (turnOf r (now (names .exit)) (now (words .exit)) labels lengths))
         ⌝ }
 {
-    let stored = with_number(machine, names, words, name, from);
+    let stored = with_number(machine, names, words, line, name, from);
     let set = stored.machine;
     if !stored.ok {
         return fails(set, Error::OutOfMemory);
     }
     let under = dropped_to(set, found);
     if passed(from, limit, step) {
-        return turned_to(under, skip_body(text, here, at, name));
+        return turned_to(under, skip_body(text, here, at, line, name));
     }
     let back = after(here, ahead);
     let held = Record::counts(stored.slot, limit, step, back);
@@ -108,7 +107,7 @@ fn with_step(
     line: &[u8],
     here: Place,
     at: Place,
-    name: Telling,
+    name: Name,
     from: u16,
     limit: u16,
     follow: Scanned,
@@ -124,14 +123,15 @@ fn with_step(
     ensures { λ r. ⌜
         ((input room : List ℕ) (by : Formula) (u : Scanned) → Sound (stateOf machine (now (names .entry)) (now (words .entry)) (now (labels .entry)) (now (lengths .entry))) input (now (space .entry)) room → Positioned (now (text .entry)) (afterOf here u)
         → stepOf (now (line .entry)) follow ≡ formulas.good by u → (entry : Record)
-        → Turns (now (text .entry)) (stateOf machine (now (names .entry)) (now (words .entry)) (now (labels .entry)) (now (lengths .entry))) input (now (space .entry)) room (Told (now (text .entry)) (now (names .entry)) (isLoopOf name) (machine .depth) found entry)
-        (fromStep name (at .0) (positionOf (now (text .entry)) (afterOf here u)) by from limit) (turnOf r (now (names .exit)) (now (words .exit)) (now (labels .entry)) (now (lengths .entry))) (now (space .exit)) room)
+        → Turns (now (text .entry)) (stateOf machine (now (names .entry)) (now (words .entry)) (now (labels .entry)) (now (lengths .entry))) input (now (space .entry)) room (Told (now (text .entry)) (now (names .entry)) (isLoopOf (tellingOf (nameBytes (now (line .entry)) name))) (machine .depth) found entry)
+        (fromStep (tellingOf (nameBytes (now (line .entry)) name)) (at .0) (positionOf (now (text .entry)) (afterOf here u)) by from limit) (turnOf r (now (names .exit)) (now (words .exit)) (now (labels .entry)) (now (lengths .entry))) (now (space .exit)) room)
         ⌝ }
 {
     let token = follow.token;
     if !is_keyword(Word::Step, token) {
         return begin_loop(
             text,
+            line,
             here,
             at,
             name,
@@ -152,6 +152,7 @@ fn with_step(
     };
     begin_loop(
         text,
+        line,
         here,
         at,
         name,
@@ -172,7 +173,7 @@ fn with_limit(
     line: &[u8],
     here: Place,
     at: Place,
-    name: Telling,
+    name: Name,
     from: u16,
     first: Scanned,
     machine: Machine,
@@ -188,8 +189,8 @@ fn with_limit(
         ((input room : List ℕ) (to by : Formula) (t u : Scanned) → Sound (stateOf machine (now (names .entry)) (now (words .entry)) (now (labels .entry)) (now (lengths .entry))) input (now (space .entry)) room
         → Positioned (now (text .entry)) (afterOf here u) → formulaOf (now (line .entry)) first ≡ formulas.good to t
         → stepOf (now (line .entry)) t ≡ formulas.good by u → (entry : Record)
-        → Turns (now (text .entry)) (stateOf machine (now (names .entry)) (now (words .entry)) (now (labels .entry)) (now (lengths .entry))) input (now (space .entry)) room (Told (now (text .entry)) (now (names .entry)) (isLoopOf name) (machine .depth) found entry)
-        (fromLimit name (at .0) (positionOf (now (text .entry)) (afterOf here u)) to by from) (turnOf r (now (names .exit)) (now (words .exit)) (now (labels .entry)) (now (lengths .entry))) (now (space .exit)) room)
+        → Turns (now (text .entry)) (stateOf machine (now (names .entry)) (now (words .entry)) (now (labels .entry)) (now (lengths .entry))) input (now (space .entry)) room (Told (now (text .entry)) (now (names .entry)) (isLoopOf (tellingOf (nameBytes (now (line .entry)) name))) (machine .depth) found entry)
+        (fromLimit (tellingOf (nameBytes (now (line .entry)) name)) (at .0) (positionOf (now (text .entry)) (afterOf here u)) to by from) (turnOf r (now (names .exit)) (now (words .exit)) (now (labels .entry)) (now (lengths .entry))) (now (space .exit)) room)
         ⌝ }
 {
     let worked = value(line, first, machine, names, words, labels, lengths, space);
@@ -244,7 +245,6 @@ pub fn for_loop(
     let Kind::Whole = kind else {
         return fails(machine, Error::TypeMismatch);
     };
-    let telling = telling_of(line, name);
     let start = token_at(line, equals.next);
     let worked = value(line, start, machine, names, words, labels, lengths, space);
     let Worked::Whole(from, to) = worked else {
@@ -256,7 +256,7 @@ pub fn for_loop(
         line,
         here,
         at,
-        telling,
+        name,
         from,
         limit,
         machine,

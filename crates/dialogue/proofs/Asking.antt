@@ -15,7 +15,7 @@ use Rattle.whole.specs.Texts.{longestString}
 use Rattle.whole.proofs.Never.{never}
 use Rattle.words.specs.declared.names.Kind.the-variants as kind
 use Rattle.words.specs.declared.names.Name.{Name}
-use Rattle.words.specs.declared.names.Telling.{Telling}
+use Rattle.words.specs.Names.{Telling}
 use Rattle.words.specs.Places.{place}
 use Rattle.words.specs.declared.places.Place.{Place}
 use Rattle.words.specs.declared.symbols.Quotation.{Quotation}
@@ -36,7 +36,7 @@ use Rattle.grammar.specs.Formulas.{after, quotedBytes}
 use Rattle.statements.specs.Statements.{Begun, bad, done, variableOf, targetAt, inputAt}
 use Rattle.statements.proofs.Findings.{by-name, by-text}
 use Rattle.variables.specs.Strings.{Room, make, fault, value, text, withString}
-use Rattle.variables.specs.bridge.Memory.{Held, Storable, spaceStored}
+use Rattle.variables.specs.bridge.Memory.{Held, Tells, Storable, spaceStored}
 use Rattle.variables.specs.Tables.{sumOf}
 use Rattle.formulas.specs.bridge.Memory.{Scans}
 use Rattle.machine.specs.Machine as spec
@@ -251,22 +251,22 @@ module _ (program : List ℕ) {m : State} {input space room : List ℕ} (sound :
         (λ rs l t n s. leads-made (record { kind = kind.Whole; telling = name }) after s)
 
     -- a string's is set
-    pub fills-string : (name : Telling) (here : Place) (u : Scanned) → Positioned program (afterOf here u)
+    pub fills-string : (name : Telling) → Tells name → (here : Place) (u : Scanned) → Positioned program (afterOf here u)
         → Turns program m input space room anyRecords
         (fillsIn (record { kind = kind.Text; telling = name }) b (positionOf program (afterOf here u)))
         (storedTurn (stringSet m name (length b)) here u)
         (spaceStored (m .tables .strings) (m .used) name (copied space (m .used) b) (length b)) room
-    fills-string name here u p =
+    fills-string name own here u p =
         let long = copied-length space (m .used) b in
         let k = settled-kept long (sound .settled) in
         let f : m .used + length b ≤ length (copied space (m .used) b) = rw long fits in
         let after = positionOf program (afterOf here u) in
-        turns-stored here u (stringSet m name (length b)) (sound-tables sound (string-settled name (length b) k f))
-        (string-long name (length b) k f ∙ long) refl refl p
+        turns-stored here u (stringSet m name (length b)) (sound-tables sound (string-settled name own (length b) k f))
+        (string-long name own (length b) k f ∙ long) refl refl p
         (λ rs l t n s.
         leads-on (leads-made (record { kind = kind.Text; telling = name }) after s)
         (λ o e.
-        rw (copied-bytes space (m .used) b fits) at (leads-string name (length b) k f e (λ o. goesOn o after))))
+        rw (copied-bytes space (m .used) b fits) at (leads-string name own (length b) k f e (λ o. goesOn o after))))
 
 -- ---- the text is printed first
 
@@ -353,7 +353,7 @@ module _ (s : List ℕ) (t : Scanned) {prompt : List ℕ} {v : Variable} {u : Sc
       let p = text-of s [] t k in (rw p at k, p)
 
 -- a text lies within its line
-pub quoted-inside : {s : List ℕ} {t : Scanned} {q : Quotation} → Scans s t → t .token ≡ Quoted q → q .at .0 + q .len < length s
+pub quoted-inside : {s : List ℕ} {t : Scanned} {q : Quotation} → Scans s t → t .token ≡ Quoted q → q .at + q .len < length s
 quoted-inside {s} {q = q} h w = scanned-ends s (h .from) (h .is) .text q w
 
 pub quoted-part : (s : List ℕ) (a n : ℕ) → take (a + n - a) (drop a s) ≡ take n (drop a s)

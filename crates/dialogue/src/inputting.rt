@@ -32,7 +32,6 @@ use words::Name;
 use words::Place;
 use words::Scanned;
 use words::Token;
-use words::telling_of;
 
 // A line that was taken makes a string; its room is asked for before the variable's type is looked at.
 fn fill(
@@ -63,7 +62,7 @@ fn fill(
     match kind {
         Kind::Whole => fails(machine, Error::TypeMismatch),
         Kind::Text => stored_or_full(
-            with_string(machine, labels, lengths, telling_of(line, name), space, len),
+            with_string(machine, labels, lengths, line, name, space, len),
             here,
             ahead,
         ),
@@ -186,10 +185,10 @@ fn asked_at(line: &[u8], first: Scanned) -> Query
     let token = first.token;
     match token {
         Token::Quoted(quotation) => {
-            let from = quotation.at;
-            let end = from.0 + quotation.len;
+            let from = quotation.at as usize;
+            let end = from + quotation.len as usize;
             Query {
-                from,
+                from: Place(from),
                 end: Place(end),
                 target: after_text(line, first),
             }

@@ -59,7 +59,7 @@ not-operand s level t m e =
 
 -- ---- a quoted text lies within its line
 
-pub quoted-within : {s : List ℕ} {t : Scanned} → Scans s t → (q : Quotation) → t .token ≡ token.Quoted q → q .at .0 + q .len ≤ length s
+pub quoted-within : {s : List ℕ} {t : Scanned} → Scans s t → (q : Quotation) → t .token ≡ token.Quoted q → q .at + q .len ≤ length s
 quoted-within {s} {t} k q e = let h = scanned-ends s (k .from) (k .is) .text q e in omega arith
 
 -- ---- what the minus sign and NOT make of what is behind them

@@ -12,7 +12,7 @@ use Rattle.whole.specs.declared.errors.Error.the-variants.{Syntax, IllegalFunct
 use Rattle.words.specs.Spellings.{sameBytes, meaning}
 use Rattle.words.specs.Classes.{capitalOf, isLetter, isHex, hexDigit, signs, pairs, classOf}
 use Rattle.words.specs.Vocabulary.{reserved}
-use Rattle.words.specs.Names.{tellingOf}
+use Rattle.words.specs.Names.{telling, tellingOf}
 use Rattle.words.specs.Places.{place}
 use Rattle.scanner.specs.Tokens.{
   markOf,
@@ -36,8 +36,8 @@ unfoldable pub given : Variables
 given = record {
   numbers = [];
   strings =
-      record { name = record { first = 65; second = 0 }; bytes = bytes "LOT " }
-      ∷ record { name = record { first = 66; second = 0 }; bytes = bytes "B" }
+      record { name = bytes "A"; bytes = bytes "LOT " }
+      ∷ record { name = bytes "B"; bytes = bytes "B" }
       ∷ [];
 }
 
@@ -84,7 +84,7 @@ examples =
 
 pub examples-hold : map (λ (e : Example). told (worked (formulaOf (bytes (e .formula)) (tokenAt (bytes (e .formula)) (place 0))) (e .space))) examples
     ≡ map (λ (e : Example). e .is) examples
-unfolding examples given bytes leading isDigit valueFrom sameBytes meaning capitalOf isLetter isHex hexDigit signs pairs classOf reserved tellingOf markOf wordToken numberToken hexFrom hexToken textToken signToken tokenAt formFor anyFor countOf formulaAt climbAt operandAt argumentsAt formulaOf signedValue num fit places trimmed digitByte numeral signedNumeral make letGo letAllGo produced wordOf bytesOf stringBytes argument startsWith found placeOf isBefore wantAt valueOf valuesOf
+unfolding examples given bytes leading isDigit valueFrom sameBytes meaning capitalOf isLetter isHex hexDigit signs pairs classOf reserved telling tellingOf markOf wordToken numberToken hexFrom hexToken textToken signToken tokenAt formFor anyFor countOf formulaAt climbAt operandAt argumentsAt formulaOf signedValue num fit places trimmed digitByte numeral signedNumeral make letGo letAllGo produced wordOf bytesOf stringBytes argument startsWith found placeOf isBefore wantAt valueOf valuesOf
 examples-hold = refl
 
 -- eight functions in one another, a comparison and a `+` waiting at each: 28 unfinished strings, the most that there can be
@@ -92,5 +92,5 @@ pub nested : String
 nested = "A$<B$+LEFT$(A$,A$<B$+LEFT$(A$,A$<B$+LEFT$(A$,A$<B$+LEFT$(A$,A$<B$+LEFT$(A$,A$<B$+LEFT$(A$,A$<B$+LEFT$(A$,A$<B$+LEFT$(A$,A$<B$+B$))))))))"
 
 pub nested-highest : told (worked (formulaOf (bytes nested) (tokenAt (bytes nested) (place 0))) 1000) ≡ number 0 5 28
-unfolding nested given bytes leading isDigit valueFrom sameBytes meaning capitalOf isLetter isHex hexDigit signs pairs classOf reserved tellingOf markOf wordToken numberToken hexFrom hexToken textToken signToken tokenAt formFor anyFor countOf formulaAt climbAt operandAt argumentsAt formulaOf signedValue num fit places trimmed digitByte numeral signedNumeral make letGo letAllGo produced wordOf bytesOf stringBytes argument startsWith found placeOf isBefore wantAt valueOf valuesOf
+unfolding nested given bytes leading isDigit valueFrom sameBytes meaning capitalOf isLetter isHex hexDigit signs pairs classOf reserved telling tellingOf markOf wordToken numberToken hexFrom hexToken textToken signToken tokenAt formFor anyFor countOf formulaAt climbAt operandAt argumentsAt formulaOf signedValue num fit places trimmed digitByte numeral signedNumeral make letGo letAllGo produced wordOf bytesOf stringBytes argument startsWith found placeOf isBefore wantAt valueOf valuesOf
 nested-highest = refl

@@ -36,7 +36,6 @@ use words::Kind;
 use words::Name;
 use words::Quotation;
 use words::Scanned;
-use words::telling_of;
 
 // A quoted text is copied from the line.
 pub(crate) fn quoted(
@@ -46,12 +45,11 @@ pub(crate) fn quoted(
     space: &mut [u8],
     used: Offset,
 ) -> Worked
-    requires { ⌜ (quotation .at .0 + quotation .len ≤ length (now line)) × ((length (now line) ≤ longestLine) × (used .0 ≤ length (now space))) ⌝ }
+    requires { ⌜ (quotation .at + quotation .len ≤ length (now line)) × ((length (now line) ≤ longestLine) × (used .0 ≤ length (now space))) ⌝ }
     ensures { λ r. ⌜ Made (now (space .entry)) (used .0) (used .0) (make (quotedBytes (now (line .entry)) quotation)) ahead r (now (space .exit)) ⌝ }
 {
-    let place = quotation.at;
-    let from = place.0;
-    let len = quotation.len;
+    let from = quotation.at as usize;
+    let len = quotation.len as usize;
     if !has_room(space, used, len) {
         return Worked::Fault(Error::OutOfStringSpace);
     }
@@ -114,10 +112,9 @@ pub(crate) fn named(
         ⌝ }
 {
     let kind = name.kind;
-    let telling = telling_of(line, name);
     match kind {
-        Kind::Whole => Worked::Whole(number_in(slot_of(names, telling), words), ahead),
-        Kind::Text => copied(slot_of(labels, telling), lengths, ahead, space, used),
+        Kind::Whole => Worked::Whole(number_in(slot_of(names, line, name), words), ahead),
+        Kind::Text => copied(slot_of(labels, line, name), lengths, ahead, space, used),
     }
 }
 

@@ -149,7 +149,7 @@ called f a t = choose (takes f (countOf a)) (λ _. good (call f a) t) (λ _. bad
 
 -- the bytes of a quoted text
 abbrev pub quotedBytes : List ℕ → Quotation → List ℕ
-quotedBytes s q = take (q .len) (drop (q .at .0) s)
+quotedBytes s q = take (q .len) (drop (q .at) s)
 
 abbrev pub bySign : Sign → (Unit {0} → Reading) → (Unit {0} → Reading) → Reading
 bySign Open opening negative = opening tt

@@ -3,7 +3,7 @@ use Prim.Native.Nat.{ℕ}
 use mathlib.Core.List.{List}
 use Rattle.whole.specs.declared.arithmetic.Operator.{Operator}
 use Rattle.words.specs.declared.names.Kind.{Kind}
-use Rattle.words.specs.declared.names.Telling.{Telling}
+use Rattle.words.specs.Names.{Telling}
 use Rattle.words.specs.declared.places.LineNumber.{LineNumber}
 use Rattle.words.specs.declared.symbols.Function.{Function}
 

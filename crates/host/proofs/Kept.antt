@@ -5,35 +5,37 @@ use mathlib.Core.List.{List, [], _∷_, _++_, map}
 use Prim.Native.Nat.{ℕ, _+_, _-_, _*_, _<_}
 use native.Mathlib.Omega.{arith}
 use lib.ListN.{length, replicate, length-append, length-map}
-use Rattle.words.specs.declared.names.Telling.{Telling}
-use Rattle.variables.specs.Tables.{nameBytes, numbersTable, stringsTable}
+use Rattle.words.specs.Names.{Telling, nameWidth, entryOf}
+use Rattle.words.proofs.Tellings.{entry-length}
+use Rattle.variables.specs.Tables.{namesLong, nameBytes, numbersTable, stringsTable}
 use Rattle.variables.specs.Variables.{NumberVariable, StringVariable, mostVariables}
 use Rattle.variables.specs.declared.tables.Tables.{Tables}
 use Rattle.runner.specs.Run.{Ran, isRefused, tablesOf, answerOf, spaceAfter, roomAfter}
 use Rattle.runner.specs.declared.running.Ran as code
 use Rattle.host.specs.Answers.{answerIn}
-use Rattle.blocks.specs.Blocks.{tablesIn, blockOf, Held}
+use Rattle.blocks.specs.Blocks.{tablesIn, blockOf, Long, Held}
 use Rattle.host.specs.Calls.{HasRun}
 use Rattle.blocks.proofs.RoundTrip.{round-trip}
 
--- ---- there are at most 64 names in 128 bytes
+-- ---- there are at most 64 names in a table
 
-name-bytes-length : (names : List Telling) → length (nameBytes names) ≡ 2 * length names
+name-bytes-length : (names : List Telling) → length (nameBytes names) ≡ nameWidth * length names
 unfolding nameBytes
 name-bytes-length [] = refl
-name-bytes-length (n ∷ ns) = let e = name-bytes-length ns in omega arith
+name-bytes-length (n ∷ ns) =
+    let e = name-bytes-length ns in omega (arith, length-append (entryOf n) (nameBytes ns), entry-length n)
 
-few-names : (names : List Telling) → length (nameBytes names ++ replicate (128 - 2 * length names) 0) ≡ 128 → length names < 256
+few-names : (names : List Telling) → length (nameBytes names ++ replicate (namesLong - nameWidth * length names) 0) ≡ namesLong → length names < 256
 few-names names e =
-    let zeros : List ℕ = replicate (128 - 2 * length names) 0 in
+    let zeros : List ℕ = replicate (namesLong - nameWidth * length names) 0 in
     omega (arith, sym (length-append (nameBytes names) zeros) ∙ e, name-bytes-length names)
 
-few-numbers : (vs : List NumberVariable) → length (numbersTable vs .names) ≡ 128 → length vs < 256
+few-numbers : (vs : List NumberVariable) → length (numbersTable vs .names) ≡ namesLong → length vs < 256
 few-numbers vs e =
     let k : length (map (λ v. v .name) vs) ≡ length vs = length-map vs (λ v. v .name) in
     omega (arith, k, few-names (map (λ v. v .name) vs) (rw k e))
 
-few-strings : (vs : List StringVariable) → length (stringsTable vs .names) ≡ 128 → length vs < 256
+few-strings : (vs : List StringVariable) → length (stringsTable vs .names) ≡ namesLong → length vs < 256
 few-strings vs e =
     let k : length (map (λ v. v .name) vs) ≡ length vs = length-map vs (λ v. v .name) in
     omega (arith, k, few-names (map (λ v. v .name) vs) (rw k e))
@@ -50,20 +52,15 @@ module _ (ran : Ran) (answer : code.Ran) (given : Tables) (is : answer ≡ answe
       record { answered = answered ∙ ap answerIn is; spaced = spaced; roomy = roomy; kept = rw b; meant = rw b }
 
   -- and any other leaves its tables in it
-  pub finished-run : (block′ : List ℕ) → isRefused (answer .outcome) ≡ false → block′ ≡ blockOf (answer .tables)
-      → length (answer .tables .numbers .names) ≡ 128 → length (answer .tables .numbers .words) ≡ mostVariables
-      → length (answer .tables .strings .names) ≡ 128 → length (answer .tables .strings .lengths) ≡ mostVariables
+  pub finished-run : (block′ : List ℕ) → isRefused (answer .outcome) ≡ false → block′ ≡ blockOf (answer .tables) → Long (answer .tables)
       → HasRun ran space room block space′ room′ block′ words
-  finished-run block′ e k numbers numberWords strings lengths =
+  finished-run block′ e k long =
       let b : isRefused (ran .ending) ≡ false = rw is at e in
       let t : answer .tables ≡ tablesOf (ran .machine .variables) = ap (λ a. a .tables) is ∙ rw b in
       let held : Held (answer .tables) = record {
-        numberNames = numbers;
-        words = numberWords;
-        fewNumbers = rw t (few-numbers (ran .machine .variables .numbers) (rw t at numbers));
-        stringNames = strings;
-        lengths = lengths;
-        fewStrings = rw t (few-strings (ran .machine .variables .strings) (rw t at strings));
+        long = long;
+        fewNumbers = rw t (few-numbers (ran .machine .variables .numbers) (rw t at (long .numberNames)));
+        fewStrings = rw t (few-strings (ran .machine .variables .strings) (rw t at (long .stringNames)));
       } in
       record {
         answered = answered ∙ ap answerIn is;

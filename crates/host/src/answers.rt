@@ -1,15 +1,17 @@
 // What a host is answered with, as numbers.
 ghost use mathlib.Core.Path.{_≡_};
-ghost use mathlib.Core.List.{[], _∷_};
-ghost use Rattle.runner.specs.Run.{numberIn, lineIn, placeIn, isRefused};
+ghost use mathlib.Core.List.{List, [], _∷_};
+ghost use Prim.Native.Nat.{ℕ};
+ghost use Rattle.runner.specs.Run.{numberIn, lineIn, placeIn};
+ghost use Rattle.runner.specs.bridge.Endings.{ranOf};
 ghost use Rattle.whole.specs.Whole.{num};
 ghost use Rattle.host.specs.Answers.{outcomeIn, answerIn, extendedOf, verdictIn, foundIn};
 use asking::Asked;
 use checker::Verdict;
 use loader::Refusal;
 use loader::refusal_number;
+use runner::Done;
 use runner::Outcome;
-use runner::Ran;
 use whole::number_of;
 
 // The outcomes.
@@ -76,33 +78,20 @@ fn ending_of(outcome: Outcome) -> [u64; 4]
 }
 
 // Outcome, number, line, place, steps, bytes written and input bytes taken.
-pub(crate) fn answer_of(ran: Ran) -> [u64; 7]
-    ensures { λ r. ⌜ r ≡ answerIn ran ⌝ }
+pub(crate) fn answer_of(done: Done) -> [u64; 7]
+    ensures { λ r. ⌜ ((names words labels lengths : List ℕ) → r ≡ answerIn (ranOf done names words labels lengths)) ⌝ }
 {
-    let outcome = ran.outcome;
+    let outcome = done.outcome;
     let ending = ending_of(outcome);
     [
         ending[0],
         ending[1],
         ending[2],
         ending[3],
-        wide_steps(ran.steps),
-        wide_size(ran.written),
-        wide_size(ran.taken),
+        wide_steps(done.steps),
+        wide_size(done.written),
+        wide_size(done.taken),
     ]
-}
-
-// Whether a run was refused.
-pub(crate) fn is_refused(outcome: Outcome) -> bool
-    ensures { λ r. ⌜ r ≡ isRefused outcome ⌝ }
-{
-    match outcome {
-        Outcome::Ended => false,
-        Outcome::Stopped(_) => false,
-        Outcome::Out(_) => false,
-        Outcome::Failed(_, _) => false,
-        Outcome::Refused(_, _) => true,
-    }
 }
 
 // Passed or refused, number, line and place.

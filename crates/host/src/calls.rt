@@ -10,18 +10,17 @@ ghost use Rattle.host.specs.Answers.{verdictIn, foundIn};
 ghost use Rattle.host.specs.Calls.{HasRun};
 use crate::answers::answer_of;
 use crate::answers::found_of;
-use crate::answers::is_refused;
 use crate::answers::verdict_of;
 use asking::ask;
 use blocks::Block;
-use blocks::block_of;
 use blocks::tables_in;
+use blocks::write_block;
 use checker::check_recipe;
-use runner::run;
+use runner::is_refused;
+use runner::run_lent;
 use variables::Tables;
 
-// Runs a recipe. A run hands back the tables that it is handed only where it is refused, and then the block is left alone: so it is handed
-// empty ones.
+// Runs a recipe. The tables are the run's own until it ends; where it is refused the block is left alone.
 #[no_mangle]
 pub extern "C" fn quernhem_run(
     text: &[u8],
@@ -38,14 +37,35 @@ pub extern "C" fn quernhem_run(
         (now (space .exit)) (now (room .exit)) (now (tables .exit)) (now (answer .exit))
         ⌝ }
 {
-    let ran = run(text, input, space, room, budget, Tables::empty());
-    *answer = answer_of(ran);
-    let outcome = ran.outcome;
+    let mut names = [0; Tables::NAMES];
+    let mut words = [0; Tables::MOST];
+    let mut labels = [0; Tables::NAMES];
+    let mut lengths = [0; Tables::MOST];
+    let done = run_lent(
+        text,
+        input,
+        space,
+        room,
+        budget,
+        &mut names,
+        &mut words,
+        &mut labels,
+        &mut lengths,
+    );
+    *answer = answer_of(done);
+    let outcome = done.outcome;
     if is_refused(outcome) {
         return;
     }
-    let after = ran.tables;
-    *tables = block_of(after);
+    write_block(
+        tables,
+        &names,
+        &words,
+        &labels,
+        &lengths,
+        done.numbers,
+        done.strings,
+    );
 }
 
 // Checks a recipe.

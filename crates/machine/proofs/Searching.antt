@@ -9,8 +9,7 @@ use lib.Dec.{eqb, ltb}
 use lib.ListN.{length, getD}
 use Rattle.whole.proofs.Never.{never}
 use Rattle.words.proofs.Choices.{by-test, both}
-use Rattle.words.specs.Names.{alike}
-use Rattle.words.specs.declared.names.Telling.{Telling}
+use Rattle.words.specs.Names.{Telling, alike}
 use Rattle.variables.specs.Tables.{namesFrom, slotIn}
 use Rattle.variables.specs.Variables.{mostVariables}
 use Rattle.variables.specs.bridge.Memory.{nameAt, Apart}

@@ -7,9 +7,8 @@ use lib.IntN.{pos}
 use lib.Signed.{ltZ}
 use lib.ListN.{length, replicate}
 use Rattle.whole.specs.Whole.{num}
-use Rattle.words.specs.Names.{alike}
+use Rattle.words.specs.Names.{Telling, alike}
 use Rattle.whole.specs.Bytes.{blank}
-use Rattle.words.specs.declared.names.Telling.{Telling}
 use Rattle.loader.specs.Lines.{Line}
 use Rattle.statements.specs.Parts.{Rest}
 use Rattle.variables.specs.Strings.{Room}

@@ -13,7 +13,6 @@ use words::Place;
 use words::Scanned;
 use words::Token;
 use words::Word;
-use words::telling_of;
 
 // By how it is led; `names` are those of so many number variables.
 pub fn sought_record(
@@ -53,7 +52,7 @@ fn sought_loop(line: &[u8], target: Scanned, names: &NameTable, numbers: usize) 
 fn loop_of(line: &[u8], name: Name, names: &NameTable, numbers: usize) -> Sought
     ensures { λ r. ⌜ r ≡ loopSought (now (names .entry)) numbers (tellingOf (nameBytes (now (line .entry)) name)) ⌝ }
 {
-    match slot_of(names, telling_of(line, name)) {
+    match slot_of(names, line, name) {
         Slot::None => Sought::NOTHING,
         Slot::At(slot) => if slot < numbers {
             Sought::loop_of(slot)

@@ -9,7 +9,7 @@ use Rattle.whole.specs.Digits.{isDigit, valueFrom}
 use Rattle.words.specs.Spellings.{sameBytes, meaning}
 use Rattle.words.specs.Classes.{capitalOf, isLetter, isHex, hexDigit, signs, pairs, classOf}
 use Rattle.words.specs.Vocabulary.{reserved}
-use Rattle.words.specs.Names.{tellingOf}
+use Rattle.words.specs.Names.{telling, tellingOf}
 use Rattle.scanner.specs.Tokens.{markOf, wordToken, numberToken, hexFrom, hexToken, textToken, signToken, tokenAt}
 use Rattle.loader.specs.Lines.{Line, linesFrom, linesOf}
 use Rattle.grammar.specs.Functions.{formFor, anyFor}
@@ -66,7 +66,7 @@ texts =
     ∷ []
 
 pub texts-hold : map (λ (e : Example). map seen (stands (linesOf (bytes (e .text))))) texts ≡ map (λ (e : Example). e .has) texts
-unfolding texts bytes leading isDigit valueFrom sameBytes meaning capitalOf isLetter isHex hexDigit signs pairs classOf reserved tellingOf markOf wordToken numberToken hexFrom hexToken textToken signToken tokenAt linesFrom formFor anyFor countOf formulaAt climbAt operandAt argumentsAt formulaOf depthOf deepestOf itemsAt printAt forAt inputAt begunAt partAt readLine deepest partsOf heads deepestIn placed stands
+unfolding texts bytes leading isDigit valueFrom sameBytes meaning capitalOf isLetter isHex hexDigit signs pairs classOf reserved telling tellingOf markOf wordToken numberToken hexFrom hexToken textToken signToken tokenAt linesFrom formFor anyFor countOf formulaAt climbAt operandAt argumentsAt formulaOf depthOf deepestOf itemsAt printAt forAt inputAt begunAt partAt readLine deepest partsOf heads deepestIn placed stands
 texts-hold = refl
 
 -- ---- the NEXT of a FOR that stands at a place of the first line
@@ -102,5 +102,5 @@ pairings =
     ∷ []
 
 pub pairings-hold : map (λ (e : Pair). foundAs (nextFor (e .place) (linesOf (bytes (e .text))))) pairings ≡ map (λ (e : Pair). e .next) pairings
-unfolding pairings bytes leading isDigit valueFrom sameBytes meaning capitalOf isLetter isHex hexDigit signs pairs classOf reserved tellingOf markOf wordToken numberToken hexFrom hexToken textToken signToken tokenAt linesFrom formFor anyFor countOf formulaAt climbAt operandAt argumentsAt formulaOf depthOf deepestOf itemsAt printAt forAt inputAt begunAt partAt readLine deepest partsOf heads deepestIn placed stands beyond later partner
+unfolding pairings bytes leading isDigit valueFrom sameBytes meaning capitalOf isLetter isHex hexDigit signs pairs classOf reserved telling tellingOf markOf wordToken numberToken hexFrom hexToken textToken signToken tokenAt linesFrom formFor anyFor countOf formulaAt climbAt operandAt argumentsAt formulaOf depthOf deepestOf itemsAt printAt forAt inputAt begunAt partAt readLine deepest partsOf heads deepestIn placed stands beyond later partner
 pairings-hold = refl

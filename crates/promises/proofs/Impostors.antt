@@ -13,7 +13,7 @@ use Rattle.whole.specs.Texts.{places, trimmed, digitByte, numeral, signedNumera
 use Rattle.words.specs.Spellings.{sameBytes, meaning}
 use Rattle.words.specs.Classes.{capitalOf, isLetter, isHex, hexDigit, signs, pairs, classOf}
 use Rattle.words.specs.Vocabulary.{reserved}
-use Rattle.words.specs.Names.{tellingOf}
+use Rattle.words.specs.Names.{telling, tellingOf}
 use Rattle.scanner.specs.Tokens.{markOf, wordToken, numberToken, hexFrom, hexToken, textToken, signToken, tokenAt}
 use Rattle.loader.specs.Lines.{linesFrom, numberOf, fromNumber}
 use Rattle.loader.specs.Loading.{isPlain, numbered, judged, loadLines, loadOf}
@@ -35,7 +35,7 @@ witness = bytes "10 GOTO 20"
 
 -- its run ends in 8
 witness-fails : endsWell (runOf witness [] (lending 0) 1 .ending) ≡ false
-unfolding witness bytes leading isDigit valueFrom sameBytes meaning capitalOf isLetter isHex hexDigit signs pairs classOf reserved tellingOf markOf wordToken numberToken hexFrom hexToken textToken signToken tokenAt linesFrom numberOf isPlain numbered judged loadLines loadOf formFor anyFor countOf formulaAt climbAt operandAt argumentsAt formulaOf depthOf deepestOf itemsAt printAt forAt inputAt begunAt partAt readLine deepest partsOf heads deepestIn signedValue num fit places trimmed digitByte numeral signedNumeral fromNumber make letGo letAllGo produced wordOf bytesOf stringBytes argument startsWith found placeOf isBefore wantAt valueOf valuesOf hasNumber hasString setNumber setString columnAfter write printItems sought passed enter running runOf
+unfolding witness bytes leading isDigit valueFrom sameBytes meaning capitalOf isLetter isHex hexDigit signs pairs classOf reserved telling tellingOf markOf wordToken numberToken hexFrom hexToken textToken signToken tokenAt linesFrom numberOf isPlain numbered judged loadLines loadOf formFor anyFor countOf formulaAt climbAt operandAt argumentsAt formulaOf depthOf deepestOf itemsAt printAt forAt inputAt begunAt partAt readLine deepest partsOf heads deepestIn signedValue num fit places trimmed digitByte numeral signedNumeral fromNumber make letGo letAllGo produced wordOf bytesOf stringBytes argument startsWith found placeOf isBefore wantAt valueOf valuesOf hasNumber hasString setNumber setString columnAfter write printItems sought passed enter running runOf
 witness-fails = refl
 
 pub passing-everything-falls : passingEverythingFalls

@@ -3,7 +3,6 @@ use mathlib.Core.Path.{_≡_, refl}
 use mathlib.Core.Bool.{Bool, true, false, false≢true}
 use mathlib.Core.List.{List, [], _∷_}
 use Prim.Native.Nat.{ℕ, zero, suc, _+_}
-use borrow.Author.Tests.{eq-eqb}
 use lib.Dec.{ltb, leb, eqb}
 use lib.IntN.{ℤ, pos, negsuc}
 use lib.ListN.{length}
@@ -13,15 +12,15 @@ use Rattle.whole.specs.Whole.{fit, applied}
 use Rattle.whole.specs.declared.arithmetic.Answer.{Answer}
 use Rattle.whole.specs.declared.arithmetic.Answer.the-variants as answer
 use Rattle.whole.specs.declared.arithmetic.Operator.the-variants.{Add}
-use Rattle.words.specs.Names.{alike}
+use Rattle.words.specs.Names.{Telling, alike}
 use Rattle.words.specs.declared.names.Kind.{Kind}
 use Rattle.words.specs.declared.names.Kind.the-variants as kind
-use Rattle.words.specs.declared.names.Telling.{Telling}
 use Rattle.words.specs.declared.places.LineNumber.{LineNumber}
 use Rattle.words.proofs.Choices.{by-test}
 use Rattle.loader.specs.Lines.{Line, linesOf, fromNumber, nextLine}
 use Rattle.grammar.specs.Trees as tree
 use Rattle.grammar.specs.Trees.{Formula, Variable, Item, Statement}
+use Rattle.variables.proofs.Names.{alike-self}
 use Rattle.variables.specs.Strings.{Value, whole, text, Outcome, value, fault, make}
 use Rattle.variables.specs.Variables.{NumberVariable, wordOf, setNumber, hasNumber, numbersFull, stringsFull}
 use Rattle.operators.specs.Values.{valueOf}
@@ -39,9 +38,6 @@ use Rattle.promises.proofs.Loops.{looped}
 
 -- ---- variables
 
-alike-same : (name : Telling) → alike name name ≡ true
-alike-same name = rw (eq-eqb (name .first) (name .first) refl, eq-eqb (name .second) (name .second) refl)
-
 -- a variable that is there stays,
 number-stays : (vs : List NumberVariable) (name : Telling) (w : ℕ) (u : Telling) → hasNumber vs u ≡ true → hasNumber (setNumber vs name w) u ≡ true
 unfolding hasNumber setNumber
@@ -56,7 +52,7 @@ number-stays (v ∷ vs) name w u e =
 -- and one that is set is there
 number-made : (vs : List NumberVariable) (name : Telling) (w : ℕ) → hasNumber (setNumber vs name w) name ≡ true
 unfolding hasNumber setNumber
-number-made [] name w = rw (alike-same name)
+number-made [] name w = rw (alike-self name)
 number-made (v ∷ vs) name w =
     by-test (alike (v .name) name) (λ t. rw t (rw t)) (λ t. rw t (rw t (number-made vs name w)))
 

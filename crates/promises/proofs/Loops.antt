@@ -1,7 +1,7 @@
 -- What a FOR does once its variable is set and an older loop of it is dropped.
 use mathlib.Core.Bool.{cond}
 use Prim.Native.Nat.{ℕ}
-use Rattle.words.specs.declared.names.Telling.{Telling}
+use Rattle.words.specs.Names.{Telling}
 use Rattle.machine.specs.Machine.{Position, loop, Machine, passed}
 use Rattle.machine.specs.Order.{nextFor}
 use Rattle.turns.specs.Steps.{Next, goesOn, pushed, cleared, skipped}

@@ -4,18 +4,18 @@ use mathlib.Core.Bool.{true, false, _&&_}
 use mathlib.Core.List.{List, [], _∷_, _++_, map}
 use Prim.Native.Nat.{ℕ, _+_, _≤_}
 use native.Mathlib.Omega.{arith}
-use borrow.Author.Tests.{le-leb, lt-leb, leb-true, eq-eqb}
+use borrow.Author.Tests.{le-leb, lt-leb, leb-true}
 use lib.Dec.{leb, ltb}
 use lib.ListN.{length}
 use Rattle.whole.proofs.Never.{never}
 use Rattle.whole.specs.Digits.{isDigit}
 use Rattle.words.specs.Spellings.{meaning}
 use Rattle.words.specs.Classes.{capitalOf, isLetter, isHex, hexDigit, classOf}
-use Rattle.words.specs.Names.{tellingOf, alike}
+use Rattle.words.specs.Names.{Telling, telling, tellingOf, alike}
 use Rattle.words.specs.Vocabulary.{reserved}
-use Rattle.words.specs.declared.names.Telling.{Telling}
 use Rattle.words.specs.declared.vocabulary.WordFound.the-variants.{Free}
 use Rattle.words.proofs.Choices.{by-test, both}
+use Rattle.variables.proofs.Names.{alike-self}
 use Rattle.variables.specs.Strings.{text, Room, value}
 use Rattle.variables.specs.Variables.{StringVariable, bytesOf, setString}
 use Rattle.machine.specs.Machine.{Machine, roomOf, noting, withOutput, columnAfter, Printed, full, printed, write}
@@ -93,9 +93,7 @@ digits b =
 
 names : (letters : List ℕ) → tellingOf (map capitalOf letters) ≡ tellingOf letters
 unfolding tellingOf
-names [] = refl
-names (a ∷ []) = rw (capital-twice a)
-names (a ∷ b ∷ s) = rw (capital-twice a, capital-twice b)
+names letters = ap telling (capitals-twice letters)
 
 pub letters-are-folded : lettersAreFolded
 letters-are-folded = record {
@@ -130,7 +128,7 @@ printed-items-are-let-go f m n v room e w =
 -- a variable that is set reads as what it was set to
 set-reads : (vs : List StringVariable) (name : Telling) (b : List ℕ) → bytesOf (setString vs name b) name ≡ b
 unfolding bytesOf setString
-set-reads [] name b = rw (eq-eqb (name .first) (name .first) refl, eq-eqb (name .second) (name .second) refl)
+set-reads [] name b = rw (alike-self name)
 set-reads (v ∷ vs) name b = by-test (alike (v .name) name) (λ t. rw t (rw t)) (λ t. rw t (rw t (set-reads vs name b)))
 
 pub assignment-hands-over : assignmentHandsOver

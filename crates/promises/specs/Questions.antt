@@ -5,11 +5,10 @@ use mathlib.Core.Bool.{false, cond}
 use mathlib.Core.List.{List, _++_}
 use Prim.Native.Nat.{ℕ, _≤_}
 use lib.ListN.{length}
-use Rattle.words.specs.Names.{nameBytes, tellingOf}
+use Rattle.words.specs.Names.{Telling, nameBytes, tellingOf}
 use Rattle.words.specs.Places.{place}
 use Rattle.words.specs.declared.names.Kind.{Kind}
 use Rattle.words.specs.declared.names.Kind.the-variants as kind
-use Rattle.words.specs.declared.names.Telling.{Telling}
 use Rattle.scanner.specs.Tokens.{tokenAt}
 use Rattle.grammar.specs.Tests.{onName}
 use Rattle.variables.specs.Variables.{Variables, wordOf, bytesOf, joinedStrings, mostVariables}

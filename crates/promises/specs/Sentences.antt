@@ -5,9 +5,8 @@ use mathlib.Core.List.{List, map}
 use Prim.Native.Nat.{ℕ, _+_}
 use lib.ListN.{length}
 use Rattle.words.specs.Classes.{capitalOf, isHex, hexDigit, classOf}
-use Rattle.words.specs.Names.{tellingOf}
+use Rattle.words.specs.Names.{Telling, tellingOf}
 use Rattle.words.specs.Vocabulary.{wordOf}
-use Rattle.words.specs.declared.names.Telling.{Telling}
 use Rattle.grammar.specs.Trees.{Formula}
 use Rattle.variables.specs.Strings.{Value, text, Room, value}
 use Rattle.variables.specs.Variables.{bytesOf}

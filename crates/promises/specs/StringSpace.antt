@@ -8,7 +8,7 @@ use Rattle.whole.specs.declared.arithmetic.Operator.{Operator}
 use Rattle.whole.specs.declared.arithmetic.Operator.the-variants.{Add}
 use Rattle.whole.specs.Texts.{longestString}
 use Rattle.words.specs.declared.names.Kind.the-variants as kind
-use Rattle.words.specs.declared.names.Telling.{Telling}
+use Rattle.words.specs.Names.{Telling}
 use Rattle.words.specs.declared.places.LineNumber.{LineNumber}
 use Rattle.words.specs.declared.symbols.Function.{Function}
 use Rattle.loader.specs.Lines.{Line, linesOf}

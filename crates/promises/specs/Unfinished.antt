@@ -3,7 +3,7 @@ use mathlib.Core.Path.{_≡_}
 use mathlib.Core.List.{List, [], _∷_}
 use Prim.Native.Nat.{ℕ, _+_, _≤_}
 use lib.ListN.{length}
-use Rattle.words.specs.declared.names.Telling.{Telling}
+use Rattle.words.specs.Names.{Telling}
 use Rattle.grammar.specs.Trees.{Formula, Arguments}
 use Rattle.grammar.specs.declared.wanting.Want.{Want}
 use Rattle.variables.specs.Strings.{Value, whole, text, Room, Outcome, value, fault}

@@ -10,7 +10,7 @@ use Rattle.words.specs.Places.{place}
 use Rattle.words.specs.Spellings.{sameBytes, meaning}
 use Rattle.words.specs.Classes.{capitalOf, isLetter, isHex, hexDigit, signs, pairs, classOf}
 use Rattle.words.specs.Vocabulary.{reserved}
-use Rattle.words.specs.Names.{tellingOf}
+use Rattle.words.specs.Names.{telling, tellingOf}
 use Rattle.words.specs.declared.symbols.Token.the-variants.{EndOfLine}
 use Rattle.scanner.specs.Tokens.{markOf, wordToken, numberToken, hexFrom, hexToken, textToken, signToken, tokenAt, _upto_}
 use Rattle.grammar.specs.Trees.{number, twoSided}
@@ -81,12 +81,12 @@ lines =
     ∷ []
 
 pub lines-hold : map (λ (e : Example). judgedOf (bytes (e .line))) lines ≡ map (λ (e : Example). e .judged) lines
-unfolding lines bytes leading isDigit valueFrom sameBytes meaning capitalOf isLetter isHex hexDigit signs pairs classOf reserved tellingOf markOf wordToken numberToken hexFrom hexToken textToken signToken tokenAt formFor anyFor countOf formulaAt climbAt operandAt argumentsAt formulaOf allMeet sortOf sortsOf depthOf deepestOf itemsAt printAt forAt inputAt begunAt partAt readLine deepest allSome partsOf heads deepestIn allTyped
+unfolding lines bytes leading isDigit valueFrom sameBytes meaning capitalOf isLetter isHex hexDigit signs pairs classOf reserved telling tellingOf markOf wordToken numberToken hexFrom hexToken textToken signToken tokenAt formFor anyFor countOf formulaAt climbAt operandAt argumentsAt formulaOf allMeet sortOf sortsOf depthOf deepestOf itemsAt printAt forAt inputAt begunAt partAt readLine deepest allSome partsOf heads deepestIn allTyped
 lines-hold = refl
 
 -- ---- operators group to the left, and `*` is tighter than `-`
 
 pub grouped : formulaOf (bytes "9-5-2*3") (tokenAt (bytes "9-5-2*3") (place 0))
     ≡ good (twoSided Subtract (twoSided Subtract (number 9) (number 5)) (twoSided Multiply (number 2) (number 3))) (EndOfLine upto 7)
-unfolding bytes leading isDigit valueFrom sameBytes meaning capitalOf isLetter isHex hexDigit signs pairs classOf reserved tellingOf markOf wordToken numberToken hexFrom hexToken textToken signToken tokenAt formulaAt climbAt operandAt argumentsAt formulaOf
+unfolding bytes leading isDigit valueFrom sameBytes meaning capitalOf isLetter isHex hexDigit signs pairs classOf reserved telling tellingOf markOf wordToken numberToken hexFrom hexToken textToken signToken tokenAt formulaAt climbAt operandAt argumentsAt formulaOf
 grouped = refl

@@ -3,7 +3,7 @@ use mathlib.Core.Path.{_≡_, refl, sym, _∙_}
 use Rattle.whole.specs.declared.errors.Error.the-variants.{OutOfStringSpace}
 use Rattle.words.specs.declared.names.Kind.{Kind}
 use Rattle.words.specs.declared.names.Kind.the-variants as kind
-use Rattle.words.specs.declared.names.Telling.{Telling}
+use Rattle.words.specs.Names.{Telling}
 use Rattle.words.proofs.Choices.{by-test}
 use Rattle.grammar.specs.Trees.{Formula, Variable}
 use Rattle.variables.specs.Strings.{Value, whole, text, Room, Outcome, value, fault}

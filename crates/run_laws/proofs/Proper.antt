@@ -19,10 +19,9 @@ use Rattle.whole.specs.declared.arithmetic.Answer.the-variants.{Whole, Fault}
 use Rattle.whole.specs.declared.arithmetic.Operator.{Operator}
 use Rattle.whole.specs.declared.arithmetic.Operator.the-variants as operator
 use Rattle.whole.specs.declared.errors.Error.the-variants.{DivisionByZero}
-use Rattle.words.specs.Names.{alike}
+use Rattle.words.specs.Names.{Telling, alike}
 use Rattle.words.specs.Spellings.{sameBytes}
 use Rattle.words.specs.declared.names.Kind.the-variants as kind
-use Rattle.words.specs.declared.names.Telling.{Telling}
 use Rattle.words.specs.declared.symbols.Function.{Function}
 use Rattle.words.specs.declared.symbols.Function.the-variants as function
 use Rattle.words.proofs.Choices.{by-test, both}

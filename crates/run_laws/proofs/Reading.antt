@@ -13,7 +13,8 @@ use Rattle.whole.specs.Digits.{isDigit, leadingValue, blanksOf}
 use Rattle.whole.specs.Texts.{longestString}
 use Rattle.whole.proofs.Numbers.{less}
 use Rattle.words.specs.Classes.{capitalOf, isHex, hexDigit, signs, pairs, signOf, pairOf, classOf}
-use Rattle.words.specs.Places.{largestLineNumber}
+use Rattle.words.specs.Names.{nameWidth}
+use Rattle.words.specs.Places.{largestLineNumber, furthest}
 use Rattle.words.specs.Vocabulary.{reserved, wordOf}
 use Rattle.words.specs.declared.classes.ByteClass.{ByteClass}
 use Rattle.words.specs.declared.classes.ByteClass.the-variants.{Letter, Digit, Blank, Sign, Quote, Other}
@@ -107,7 +108,7 @@ marked-proper (Dollared t) Dollar i n end e = table-proper t e
 marked-proper (Dollared t) Percent i n end e = tt
 marked-proper (Dollared t) Bare i n end e = tt
 marked-proper Remark m i n end e = tt
-marked-proper Free m i n end e = tt
+marked-proper Free m i n end e = by-test (leb n nameWidth && leb i furthest) (λ t. rw t tt) (λ t. rw t tt)
 
 word-proper : (end i : ℕ) (s : List ℕ) → ProperToken (wordToken end i s .token)
 unfolding wordToken reserved every
@@ -171,7 +172,9 @@ hex-proper i s =
 
 text-proper : (i : ℕ) (s : List ℕ) → ProperToken (textToken i s .token)
 unfolding textToken
-text-proper i s = by-test (ltb (1 + length (leading (passes run.Unquoted) (drop 1 s))) (length s)) (λ e. rw e tt) (λ e. rw e tt)
+text-proper i s =
+    let n = length (leading (passes run.Unquoted) (drop 1 s)) in
+    by-test (ltb (1 + n) (length s) && leb (i + 1 + n) furthest) (λ e. rw e tt) (λ e. rw e tt)
 
 other-proper : (end i : ℕ) (s : List ℕ) → ProperToken (otherToken end i s .token)
 other-proper end i s =
@@ -240,8 +243,8 @@ module _ (s : List ℕ) (short : length s ≤ longestString) (plain : Bytes s) w
     operand-at (suc n) level (Hexadecimal v) next p = (p, token-proper s next)
     operand-at (suc n) level (Named v) next p = (tt, token-proper s next)
     operand-at (suc n) level (Quoted q) next p =
-        let from = drop (q .at .0) s in
-        ((omega (arith, length-take (q .len) from, length-drop (q .at .0) s), take-bytes (q .len) from (drop-bytes (q .at .0) s plain)), token-proper s next)
+        let from = drop (q .at) s in
+        ((omega (arith, length-take (q .len) from, length-drop (q .at) s), take-bytes (q .len) from (drop-bytes (q .at) s plain)), token-proper s next)
     operand-at (suc n) level (Symbol Open) next p = closed-proper s (formulaAt n s 0 (tokenAt s next)) (formula-at n 0 (tokenAt s next) (token-proper s next))
     operand-at (suc n) level (Symbol Close) next p = tt
     operand-at (suc n) level (Symbol Comma) next p = tt

@@ -27,8 +27,9 @@ use Rattle.machine.specs.bridge.Holding.{variablesOf, Settled, Sound, Same, Sta
 use Rattle.machine.specs.declared.records.Record.{Record}
 use Rattle.runner.specs.Run as run
 use Rattle.runner.specs.Run.{endsWith, isRefused, tablesOf, answerOf, spaceAfter, roomAfter, runOf}
-use Rattle.runner.specs.bridge.Endings.{runIn, endedAs, RanAs, refusedAs, beforeOf}
+use Rattle.runner.specs.bridge.Endings.{runIn, ranOf, lentTables, endedAs, RanAs, refusedAs, beforeOf}
 use Rattle.runner.specs.declared.running.Before.{Before}
+use Rattle.runner.specs.declared.running.Done.{Done}
 use Rattle.runner.specs.declared.running.Outcome.{Outcome}
 use Rattle.runner.specs.declared.running.Outcome.the-variants.{Refused}
 use Rattle.runner.specs.declared.running.Ran.{Ran}
@@ -88,16 +89,21 @@ before-fine text space is f = fine-by (length space) (loadOf text) (rw is at f)
 abbrev Met : run.Ran → Tables → List ℕ → List ℕ → Ran → List ℕ → List ℕ → Type 0
 Met ran tables space room r space′ room′ = (r ≡ answerOf ran tables) × ((space′ ≡ spaceAfter ran space) × (room′ ≡ roomAfter ran room))
 
-module _ (text input space room : List ℕ) (budget : ℕ) (tables : Tables) where
+-- with tables that are lent
+module _ (text input space room : List ℕ) (budget : ℕ) (names words labels lengths : List ℕ) where
   abbrev whole : run.Ran
   whole = runOf text input (lentBy space room) budget
 
+  abbrev given : Tables
+  given = lentTables names words labels lengths
+
   refused-as : {f : Refusal} {p : Place} → whole ≡ endsWith (Refused f p) (spec.fresh input (lentBy space room))
-      → {r : Ran} → r ≡ refusedAs f p tables → Met whole tables space room r space room
-  refused-as e a = rw e (a, (refl, refl))
+      → {d : Done} → d ≡ refusedAs f p → Met whole given space room (ranOf d names words labels lengths) space room
+  refused-as e a = rw e (ap (λ d. ranOf d names words labels lengths) a, (refl, refl))
 
   refused-by : (l : Loaded) → loadOf text ≡ l → beforeOf (length space) l .fine ≡ false
-      → {r : Ran} → r ≡ refusedAs (beforeOf (length space) l .refusal) (beforeOf (length space) l .place) tables → Met whole tables space room r space room
+      → {d : Done} → d ≡ refusedAs (beforeOf (length space) l .refusal) (beforeOf (length space) l .place)
+      → Met whole given space room (ranOf d names words labels lengths) space room
   unfolding runOf
   refused-by loaded.Fine e f a =
       by-test (ltb longestSpace (length space)) (λ t. refused-as (rw t) (rw t at a)) (λ t. absurd (false≢true (sym (rw t at f))))
@@ -106,12 +112,27 @@ module _ (text input space room : List ℕ) (budget : ℕ) (tables : Tables) whe
 
   module _ {b : Before} (is : b ≡ beforeOf (length space) (loadOf text)) where
     -- what is refused is answered so,
-    pub run-refused : b .fine ≡ false → {r : Ran} → r ≡ refusedAs (b .refusal) (b .place) tables → Met whole tables space room r space room
+    pub run-refused : b .fine ≡ false → {d : Done} → d ≡ refusedAs (b .refusal) (b .place)
+        → Met whole given space room (ranOf d names words labels lengths) space room
     run-refused f a = refused-by (loadOf text) refl (rw is at f) (rw is at a)
 
     -- and all else is run
     pub run-fine : b .fine ≡ true → {r : Ran} {space′ room′ : List ℕ} → RanAs (runIn text input (lentBy space room) budget) space room r space′ room′
-        → Met whole tables space room r space′ room′
+        → Met whole given space room r space′ room′
     unfolding runOf
     run-fine f a =
-        let e = before-fine text space is f in rw (le-ltb longestSpace (length space) (e .1), e .0) (a .answers tables, (a .spaced, a .roomy))
+        let e = before-fine text space is f in rw (le-ltb longestSpace (length space) (e .1), e .0) (a .answers given, (a .spaced, a .roomy))
+
+-- and with tables that are handed over: a refused run hands them back, and any other those that it made
+module _ (ran : run.Ran) (lent tables : Tables) (d : Done) (names words labels lengths : List ℕ) (is : ranOf d names words labels lengths ≡ answerOf ran lent) where
+  refused-with : isRefused (d .outcome) ≡ true → isRefused (ran .ending) ≡ true
+  refused-with e = sym (ap (λ r. isRefused (r .outcome)) is) ∙ e
+
+  pub handed-back : isRefused (d .outcome) ≡ true
+      → record { outcome = d .outcome; steps = d .steps; written = d .written; taken = d .taken; tables = tables } ≡ answerOf ran tables
+  handed-back e =
+      rw (ap (λ r. r .outcome) is, ap (λ r. r .steps) is, ap (λ r. r .written) is, ap (λ r. r .taken) is, refused-with e)
+
+  pub made-anew : isRefused (d .outcome) ≡ false → ranOf d names words labels lengths ≡ answerOf ran tables
+  made-anew e =
+      let f : isRefused (ran .ending) ≡ false = sym (ap (λ r. isRefused (r .outcome)) is) ∙ e in is ∙ rw f

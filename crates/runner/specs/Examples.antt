@@ -11,7 +11,7 @@ use Rattle.whole.specs.declared.errors.Error.the-variants.{NextWithoutFor, Over
 use Rattle.words.specs.Spellings.{sameBytes, meaning}
 use Rattle.words.specs.Classes.{capitalOf, isLetter, isHex, hexDigit, signs, pairs, classOf}
 use Rattle.words.specs.Vocabulary.{reserved}
-use Rattle.words.specs.Names.{tellingOf}
+use Rattle.words.specs.Names.{telling, tellingOf}
 use Rattle.words.specs.Places.{lineNumber}
 use Rattle.scanner.specs.Tokens.{markOf, wordToken, numberToken, hexFrom, hexToken, textToken, signToken, tokenAt}
 use Rattle.loader.specs.Lines.{linesFrom, numberOf, fromNumber}
@@ -78,7 +78,7 @@ examples =
     ∷ []
 
 pub examples-hold : map (λ (e : Example). summed (runOf (bytes (e .recipe)) [] (lending (e .space)) 1000)) examples ≡ map (λ (e : Example). e .run) examples
-unfolding examples bytes leading isDigit valueFrom sameBytes meaning capitalOf isLetter isHex hexDigit signs pairs classOf reserved tellingOf markOf wordToken numberToken hexFrom hexToken textToken signToken tokenAt linesFrom numberOf isPlain numbered judged loadLines loadOf formFor anyFor countOf formulaAt climbAt operandAt argumentsAt formulaOf depthOf deepestOf itemsAt printAt forAt inputAt begunAt partAt readLine deepest partsOf heads deepestIn signedValue num fit places trimmed digitByte numeral signedNumeral fromNumber make letGo letAllGo produced wordOf bytesOf stringBytes argument startsWith found placeOf isBefore wantAt valueOf valuesOf hasNumber hasString setNumber setString columnAfter write printItems sought passed enter running runOf joinedStrings
+unfolding examples bytes leading isDigit valueFrom sameBytes meaning capitalOf isLetter isHex hexDigit signs pairs classOf reserved telling tellingOf markOf wordToken numberToken hexFrom hexToken textToken signToken tokenAt linesFrom numberOf isPlain numbered judged loadLines loadOf formFor anyFor countOf formulaAt climbAt operandAt argumentsAt formulaOf depthOf deepestOf itemsAt printAt forAt inputAt begunAt partAt readLine deepest partsOf heads deepestIn signedValue num fit places trimmed digitByte numeral signedNumeral fromNumber make letGo letAllGo produced wordOf bytesOf stringBytes argument startsWith found placeOf isBefore wantAt valueOf valuesOf hasNumber hasString setNumber setString columnAfter write printItems sought passed enter running runOf joinedStrings
 examples-hold = refl
 
 -- a FOR whose start is past its limit (document 02, M-102)
@@ -99,7 +99,7 @@ skippedLoops =
 
 pub skipped-loops-hold : map (λ (e : Example). summed (runOf (bytes (e .recipe)) [] (lending (e .space)) 1000)) skippedLoops
     ≡ map (λ (e : Example). e .run) skippedLoops
-unfolding skippedLoops bytes leading isDigit valueFrom sameBytes meaning capitalOf isLetter isHex hexDigit signs pairs classOf reserved tellingOf markOf wordToken numberToken hexFrom hexToken textToken signToken tokenAt linesFrom numberOf isPlain numbered judged loadLines loadOf formFor anyFor countOf formulaAt climbAt operandAt argumentsAt formulaOf depthOf deepestOf itemsAt printAt forAt inputAt begunAt partAt readLine deepest partsOf heads deepestIn signedValue num fit places trimmed digitByte numeral signedNumeral fromNumber make letGo letAllGo produced wordOf bytesOf stringBytes argument startsWith found placeOf isBefore wantAt valueOf valuesOf hasNumber hasString setNumber setString columnAfter write printItems sought passed enter running runOf joinedStrings beyond placed stands later partner
+unfolding skippedLoops bytes leading isDigit valueFrom sameBytes meaning capitalOf isLetter isHex hexDigit signs pairs classOf reserved telling tellingOf markOf wordToken numberToken hexFrom hexToken textToken signToken tokenAt linesFrom numberOf isPlain numbered judged loadLines loadOf formFor anyFor countOf formulaAt climbAt operandAt argumentsAt formulaOf depthOf deepestOf itemsAt printAt forAt inputAt begunAt partAt readLine deepest partsOf heads deepestIn signedValue num fit places trimmed digitByte numeral signedNumeral fromNumber make letGo letAllGo produced wordOf bytesOf stringBytes argument startsWith found placeOf isBefore wantAt valueOf valuesOf hasNumber hasString setNumber setString columnAfter write printItems sought passed enter running runOf joinedStrings beyond placed stands later partner
 skipped-loops-hold = refl
 
 -- WHILE and WEND (document 02, M-100)
@@ -122,7 +122,7 @@ repeatedLoops =
 
 pub repeated-loops-hold : map (λ (e : Example). summed (runOf (bytes (e .recipe)) [] (lending (e .space)) 1000)) repeatedLoops
     ≡ map (λ (e : Example). e .run) repeatedLoops
-unfolding repeatedLoops bytes leading isDigit valueFrom sameBytes meaning capitalOf isLetter isHex hexDigit signs pairs classOf reserved tellingOf markOf wordToken numberToken hexFrom hexToken textToken signToken tokenAt linesFrom numberOf isPlain numbered judged loadLines loadOf formFor anyFor countOf formulaAt climbAt operandAt argumentsAt formulaOf depthOf deepestOf itemsAt printAt forAt inputAt begunAt partAt readLine deepest partsOf heads deepestIn signedValue num fit places trimmed digitByte numeral signedNumeral fromNumber make letGo letAllGo produced wordOf bytesOf stringBytes argument startsWith found placeOf isBefore wantAt valueOf valuesOf hasNumber hasString setNumber setString columnAfter write printItems sought passed enter running runOf joinedStrings beyond placed stands later partner
+unfolding repeatedLoops bytes leading isDigit valueFrom sameBytes meaning capitalOf isLetter isHex hexDigit signs pairs classOf reserved telling tellingOf markOf wordToken numberToken hexFrom hexToken textToken signToken tokenAt linesFrom numberOf isPlain numbered judged loadLines loadOf formFor anyFor countOf formulaAt climbAt operandAt argumentsAt formulaOf depthOf deepestOf itemsAt printAt forAt inputAt begunAt partAt readLine deepest partsOf heads deepestIn signedValue num fit places trimmed digitByte numeral signedNumeral fromNumber make letGo letAllGo produced wordOf bytesOf stringBytes argument startsWith found placeOf isBefore wantAt valueOf valuesOf hasNumber hasString setNumber setString columnAfter write printItems sought passed enter running runOf joinedStrings beyond placed stands later partner
 repeated-loops-hold = refl
 
 -- eight functions in one another, a comparison and a `+` waiting at each: 28 unfinished strings, the most that there can be
@@ -130,5 +130,5 @@ pub nested : String
 nested = "10 A$=\"B\":B$=\"A\"\n20 N=A$<B$+LEFT$(A$,A$<B$+LEFT$(A$,A$<B$+LEFT$(A$,A$<B$+LEFT$(A$,A$<B$+LEFT$(A$,A$<B$+LEFT$(A$,A$<B$+LEFT$(A$,A$<B$+LEFT$(A$,A$<B$+B$))))))))"
 
 pub nested-highest : (runOf (bytes nested) [] (lending 1000) 1000) .machine .highest ≡ 28
-unfolding nested bytes leading isDigit valueFrom sameBytes meaning capitalOf isLetter isHex hexDigit signs pairs classOf reserved tellingOf markOf wordToken numberToken hexFrom hexToken textToken signToken tokenAt linesFrom numberOf isPlain numbered judged loadLines loadOf formFor anyFor countOf formulaAt climbAt operandAt argumentsAt formulaOf depthOf deepestOf itemsAt printAt forAt inputAt begunAt partAt readLine deepest partsOf heads deepestIn signedValue num fit places trimmed digitByte numeral signedNumeral fromNumber make letGo letAllGo produced wordOf bytesOf stringBytes argument startsWith found placeOf isBefore wantAt valueOf valuesOf hasNumber hasString setNumber setString columnAfter write printItems sought passed enter running runOf joinedStrings
+unfolding nested bytes leading isDigit valueFrom sameBytes meaning capitalOf isLetter isHex hexDigit signs pairs classOf reserved telling tellingOf markOf wordToken numberToken hexFrom hexToken textToken signToken tokenAt linesFrom numberOf isPlain numbered judged loadLines loadOf formFor anyFor countOf formulaAt climbAt operandAt argumentsAt formulaOf depthOf deepestOf itemsAt printAt forAt inputAt begunAt partAt readLine deepest partsOf heads deepestIn signedValue num fit places trimmed digitByte numeral signedNumeral fromNumber make letGo letAllGo produced wordOf bytesOf stringBytes argument startsWith found placeOf isBefore wantAt valueOf valuesOf hasNumber hasString setNumber setString columnAfter write printItems sought passed enter running runOf joinedStrings
 nested-highest = refl

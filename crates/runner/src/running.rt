@@ -6,9 +6,9 @@ ghost use Rattle.loader.specs.Loading.{loadOf};
 ghost use Rattle.loader.specs.declared.loading.Loaded.the-variants.{Fine};
 ghost use Rattle.rows.specs.bridge.Rows.{Tabled};
 ghost use Rattle.machine.specs.Machine.{lentBy, mostRecords};
-ghost use Rattle.runner.specs.Run.{runOf, answerOf, spaceAfter, roomAfter};
+ghost use Rattle.runner.specs.Run.{isRefused, runOf, answerOf, spaceAfter, roomAfter};
 ghost use Rattle.runner.specs.bridge.Acting.{LooksUp};
-ghost use Rattle.runner.specs.bridge.Endings.{runIn, ranOf, RanAs, Blank, refusedAs, beforeOf};
+ghost use Rattle.runner.specs.bridge.Endings.{runIn, ranOf, lentTables, RanAs, Blank, refusedAs, beforeOf};
 ghost use Rattle.variables.specs.Strings.{longestSpace};
 use crate::going::Lookup;
 use crate::going::act;
@@ -67,6 +67,19 @@ pub struct Done {
     pub taken: usize,
     pub numbers: usize,
     pub strings: usize,
+}
+
+// Whether a run was refused.
+pub fn is_refused(outcome: Outcome) -> bool
+    ensures { λ r. ⌜ r ≡ isRefused outcome ⌝ }
+{
+    match outcome {
+        Outcome::Ended => false,
+        Outcome::Stopped(_) => false,
+        Outcome::Out(_) => false,
+        Outcome::Failed(_, _) => false,
+        Outcome::Refused(_, _) => true,
+    }
 }
 
 // What is tested before a run: whether it goes, or why not.
@@ -144,51 +157,38 @@ fn run_loaded(
     told(rows, going, space)
 }
 
-// Each line is found and judged once; the variables' tables are the run's own, and lent down.
-fn run_fine(text: &[u8], input: &[u8], space: &mut [u8], room: &mut [u8], budget: u32) -> Ran
-    requires { ⌜ (loadOf (now text) ≡ Fine) × (length (now space) ≤ longestSpace) ⌝ }
+// Each line is found and judged once.
+fn run_fine(
+    text: &[u8],
+    input: &[u8],
+    space: &mut [u8],
+    room: &mut [u8],
+    budget: u32,
+    names: &mut NameTable,
+    words: &mut [u16; Tables::MOST],
+    labels: &mut NameTable,
+    lengths: &mut [u8; Tables::MOST],
+) -> Done
+    requires { ⌜ (loadOf (now text) ≡ Fine) × ((length (now space) ≤ longestSpace) × Blank (now names) (now words) (now labels) (now lengths)) ⌝ }
     ensures { λ r. ⌜
         RanAs (runIn (now (text .entry)) (now (input .entry)) (lentBy (now (space .entry)) (now (room .entry))) budget)
-        (now (space .entry)) (now (room .entry)) r (now (space .exit)) (now (room .exit))
+        (now (space .entry)) (now (room .entry)) (ranOf r (now (names .exit)) (now (words .exit)) (now (labels .exit)) (now (lengths .exit))) (now (space .exit)) (now (room .exit))
         ⌝ }
 {
     let mut rows = [0; Row::CELLS];
     make_rows(text, &mut rows);
-    let mut names = [0; Tables::NAMES];
-    let mut words = [0; Tables::MOST];
-    let mut labels = [0; Tables::NAMES];
-    let mut lengths = [0; Tables::MOST];
-    let done = run_loaded(
+    run_loaded(
         text,
         &rows,
-        &mut names,
-        &mut words,
-        &mut labels,
-        &mut lengths,
+        names,
+        words,
+        labels,
+        lengths,
         input,
         space,
         room,
         budget,
-    );
-    let outcome = done.outcome;
-    let numbers = Numbers {
-        names,
-        words,
-        count: done.numbers,
-    };
-    let strings = Strings {
-        names: labels,
-        lengths,
-        count: done.strings,
-    };
-    let tables = Tables { numbers, strings };
-    Ran {
-        outcome,
-        steps: done.steps,
-        written: done.written,
-        taken: done.taken,
-        tables,
-    }
+    )
 }
 
 // 106 is tested before 100 and the lines.
@@ -217,20 +217,62 @@ fn refusal_of(text: &[u8], space: usize) -> Before
 }
 
 // What a refused run answers: it changes nothing.
-fn refused(before: Before, tables: Tables) -> Ran
-    ensures { λ r. ⌜ r ≡ refusedAs (before .refusal) (before .place) tables ⌝ }
+fn refused(before: Before) -> Done
+    ensures { λ r. ⌜ r ≡ refusedAs (before .refusal) (before .place) ⌝ }
 {
     let refusal = before.refusal;
     let place = before.place;
-    Ran {
+    Done {
         outcome: Outcome::Refused(refusal, place),
         steps: 0,
         written: 0,
         taken: 0,
-        tables,
+        numbers: 0,
+        strings: 0,
     }
 }
 
+// A run over tables that are lent, whatever they hold: a refusal leaves them as they were.
+pub fn run_lent(
+    text: &[u8],
+    input: &[u8],
+    space: &mut [u8],
+    room: &mut [u8],
+    budget: u32,
+    names: &mut NameTable,
+    words: &mut [u16; Tables::MOST],
+    labels: &mut NameTable,
+    lengths: &mut [u8; Tables::MOST],
+) -> Done
+    ensures { λ r. ⌜
+        (ranOf r (now (names .exit)) (now (words .exit)) (now (labels .exit)) (now (lengths .exit))
+        ≡ answerOf (runOf (now (text .entry)) (now (input .entry)) (lentBy (now (space .entry)) (now (room .entry))) budget) (lentTables (now (names .entry)) (now (words .entry)) (now (labels .entry)) (now (lengths .entry))))
+        × ((now (space .exit) ≡ spaceAfter (runOf (now (text .entry)) (now (input .entry)) (lentBy (now (space .entry)) (now (room .entry))) budget) (now (space .entry)))
+        × (now (room .exit) ≡ roomAfter (runOf (now (text .entry)) (now (input .entry)) (lentBy (now (space .entry)) (now (room .entry))) budget) (now (room .entry))))
+        ⌝ }
+{
+    let before = refusal_of(text, space.len());
+    if !before.fine {
+        return refused(before);
+    }
+    *names = [0; Tables::NAMES];
+    *words = [0; Tables::MOST];
+    *labels = [0; Tables::NAMES];
+    *lengths = [0; Tables::MOST];
+    run_fine(
+        text,
+        input,
+        space,
+        room,
+        budget,
+        names,
+        words,
+        labels,
+        lengths,
+    )
+}
+
+// A run that is handed tables, and hands back those that it made; a refused one those that it was handed.
 pub fn run(
     text: &[u8],
     input: &[u8],
@@ -245,9 +287,46 @@ pub fn run(
         × (now (room .exit) ≡ roomAfter (runOf (now (text .entry)) (now (input .entry)) (lentBy (now (space .entry)) (now (room .entry))) budget) (now (room .entry))))
         ⌝ }
 {
-    let before = refusal_of(text, space.len());
-    if before.fine {
-        return run_fine(text, input, space, room, budget);
+    let mut names = [0; Tables::NAMES];
+    let mut words = [0; Tables::MOST];
+    let mut labels = [0; Tables::NAMES];
+    let mut lengths = [0; Tables::MOST];
+    let done = run_lent(
+        text,
+        input,
+        space,
+        room,
+        budget,
+        &mut names,
+        &mut words,
+        &mut labels,
+        &mut lengths,
+    );
+    let outcome = done.outcome;
+    if is_refused(outcome) {
+        return Ran {
+            outcome,
+            steps: done.steps,
+            written: done.written,
+            taken: done.taken,
+            tables,
+        };
     }
-    refused(before, tables)
+    let numbers = Numbers {
+        names,
+        words,
+        count: done.numbers,
+    };
+    let strings = Strings {
+        names: labels,
+        lengths,
+        count: done.strings,
+    };
+    Ran {
+        outcome,
+        steps: done.steps,
+        written: done.written,
+        taken: done.taken,
+        tables: Tables { numbers, strings },
+    }
 }

@@ -29,10 +29,11 @@ use Rattle.words.specs.declared.symbols.Quotation.{Quotation}
 use Rattle.words.specs.declared.symbols.Scanned.{Scanned}
 use Rattle.words.specs.declared.symbols.Token.{Token}
 use Rattle.words.specs.declared.symbols.Token.the-variants.{EndOfLine, Keyword, Not, Infix, Call, Named, Number, Hexadecimal, LineOnly, Quoted, Symbol, Unreadable}
-use Rattle.words.proofs.Choices.{by-test}
+use Rattle.words.proofs.Choices.{by-test, both}
 use Rattle.words.proofs.Tables.{every, meaning-passes}
 use Rattle.words.proofs.Runs.{in-line, run-some}
-use Rattle.words.specs.Places.{largestLineNumber}
+use Rattle.words.specs.Names.{nameWidth}
+use Rattle.words.specs.Places.{largestLineNumber, furthest}
 use Rattle.scanner.specs.Runs.{passes}
 use Rattle.scanner.specs.Tokens.{markOf, markLength, marked, wordToken, numberToken, hexToken, textToken, paired, signToken, otherToken, begun, tokenAt, reads}
 use Rattle.scanner.specs.declared.runs.Run.the-variants.{Word, Unquoted}
@@ -54,8 +55,8 @@ pub record Ends (line : List ℕ) (at : ℕ) (s : Scanned) : Type 0 where
   -- nothing follows the line's end
   pub last : s .token ≡ EndOfLine → s .next .0 ≡ length line
   -- names and texts lie within the line, and a text's closing quote too
-  pub name : (n : Name) → s .token ≡ Named n → n .at .0 + n .len ≤ length line
-  pub text : (q : Quotation) → s .token ≡ Quoted q → q .at .0 + q .len < length line
+  pub name : (n : Name) → s .token ≡ Named n → n .at + n .len ≤ length line
+  pub text : (q : Quotation) → s .token ≡ Quoted q → q .at + q .len < length line
 
 -- ---- the same, by the kind of token, of one that begins at place i of a line of so many bytes
 
@@ -65,11 +66,11 @@ Kept end i (Keyword w) next = i < next
 Kept end i Not next = i < next
 Kept end i (Infix op) next = i < next
 Kept end i (Call f) next = i < next
-Kept end i (Named n) next = (i < next) × (n .at .0 + n .len ≤ end)
+Kept end i (Named n) next = (i < next) × (n .at + n .len ≤ end)
 Kept end i (Number v) next = i < next
 Kept end i (Hexadecimal v) next = i < next
 Kept end i (LineOnly n) next = i < next
-Kept end i (Quoted q) next = (i < next) × (q .at .0 + q .len < end)
+Kept end i (Quoted q) next = (i < next) × (q .at + q .len < end)
 Kept end i (Symbol s) next = i < next
 Kept end i Unreadable next = i ≤ next
 
@@ -164,7 +165,7 @@ marked-stays (Dollared t) Dollar i n end b h k = (omega arith, omega arith, kept
 marked-stays (Dollared t) Percent i n end b h k = omega arith
 marked-stays (Dollared t) Bare i n end b h k = omega arith
 marked-stays Remark m i n end b h k = omega arith
-marked-stays Free m i n end b h k = omega arith
+marked-stays Free m i n end b h k = by-test (leb n nameWidth && leb i furthest) (λ e. rw e (omega arith)) (λ e. rw e (omega arith))
 
 -- ---- signs and digits
 
@@ -229,8 +230,10 @@ module _ (b : ℕ) (s : List ℕ) (i end : ℕ) (all : i + length (b ∷ s) ≡ 
   text-stays : Stays end i (textToken i (b ∷ s))
   unfolding textToken
   text-stays =
-      let n = 1 + length (leading (passes Unquoted) (drop 1 (b ∷ s))) in
-      by-test (ltb n (length (b ∷ s))) (λ e. rw e (omega (arith, ltb-true n (length (b ∷ s)) e))) (λ e. rw e (omega arith))
+      let n = length (leading (passes Unquoted) (drop 1 (b ∷ s))) in
+      by-test (ltb (1 + n) (length (b ∷ s)) && leb (i + 1 + n) furthest)
+      (λ e. let t = ltb-true (1 + n) (length (b ∷ s)) (both (ltb (1 + n) (length (b ∷ s))) (leb (i + 1 + n) furthest) e .0) in rw e (omega arith))
+      (λ e. rw e (omega arith))
 
   sign-stays : Stays end i (signToken i (b ∷ s))
   unfolding signToken

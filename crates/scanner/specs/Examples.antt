@@ -79,8 +79,8 @@ tokens =
     ∷ ("&H00000" begins unreadable 0)
     ∷ ("&HFFFF" begins (Hexadecimal 65535 upto 6))
     -- texts
-    ∷ ("\"LOT \"+A$" begins (Quoted (record { at = place 1; len = 4 }) upto 6))
-    ∷ ("\"\"" begins (Quoted (record { at = place 1; len = 0 }) upto 2))
+    ∷ ("\"LOT \"+A$" begins (Quoted (record { at = 1; len = 4 }) upto 6))
+    ∷ ("\"\"" begins (Quoted (record { at = 1; len = 0 }) upto 2))
     ∷ ("\"LOT" begins unreadable 0)
     -- signs
     ∷ ("<=1" begins (Infix AtMost upto 2))

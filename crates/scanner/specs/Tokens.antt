@@ -7,7 +7,8 @@ use lib.ListN.{length, getD, drop}
 use Rattle.whole.specs.Bytes.{is, leading}
 use Rattle.whole.specs.Digits.{leadingDigits, leadingValue, blanksOf}
 use Rattle.words.specs.Classes.{capitalOf, isHex, hexDigit, signOf, pairOf, classOf}
-use Rattle.words.specs.Places.{place, lineNumber, largestLineNumber}
+use Rattle.words.specs.Names.{nameWidth}
+use Rattle.words.specs.Places.{place, lineNumber, largestLineNumber, furthest}
 use Rattle.words.specs.Vocabulary.{wordOf}
 use Rattle.words.specs.declared.places.Place.{Place}
 use Rattle.words.specs.declared.classes.ByteClass.{ByteClass}
@@ -70,10 +71,10 @@ kindOf Percent = Whole
 kindOf Bare = Whole
 
 abbrev pub nameToken : ℕ → ℕ → Kind → Token
-nameToken i n kind = Named (record { at = place i; len = n; kind = kind })
+nameToken i n kind = Named (record { at = i; len = n; kind = kind })
 
 -- a word of n letters and digits with the mark after it; a reserved word has no mark but its own `$`,
--- and REM takes the line to its end, whatever follows
+-- REM takes the line to its end, whatever follows, and a name has at most 40 characters
 abbrev pub marked : WordFound → Mark → ℕ → ℕ → ℕ → Scanned
 marked (Plain t) Bare i n end = t upto (i + n)
 marked (Plain t) Dollar i n end = unreadable i
@@ -82,7 +83,7 @@ marked (Dollared t) Dollar i n end = t upto (i + n + 1)
 marked (Dollared t) Percent i n end = unreadable i
 marked (Dollared t) Bare i n end = unreadable i
 marked Remark m i n end = Keyword Rem upto end
-marked Free m i n end = nameToken i n (kindOf m) upto (i + n + markLength m)
+marked Free m i n end = cond (leb n nameWidth && leb i furthest) (nameToken i n (kindOf m) upto (i + n + markLength m)) (unreadable i)
 
 -- a run of letters and digits that begins with a letter is one word
 unfoldable pub wordToken : ℕ → ℕ → List ℕ → Scanned
@@ -121,8 +122,8 @@ hexToken i s = cond (is "H" (capitalOf (getD s 1 0))) (hexOf (leading isHex (dro
 unfoldable pub textToken : ℕ → List ℕ → Scanned
 textToken i s =
     let inner = leading (passes Unquoted) (drop 1 s) in
-    cond (ltb (1 + length inner) (length s))
-    (Quoted (record { at = place (i + 1); len = length inner }) upto (i + 1 + length inner + 1))
+    cond (ltb (1 + length inner) (length s) && leb (i + 1 + length inner) furthest)
+    (Quoted (record { at = i + 1; len = length inner }) upto (i + 1 + length inner + 1))
     (unreadable i)
 
 -- a sign alone

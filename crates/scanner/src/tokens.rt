@@ -83,8 +83,8 @@ fn dollared(token: Token, mark: Mark, at: Place, after: Place) -> Scanned
 }
 
 // A name of so many letters and digits, whose mark tells its kind.
-fn name_token(mark: Mark, at: Place, len: usize) -> Token
-    ensures { λ r. ⌜ r ≡ nameToken (at .0) len (kindOf mark) ⌝ }
+fn name_token(mark: Mark, at: u16, len: u16) -> Token
+    ensures { λ r. ⌜ r ≡ nameToken at len (kindOf mark) ⌝ }
 {
     let kind = match mark {
         Mark::Dollar => Kind::Text,
@@ -93,14 +93,18 @@ fn name_token(mark: Mark, at: Place, len: usize) -> Token
     Token::Named(Name { at, len, kind })
 }
 
-// A name, with the mark after it.
+// A name, with the mark after it; one that is too long does not read.
 fn named(mark: Mark, at: Place, after: Place) -> Scanned
     requires { ⌜ (at .0 ≤ after .0) × (after .0 < 2 ^ 63) ⌝ }
     ensures { λ r. ⌜ ((n end : ℕ) → after .0 ≡ at .0 + n → r ≡ marked WordFound.Free mark (at .0) n end) ⌝ }
 {
     let first = at.0;
     let end = after.0;
-    let token = name_token(mark, at, end - first);
+    let len = end - first;
+    if Name::WIDTH < len || Place::FURTHEST < first {
+        return unreadable(at);
+    }
+    let token = name_token(mark, first as u16, len as u16);
     let Mark::Bare = mark else {
         return up_to(token, Place(end + 1));
     };
@@ -206,12 +210,13 @@ fn text_at(line: &[u8], at: Place) -> Scanned
     let first = quote + 1;
     let end = run_end(line, Place(first), Run::Unquoted);
     let close = end.0;
-    if line.len() <= close {
+    if line.len() <= close || Place::FURTHEST < close {
         return unreadable(at);
     }
+    let len = close - first;
     let quotation = Quotation {
-        at: Place(first),
-        len: close - first,
+        at: first as u16,
+        len: len as u16,
     };
     up_to(Token::Quoted(quotation), Place(close + 1))
 }

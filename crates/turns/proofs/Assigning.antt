@@ -5,11 +5,11 @@ use Prim.Native.Nat.{ℕ}
 use Rattle.whole.specs.declared.errors.Error.{Error}
 use Rattle.whole.specs.declared.errors.Error.the-variants.{TypeMismatch}
 use Rattle.words.specs.declared.names.Kind.the-variants as kind
-use Rattle.words.specs.declared.names.Telling.{Telling}
+use Rattle.words.specs.Names.{Telling}
 use Rattle.words.specs.declared.places.Place.{Place}
 use Rattle.words.specs.declared.symbols.Scanned.{Scanned}
 use Rattle.grammar.specs.Trees.{Formula, Variable, assign}
-use Rattle.variables.specs.bridge.Memory.{spaceStored}
+use Rattle.variables.specs.bridge.Memory.{Tells, spaceStored}
 use Rattle.variables.specs.declared.values.Worked.the-variants.{Whole, Text, Fault}
 use Rattle.machine.specs.bridge.Holding.{Sound, positionOf, Positioned, State}
 use Rattle.machine.specs.declared.positions.Next.the-variants as next
@@ -49,7 +49,7 @@ module _ (text : List ℕ) {m : State} {input space room space′ : List ℕ} {f
       (λ rs l t n s. leads-worked (sound .settled) v s (λ x o. assigned kind.Whole name x o (λ o. goesOn o (positionOf text (afterOf here u)))))
 
   -- otherwise the variable is set
-  module _ (p : Positioned text (afterOf here u)) (name : Telling) where
+  module _ (p : Positioned text (afterOf here u)) (name : Telling) (own : Tells name) where
     pub assigned-number : {w : ℕ} {t : Scanned} → Valued m f u space (Whole w t) space′
         → Turns text m input space room anyRecords
         (λ n. doStatement text at (assign (record { kind = kind.Whole; telling = name }) f) n (positionOf text (afterOf here u)))
@@ -57,10 +57,10 @@ module _ (text : List ℕ) {m : State} {input space room space′ : List ℕ} {f
     assigned-number {w} v =
         let k = settled-kept (v .framed .long) (sound .settled) in
         rw (v .goes)
-        (turns-stored here u (numberSet m name w) (sound-tables sound (number-settled name w k)) (v .framed .long) refl refl p
+        (turns-stored here u (numberSet m name w) (sound-tables sound (number-settled name own w k)) (v .framed .long) refl refl p
         (λ rs l t n s.
         leads-on (leads-worked (sound .settled) v s (λ x o. assigned kind.Whole name x o (λ o. goesOn o (positionOf text (afterOf here u)))))
-        (λ o e. leads-number name w k e (λ o. goesOn o (positionOf text (afterOf here u))))))
+        (λ o e. leads-number name own w k e (λ o. goesOn o (positionOf text (afterOf here u))))))
 
     pub assigned-string : {len : ℕ} {t : Scanned} → Valued m f u space (Text len t) space′
         → Turns text m input space room anyRecords
@@ -69,8 +69,8 @@ module _ (text : List ℕ) {m : State} {input space room space′ : List ℕ} {f
     assigned-string {len} v =
         let k = settled-kept (v .framed .long) (sound .settled) in
         rw (v .goes)
-        (turns-stored here u (stringSet m name len) (sound-tables sound (string-settled name len k (v .framed .fits)))
-        (string-long name len k (v .framed .fits) ∙ v .framed .long) refl refl p
+        (turns-stored here u (stringSet m name len) (sound-tables sound (string-settled name own len k (v .framed .fits)))
+        (string-long name own len k (v .framed .fits) ∙ v .framed .long) refl refl p
         (λ rs l t n s.
         leads-on (leads-worked (sound .settled) v s (λ x o. assigned kind.Text name x o (λ o. goesOn o (positionOf text (afterOf here u)))))
-        (λ o e. leads-string name len k (v .framed .fits) e (λ o. goesOn o (positionOf text (afterOf here u))))))
+        (λ o e. leads-string name own len k (v .framed .fits) e (λ o. goesOn o (positionOf text (afterOf here u))))))

@@ -6,12 +6,12 @@ use Prim.Native.Nat.{ℕ, _+_, _≤_}
 use lib.ListN.{length, take, drop}
 use native.Mathlib.Nat.{le-refl}
 use Rattle.whole.specs.declared.errors.Error.the-variants.{OutOfMemory}
-use Rattle.words.specs.declared.names.Telling.{Telling}
+use Rattle.words.specs.Names.{Telling}
 use Rattle.words.specs.declared.places.Place.{Place}
 use Rattle.words.specs.declared.symbols.Scanned.{Scanned}
 use Rattle.words.proofs.Choices.{by-test}
 use Rattle.variables.specs.Variables.{numbersFull, stringsFull}
-use Rattle.variables.specs.bridge.Memory.{numbersHeld, stringsHeld, numberStored, stringStored, spaceStored}
+use Rattle.variables.specs.bridge.Memory.{Tells, numbersHeld, stringsHeld, numberStored, stringStored, spaceStored}
 use Rattle.variables.specs.declared.tables.Tables.{Tables}
 use Rattle.variables.proofs.StoredNumbers.{NumberKept, number-stored}
 use Rattle.variables.proofs.StoredStrings.{StringKept, string-stored}
@@ -32,9 +32,9 @@ storedMet ok go = cond ok go (fails OutOfMemory)
 
 -- ---- a number
 
-module _ {m : State} {space : List ℕ} (name : Telling) (w : ℕ) (settled : Settled m space) where
+module _ {m : State} {space : List ℕ} (name : Telling) (own : Tells name) (w : ℕ) (settled : Settled m space) where
   kept-number : NumberKept (m .tables .numbers) name w (numberStored (m .tables .numbers) name w)
-  kept-number = number-stored (m .tables .numbers) name w (settled .numbers)
+  kept-number = number-stored (m .tables .numbers) name w (settled .numbers) own
 
   pub number-settled : Settled (numberSet m name w .state) space
   number-settled =
@@ -70,12 +70,12 @@ module _ {m : State} {space : List ℕ} (name : Telling) (w : ℕ) (settled : Se
 
 -- ---- a string: its bytes stand right after the variables'
 
-module _ {m : State} {space : List ℕ} (name : Telling) (len : ℕ) (settled : Settled m space) (fits : m .used + len ≤ length space) where
+module _ {m : State} {space : List ℕ} (name : Telling) (own : Tells name) (len : ℕ) (settled : Settled m space) (fits : m .used + len ≤ length space) where
   abbrev afterwards : List ℕ
   afterwards = spaceStored (m .tables .strings) (m .used) name space len
 
   kept-string : StringKept (m .tables .strings) (m .used) name space len (stringStored (m .tables .strings) (m .used) name len) afterwards
-  kept-string = string-stored (m .tables .strings) (m .used) name space len (settled .strings) (settled .all) fits
+  kept-string = string-stored (m .tables .strings) (m .used) name space len (settled .strings) (settled .all) fits own
 
   pub string-long : length (spaceStored (m .tables .strings) (m .used) name space len) ≡ length space
   string-long = kept-string .long

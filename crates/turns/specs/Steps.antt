@@ -23,10 +23,9 @@ use Rattle.whole.specs.declared.errors.Error.the-variants.{
   InputPastEnd,
   OutputFull,
 }
-use Rattle.words.specs.Names.{alike}
+use Rattle.words.specs.Names.{Telling, alike}
 use Rattle.words.specs.declared.names.Kind.{Kind}
 use Rattle.words.specs.declared.names.Kind.the-variants as kind
-use Rattle.words.specs.declared.names.Telling.{Telling}
 use Rattle.loader.specs.Lines.{Line, linesOf, linesFrom, fromNumber}
 use Rattle.grammar.specs.Trees as tree
 use Rattle.grammar.specs.Trees.{Formula, Variable, Item, Statement, Part}

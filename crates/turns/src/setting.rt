@@ -13,6 +13,7 @@ ghost use Rattle.turns.specs.Steps.{doStatement};
 ghost use Rattle.turns.specs.bridge.Doing.{Begins, Does};
 ghost use Rattle.turns.specs.bridge.Turns.{turnOf, storageOf, afterOf, Turns, anyRecords, Formed, numberSet, stringSet, storedAs};
 ghost use Rattle.whole.specs.Texts.{longestString};
+ghost use Rattle.words.specs.Names.{nameBytes, tellingOf};
 ghost use Rattle.words.specs.Places.{longestLine};
 use crate::turning::fails;
 use crate::turning::goes_on;
@@ -32,9 +33,7 @@ use words::Kind;
 use words::Name;
 use words::Place;
 use words::Scanned;
-use words::Telling;
 use words::Token;
-use words::telling_of;
 
 // The machine after an assignment, and the variable's entry; or no room for a new variable.
 pub struct Stored {
@@ -47,15 +46,16 @@ pub fn with_number(
     machine: Machine,
     names: &mut NameTable,
     words: &mut [u16; Tables::MOST],
-    name: Telling,
+    line: &[u8],
+    name: Name,
     word: u16,
 ) -> Stored
     ensures { λ r. ⌜
         ((labels lengths : List ℕ) → storageOf r (now (names .exit)) (now (words .exit)) labels lengths
-        ≡ numberSet (stateOf machine (now (names .entry)) (now (words .entry)) labels lengths) name word)
+        ≡ numberSet (stateOf machine (now (names .entry)) (now (words .entry)) labels lengths) (tellingOf (nameBytes (now (line .entry)) name)) word)
         ⌝ }
 {
-    let put = store_number(names, words, machine.numbers, name, word);
+    let put = store_number(names, words, machine.numbers, line, name, word);
     let mut next = machine;
     next.numbers = put.count;
     Stored {
@@ -70,15 +70,16 @@ pub fn with_string(
     machine: Machine,
     labels: &mut NameTable,
     lengths: &mut [u8; Tables::MOST],
-    name: Telling,
+    line: &[u8],
+    name: Name,
     space: &mut [u8],
     len: usize,
 ) -> Stored
     requires { ⌜ Storable (now lengths) (machine .used .0) (now space) len × (len ≤ longestString) ⌝ }
     ensures { λ r. ⌜
         ((names words : List ℕ) → storageOf r names words (now (labels .exit)) (now (lengths .exit))
-        ≡ stringSet (stateOf machine names words (now (labels .entry)) (now (lengths .entry))) name len)
-        × (now (space .exit) ≡ spaceStored (stringsOf (now (labels .entry)) (now (lengths .entry)) (machine .strings)) (machine .used .0) name (now (space .entry)) len)
+        ≡ stringSet (stateOf machine names words (now (labels .entry)) (now (lengths .entry))) (tellingOf (nameBytes (now (line .entry)) name)) len)
+        × (now (space .exit) ≡ spaceStored (stringsOf (now (labels .entry)) (now (lengths .entry)) (machine .strings)) (machine .used .0) (tellingOf (nameBytes (now (line .entry)) name)) (now (space .entry)) len)
         ⌝ }
 {
     let used = machine.used;
@@ -87,6 +88,7 @@ pub fn with_string(
         lengths,
         machine.strings,
         used,
+        line,
         name,
         space,
         len as u8,
@@ -139,14 +141,13 @@ fn assign(
         (turnOf r (now (names .exit)) (now (words .exit)) (now (labels .exit)) (now (lengths .exit))) (now (space .exit)) room)
         ⌝ }
 {
-    let telling = telling_of(line, name);
     let kind = name.kind;
     match value(line, first, machine, names, words, labels, lengths, space) {
         Worked::Fault(error) => fails(machine, error),
         Worked::Whole(word, ahead) => match kind {
             Kind::Text => fails(machine, Error::TypeMismatch),
             Kind::Whole => stored_or_full(
-                with_number(machine, names, words, telling, word),
+                with_number(machine, names, words, line, name, word),
                 here,
                 ahead,
             ),
@@ -154,7 +155,7 @@ fn assign(
         Worked::Text(len, ahead) => match kind {
             Kind::Whole => fails(machine, Error::TypeMismatch),
             Kind::Text => stored_or_full(
-                with_string(machine, labels, lengths, telling, space, len),
+                with_string(machine, labels, lengths, line, name, space, len),
                 here,
                 ahead,
             ),

@@ -6,12 +6,11 @@ use native.Mathlib.Omega.{arith}
 use lib.ListN.{length, take, drop, replicate}
 use lib.Seq.{length-take-le, take-add, drop-drop}
 use Rattle.words.proofs.Choices.{by-test}
-use Rattle.words.specs.Names.{alike}
-use Rattle.words.specs.declared.names.Telling.{Telling}
+use Rattle.words.specs.Names.{Telling, nameWidth, alike}
 use Rattle.space.specs.Moves.{cleared}
 use Rattle.variables.specs.Variables.{wordOf, bytesOf, stringBytes, joinedStrings, mostVariables}
 use Rattle.variables.specs.bridge.Memory.{stringsIn, Looked, numbersHeld, stringsHeld, empty, TidyNumbers, TidyStrings}
-use Rattle.variables.specs.Tables.{namesFrom, numbersIn, sumOf, emptyTables}
+use Rattle.variables.specs.Tables.{nameBytes, namesFrom, numbersIn, sumOf, emptyTables}
 use Rattle.variables.specs.declared.tables.Numbers.{Numbers}
 use Rattle.variables.specs.declared.tables.Strings.{Strings}
 use Rattle.variables.proofs.Lookups.{names-length, strings-kept, strings-sum}
@@ -113,11 +112,11 @@ pub held-looked : (n : Numbers) (t : Strings) (space : List ℕ) → TidyNumbers
 held-looked n t space a b =
     record {
       word = λ name. let l = names-length (n .count) (n .names) in
-          word-held (namesFrom (n .count) (n .names)) (namesFrom (mostVariables - n .count) (drop (2 * n .count) (n .names))) (n .words) (mostVariables - n .count) name
+          word-held (namesFrom (n .count) (n .names)) (namesFrom (mostVariables - n .count) (drop (nameWidth * n .count) (n .names))) (n .words) (mostVariables - n .count) name
           (rw l (a .wordsBlank))
           ∙ ap (λ ns. wordOf (numbersIn ns (n .words)) name) (sym (names-used (n .count) (n .names) (a .few)));
       bytes = λ name. let l = names-length (t .count) (t .names) in
-          bytes-held (namesFrom (t .count) (t .names)) (namesFrom (mostVariables - t .count) (drop (2 * t .count) (t .names))) (t .lengths) space (mostVariables - t .count) name
+          bytes-held (namesFrom (t .count) (t .names)) (namesFrom (mostVariables - t .count) (drop (nameWidth * t .count) (t .names))) (t .lengths) space (mostVariables - t .count) name
           (rw l (b .lengthsBlank))
           ∙ ap (λ ns. bytesOf (stringsIn ns (t .lengths) space) name) (sym (names-used (t .count) (t .names) (b .few)));
     }
@@ -174,11 +173,12 @@ cleaned t space used y e = ap (λ k. take k space ++ replicate (length space - u
 -- ---- empty tables
 
 pub empty-numbers : TidyNumbers (emptyTables .numbers)
-unfolding namesFrom
-empty-numbers = record { few = omega arith; named = refl; worded = refl; namesBlank = refl; wordsBlank = refl; apart = empty }
+unfolding namesFrom nameBytes
+empty-numbers = record { few = omega arith; named = refl; worded = refl; filled = refl; namesBlank = refl; wordsBlank = refl; apart = empty }
 
 pub empty-strings : TidyStrings (emptyTables .strings)
-empty-strings = record { few = omega arith; named = refl; lengthy = refl; namesBlank = refl; lengthsBlank = refl }
+unfolding namesFrom nameBytes
+empty-strings = record { few = omega arith; named = refl; lengthy = refl; filled = refl; namesBlank = refl; lengthsBlank = refl }
 
 pub empty-numbers-held : numbersHeld (emptyTables .numbers) ≡ []
 unfolding namesFrom numbersIn

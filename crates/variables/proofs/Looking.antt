@@ -4,7 +4,7 @@ use mathlib.Core.List.{List}
 use Prim.Native.Nat.{ℕ, _≤_}
 use lib.ListN.{take}
 use lib.Seq.{take-take}
-use Rattle.words.specs.declared.names.Telling.{Telling}
+use Rattle.words.specs.Names.{Telling}
 use Rattle.variables.specs.Variables.{Variables, wordOf, bytesOf, mostVariables}
 use Rattle.variables.specs.bridge.Memory.{stringsIn, SlotBelow, wordAt, bytesAt, Looked}
 use Rattle.variables.specs.Tables.{namesIn, numbersIn, slotIn, sumOf}

@@ -6,10 +6,9 @@ use Prim.Native.Nat.{ℕ, zero, suc, _+_, _-_, _*_, _≤_, _<_}
 use native.Mathlib.Omega.{arith}
 use native.Mathlib.Numerals.{add-one}
 use lib.ListN.{length, take, drop, getD, length-drop}
-use lib.Seq.{length-take-le, take-nil, take-take, drop-drop, getD-drop}
+use lib.Seq.{length-take-le, take-nil, take-take, drop-drop}
 use Rattle.words.proofs.Choices.{by-test}
-use Rattle.words.specs.Names.{alike}
-use Rattle.words.specs.declared.names.Telling.{Telling}
+use Rattle.words.specs.Names.{Telling, nameWidth, alike}
 use Rattle.variables.specs.Variables.{wordOf, bytesOf, stringBytes, mostVariables}
 use Rattle.variables.specs.bridge.Memory.{stringsIn, nameAt}
 use Rattle.variables.specs.Tables.{namesFrom, namesIn, numbersIn, slotFrom, slotIn, sumOf}
@@ -21,7 +20,7 @@ use Rattle.whole.proofs.Never.{never}
 pub names-length : (n : ℕ) (names : List ℕ) → length (namesFrom n names) ≡ n
 unfolding namesFrom
 names-length zero names = refl
-names-length (suc n) names = ap suc (names-length n (drop 2 names))
+names-length (suc n) names = ap suc (names-length n (drop nameWidth names))
 
 -- there are 64
 pub names-count : (names : List ℕ) → length (namesIn names) ≡ mostVariables
@@ -30,22 +29,21 @@ names-count names = names-length mostVariables names
 
 -- from the i-th on: it and those after it
 pub name-next : (names : List ℕ) (i : ℕ) → i < mostVariables
-    → namesFrom (mostVariables - i) (drop (2 * i) names) ≡ nameAt names i ∷ namesFrom (mostVariables - (i + 1)) (drop (2 * (i + 1)) names)
+    → namesFrom (mostVariables - i) (drop (nameWidth * i) names) ≡ nameAt names i ∷ namesFrom (mostVariables - (i + 1)) (drop (nameWidth * (i + 1)) names)
 unfolding namesFrom
 name-next names i h =
     let e : mostVariables - i ≡ suc (mostVariables - (i + 1)) = omega arith in
-    let f : 2 * i + 0 ≡ 2 * i = omega arith in
-    let g : 2 * i + 2 ≡ 2 * (i + 1) = omega arith in
-    rw (e, getD-drop (2 * i) names 0 0, getD-drop (2 * i) names 1 0, drop-drop 2 (2 * i) names, f, g)
+    let g : nameWidth * i + nameWidth ≡ nameWidth * (i + 1) = omega arith in
+    rw (e, drop-drop nameWidth (nameWidth * i) names, g)
 
 -- the search from the i-th on: it ends there, or goes on
 module _ (names : List ℕ) (name : Telling) (i : ℕ) (h : i < mostVariables) where
-  pub slot-here : alike (nameAt names i) name ≡ true → slotFrom i (namesFrom (mostVariables - i) (drop (2 * i) names)) name ≡ slot.At i
+  pub slot-here : alike (nameAt names i) name ≡ true → slotFrom i (namesFrom (mostVariables - i) (drop (nameWidth * i) names)) name ≡ slot.At i
   unfolding slotFrom
   slot-here e = ap (λ ns. slotFrom i ns name) (name-next names i h) ∙ rw e
 
   pub slot-next : alike (nameAt names i) name ≡ false
-      → slotFrom i (namesFrom (mostVariables - i) (drop (2 * i) names)) name ≡ slotFrom (i + 1) (namesFrom (mostVariables - (i + 1)) (drop (2 * (i + 1)) names)) name
+      → slotFrom i (namesFrom (mostVariables - i) (drop (nameWidth * i) names)) name ≡ slotFrom (i + 1) (namesFrom (mostVariables - (i + 1)) (drop (nameWidth * (i + 1)) names)) name
   unfolding slotFrom
   slot-next e = ap (λ ns. slotFrom i ns name) (name-next names i h) ∙ rw (e, add-one i)
 
@@ -163,7 +161,7 @@ no-slot-bytes names lengths space name e = missing-bytes 0 (namesIn names) lengt
 -- ---- the space
 
 -- the m bytes after the first n
-drop-take : (n m : ℕ) (l : List ℕ) → drop n (take (n + m) l) ≡ take m (drop n l)
+pub drop-take : (n m : ℕ) (l : List ℕ) → drop n (take (n + m) l) ≡ take m (drop n l)
 drop-take zero m l = let e : 0 + m ≡ m = omega arith in rw e
 drop-take (suc n) m [] = let e : suc n + m ≡ suc (n + m) = omega arith in rw e (sym (take-nil m))
 drop-take (suc n) m (x ∷ l) = let e : suc n + m ≡ suc (n + m) = omega arith in rw e (drop-take n m l)

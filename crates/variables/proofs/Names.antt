@@ -4,35 +4,38 @@ use mathlib.Core.Bool.{true, false, false≢true}
 use mathlib.Core.List.{List, [], _∷_, _++_}
 use Prim.Native.Nat.{ℕ, zero, suc, _+_, _-_, _*_, _≤_, _<_}
 use native.Mathlib.Omega.{arith}
-use borrow.Author.Tests.{eq-eqb, ne-eqb, eqb-true, eqb-false}
-use lib.Dec.{eqb}
 use lib.ListN.{length, drop, getD}
-use lib.Seq.{getD-drop}
-use Rattle.words.proofs.Choices.{by-test, both}
-use Rattle.words.specs.Names.{alike}
-use Rattle.words.specs.declared.names.Telling.{Telling}
+use lib.Seq.{drop-drop}
+use Rattle.words.proofs.Choices.{by-test}
+use Rattle.words.proofs.Tellings.{told-again, same-self, same-is}
+use Rattle.words.specs.Spellings.{sameBytes}
+use Rattle.words.specs.Names.{Telling, nameWidth, telling, alike}
 use Rattle.variables.specs.Tables.{namesFrom, namesIn, slotFrom, slotIn}
 use Rattle.variables.specs.Variables.{mostVariables}
-use Rattle.variables.specs.bridge.Memory.{nameAt, Absent, none, also, Apart, empty, joining}
+use Rattle.variables.specs.bridge.Memory.{Tells, nameAt, Absent, none, also, Apart, empty, joining}
 use Rattle.variables.specs.declared.tables.Slot.the-variants as slot
 use Rattle.variables.proofs.Lookups.{First, here, later, names-length, slot-first}
 use Rattle.variables.proofs.Ways.{names-used}
 
--- ---- names that are one variable's are the same
+-- ---- names that are one variable's tell the same
 
 pub alike-self : (a : Telling) → alike a a ≡ true
-alike-self a = rw (eq-eqb (a .first) (a .first) refl, eq-eqb (a .second) (a .second) refl)
+alike-self a = same-self (telling a)
 
-pub alike-is : (a b : Telling) → alike a b ≡ true → a ≡ b
-alike-is a b e =
-    let t = both (eqb (a .first) (b .first)) (eqb (a .second) (b .second)) e in
-    let x = eqb-true (a .first) (b .first) (t .0) in
-    let y = eqb-true (a .second) (b .second) (t .1) in
-    rw (x, y)
+alike-told : (a b : Telling) → alike a b ≡ true → telling a ≡ telling b
+alike-told a b e = same-is (telling a) (telling b) e
+
+-- and are the same, where all of them tells
+pub alike-is : (a b : Telling) → Tells a → Tells b → alike a b ≡ true → a ≡ b
+alike-is a b own other e = sym own ∙ alike-told a b e ∙ other
+
+-- a name and what tells of it are one variable's
+pub alike-telling : (a b : Telling) → alike (telling a) b ≡ alike a b
+alike-telling a b = ap (λ t. sameBytes t (telling b)) (told-again a)
 
 alike-not : (a b : Telling) → alike a b ≡ false → alike b a ≡ false
 alike-not a b e =
-    by-test (alike b a) (λ t. absurd (false≢true (sym e ∙ ap (λ x. alike a x) (alike-is b a t) ∙ alike-self a))) (λ t. t)
+    by-test (alike b a) (λ t. absurd (false≢true (sym e ∙ ap (sameBytes (telling a)) (alike-told b a t) ∙ alike-self a))) (λ t. t)
 
 -- ---- one name more
 
@@ -57,7 +60,7 @@ first-from k (later {i = i} e f) = let z : k + suc i ≡ suc k + i = omega arith
 
 absent-at : {x : Telling} (ns : List Telling) (i : ℕ) (blank name : Telling) → Absent x ns → i < length ns → alike (getD ns i blank) name ≡ true → alike name x ≡ false
 absent-at [] i blank name none h e = absurd (omega arith)
-absent-at (n ∷ ns) zero blank name (also f a) h e = rw (alike-is n name e) at f
+absent-at {x} (n ∷ ns) zero blank name (also f a) h e = sym (ap (λ t. sameBytes t (telling x)) (alike-told n name e)) ∙ f
 absent-at (n ∷ ns) (suc i) blank name (also f a) h e = absent-at ns i blank name a (omega arith) e
 
 -- the entry that has it, where blank two are one variable's
@@ -76,11 +79,10 @@ first-has blank (later e f) = first-has blank f
 pub name-is : (n : ℕ) (names : List ℕ) (i : ℕ) (blank : Telling) → i < n → getD (namesFrom n names) i blank ≡ nameAt names i
 unfolding namesFrom
 name-is zero names i blank h = absurd (omega arith)
-name-is (suc n) names zero blank h = refl
+name-is (suc n) names zero blank h = let z : nameWidth * 0 ≡ 0 = omega arith in refl
 name-is (suc n) names (suc i) blank h =
-    let a : 2 + 2 * i ≡ 2 * suc i = omega arith in
-    let b : 2 + (2 * i + 1) ≡ 2 * suc i + 1 = omega arith in
-    name-is n (drop 2 names) i blank (omega arith) ∙ rw (getD-drop 2 names (2 * i) 0, getD-drop 2 names (2 * i + 1) 0, a, b)
+    let a : nameWidth + nameWidth * i ≡ nameWidth * suc i = omega arith in
+    name-is n (drop nameWidth names) i blank (omega arith) ∙ ap telling (drop-drop (nameWidth * i) nameWidth names ∙ ap (λ k. drop k names) a)
 
 module _ (names : List ℕ) (count : ℕ) (few : count ≤ mostVariables) where
   -- the name of an entry in use is found there, and blank other entry in use has it

@@ -7,18 +7,17 @@ use native.Mathlib.Omega.{arith}
 use borrow.Author.Tests.{le-leb, lt-leb}
 use lib.ListN.{length, getD, set, length-set}
 use lib.Seq.{getD-set-same, take-set-le}
-use Rattle.words.specs.Names.{alike}
-use Rattle.words.specs.declared.names.Telling.{Telling}
+use Rattle.words.specs.Names.{Telling, nameWidth, alike}
 use Rattle.space.proofs.Bounds.{by-bound}
 use Rattle.variables.specs.Variables.{setNumber, hasNumber, numbersFull, mostVariables}
-use Rattle.variables.specs.bridge.Memory.{NumberStored, Absent, none, also, nameAt, numbersOf, numbersHeld, TidyNumbers, withName, numberReplaced, numberStored}
-use Rattle.variables.specs.Tables.{namesFrom, numbersIn}
+use Rattle.variables.specs.bridge.Memory.{NumberStored, Tells, Absent, none, also, nameAt, numbersOf, numbersHeld, TidyNumbers, withName, numberReplaced, numberStored}
+use Rattle.variables.specs.Tables.{namesLong, namesFrom, numbersIn}
 use Rattle.variables.specs.declared.tables.Numbers.{Numbers}
 use Rattle.variables.proofs.Lookups.{names-length, First, here, later}
 use Rattle.variables.proofs.Names.{alike-self, apart-more, first-has, name-is, name-slot}
 use Rattle.variables.proofs.Ways.{Way, old, new, way, number-old, number-new}
 use Rattle.variables.proofs.Holding.{numbers-same, number-count}
-use Rattle.variables.proofs.Naming.{named-length, names-kept, name-put, names-more, names-after, values-after, values-behind}
+use Rattle.variables.proofs.Naming.{named-length, names-kept, name-put, names-more, names-filled, names-after, values-after, values-behind}
 
 -- ---- the variables
 
@@ -76,7 +75,7 @@ pub record NumberKept (n : Numbers) (name : Telling) (w : ℕ) (r : NumberStored
   pub refused : r .ok ≡ false → r .numbers ≡ n
   pub tidy : TidyNumbers (r .numbers)
 
-module _ (n : Numbers) (name : Telling) (w : ℕ) (y : TidyNumbers n) where
+module _ (n : Numbers) (name : Telling) (w : ℕ) (y : TidyNumbers n) (own : Tells name) where
   abbrev numberNames : List Telling
   numberNames = namesFrom (n .count) (n .names)
 
@@ -97,6 +96,7 @@ module _ (n : Numbers) (name : Telling) (w : ℕ) (y : TidyNumbers n) where
           few = y .few;
           named = y .named;
           worded = simp length-set (y .worded);
+          filled = y .filled;
           namesBlank = y .namesBlank;
           wordsBlank = values-behind (n .words) mostVariables (n .count) w (y .wordsBlank) i h;
           apart = y .apart;
@@ -125,14 +125,14 @@ module _ (n : Numbers) (name : Telling) (w : ℕ) (y : TidyNumbers n) where
       })
   number-more h a =
       let l : length (numbersHeld n) < mostVariables = rw (number-count numberNames (n .words) worded, names-length) h in
-      let k : 2 * n .count + 1 < length (n .names) = omega (arith, y .named) in
+      let k : nameWidth * n .count + nameWidth ≤ length (n .names) = omega (arith, y .named) in
       let c = names-length (n .count) (n .names) in
       record {
         names = names-kept (n .names) (n .count) name k;
         more = omega arith;
         slot = λ _. (omega arith, name-put (n .names) (n .count) name k);
         ok = rw (absent-number a (n .words), lt-leb mostVariables _ l);
-        held = λ _. rw (names-more (n .names) (n .count) name k)
+        held = λ _. rw (names-more (n .names) (n .count) name k own)
             (numbers-more numberNames name (set (n .words) (n .count) w) (simp length-set (omega (arith, y .worded)))
             ∙ rw (c, getD-set-same (n .words) (n .count) w 0 (omega (arith, y .worded)))
             (ap (λ vs. vs ++ (record { name = name; word = w } ∷ []))
@@ -144,9 +144,10 @@ module _ (n : Numbers) (name : Telling) (w : ℕ) (y : TidyNumbers n) where
           few = omega arith;
           named = named-length (n .names) (n .count) name k ∙ y .named;
           worded = simp length-set (y .worded);
-          namesBlank = names-after (n .names) (n .count) name k 128 (y .namesBlank);
+          filled = names-filled (n .names) (n .count) name k own (y .filled);
+          namesBlank = names-after (n .names) (n .count) name k namesLong (y .namesBlank);
           wordsBlank = values-after (n .words) mostVariables (n .count) w (y .wordsBlank);
-          apart = rw (names-more (n .names) (n .count) name k) (apart-more numberNames name (y .apart) a);
+          apart = rw (names-more (n .names) (n .count) name k own) (apart-more numberNames name (y .apart) a);
         };
       }
 

@@ -7,16 +7,16 @@ use native.Mathlib.Omega.{arith}
 use borrow.Author.Tests.{le-leb, lt-leb}
 use lib.ListN.{length, take, drop, getD, set, replicate, length-set, length-drop, getD-replicate}
 use lib.Seq.{length-take-le, take-append-seam, drop-append-seam, take-at, drop-at, take-add, drop-drop, getD-drop, getD-set-same, take-set-le}
-use Rattle.words.specs.declared.names.Telling.{Telling}
+use Rattle.words.specs.Names.{Telling, nameWidth}
 use Rattle.space.proofs.Bounds.{by-bound}
 use Rattle.variables.specs.Variables.{setString, hasString, stringsFull, mostVariables}
-use Rattle.variables.specs.bridge.Memory.{StringStored, Absent, none, also, stringsOf, stringsIn, stringsHeld, TidyStrings, withName, stringReplaced, stringStored, spaceReplaced, spaceStored}
-use Rattle.variables.specs.Tables.{namesFrom, sumOf}
+use Rattle.variables.specs.bridge.Memory.{Tells, StringStored, Absent, none, also, stringsOf, stringsIn, stringsHeld, TidyStrings, withName, stringReplaced, stringStored, spaceReplaced, spaceStored}
+use Rattle.variables.specs.Tables.{namesLong, namesFrom, sumOf}
 use Rattle.variables.specs.declared.tables.Strings.{Strings}
 use Rattle.variables.proofs.Lookups.{names-length, First, here, later, sum-within, strings-kept}
 use Rattle.variables.proofs.Ways.{Way, old, new, way, string-old, string-new, space-old, space-new}
 use Rattle.variables.proofs.Holding.{strings-same, string-count, used-sum}
-use Rattle.variables.proofs.Naming.{named-length, names-more, names-after, values-after, values-behind}
+use Rattle.variables.proofs.Naming.{named-length, names-more, names-filled, names-after, values-after, values-behind}
 use Rattle.variables.proofs.Replacing.{bytes-length, replaced-front, replaced-length}
 
 -- ---- the variables
@@ -107,7 +107,7 @@ pub record StringKept (t : Strings) (used : ℕ) (name : Telling) (space : List 
   pub long : length after ≡ length space
 
 module _ (t : Strings) (used : ℕ) (name : Telling) (space : List ℕ) (len : ℕ) (y : TidyStrings t) (all : sumOf (t .lengths) ≡ used)
-    (fits : used + len ≤ length space) where
+    (fits : used + len ≤ length space) (own : Tells name) where
   abbrev stringNames : List Telling
   stringNames = namesFrom (t .count) (t .names)
 
@@ -135,6 +135,7 @@ module _ (t : Strings) (used : ℕ) (name : Telling) (space : List ℕ) (len : �
           few = y .few;
           named = y .named;
           lengthy = simp length-set (y .lengthy);
+          filled = y .filled;
           namesBlank = y .namesBlank;
           lengthsBlank = values-behind ls mostVariables (t .count) len (y .lengthsBlank) i h;
         };
@@ -167,7 +168,7 @@ module _ (t : Strings) (used : ℕ) (name : Telling) (space : List ℕ) (len : �
   string-more h a =
       let ls = t .lengths in
       let l : length (stringsHeld t space) < mostVariables = rw (string-count stringNames ls space lengthy, names-length) h in
-      let k : 2 * t .count + 1 < length (t .names) = omega (arith, y .named) in
+      let k : nameWidth * t .count + nameWidth ≤ length (t .names) = omega (arith, y .named) in
       let c = names-length (t .count) (t .names) in
       let m : t .count < length ls = omega (arith, y .lengthy) in
       let z : getD ls (t .count) 0 ≡ 0 = blank-first ls (t .count) (mostVariables - t .count) (omega arith) (y .lengthsBlank) in
@@ -175,7 +176,7 @@ module _ (t : Strings) (used : ℕ) (name : Telling) (space : List ℕ) (len : �
       let before = take-set-le (t .count) ls (t .count) len (omega arith) in
       record {
         ok = rw (absent-string a ls space, lt-leb mostVariables _ l);
-        held = λ _. rw (names-more (t .names) (t .count) name k)
+        held = λ _. rw (names-more (t .names) (t .count) name k own)
             (strings-more stringNames name (set ls (t .count) len) space (simp length-set (omega arith))
             ∙ rw (c, getD-set-same ls (t .count) len 0 m, before, used-sum t y, all)
             (ap (λ vs. vs ++ (record { name = name; bytes = take len (drop used space) } ∷ []))
@@ -186,7 +187,8 @@ module _ (t : Strings) (used : ℕ) (name : Telling) (space : List ℕ) (len : �
           few = omega arith;
           named = named-length (t .names) (t .count) name k ∙ y .named;
           lengthy = simp length-set (y .lengthy);
-          namesBlank = names-after (t .names) (t .count) name k 128 (y .namesBlank);
+          filled = names-filled (t .names) (t .count) name k own (y .filled);
+          namesBlank = names-after (t .names) (t .count) name k namesLong (y .namesBlank);
           lengthsBlank = values-after ls mostVariables (t .count) len (y .lengthsBlank);
         };
         sum = omega arith;

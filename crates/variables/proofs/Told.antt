@@ -5,9 +5,9 @@ use Prim.Native.Nat.{ℕ, zero, suc, _+_, _-_, _*_, _≤_}
 use native.Mathlib.Omega.{arith}
 use lib.ListN.{length, take, drop, replicate, length-drop, take-append-drop}
 use lib.Seq.{length-take-le}
-use Rattle.words.specs.declared.names.Telling.{Telling}
+use Rattle.words.specs.Names.{Telling, nameWidth}
 use Rattle.variables.specs.bridge.Memory.{stringsIn, numbersHeld, stringsHeld, TidyNumbers, TidyStrings}
-use Rattle.variables.specs.Tables.{namesFrom, numbersIn, sumOf, nameBytes, numbersTable, stringsTable}
+use Rattle.variables.specs.Tables.{namesLong, namesFrom, numbersIn, sumOf, numbersTable, stringsTable}
 use Rattle.variables.specs.declared.tables.Numbers.{Numbers}
 use Rattle.variables.specs.declared.tables.Strings.{Strings}
 use Rattle.variables.specs.Variables.{mostVariables}
@@ -15,15 +15,6 @@ use Rattle.variables.proofs.Lookups.{names-length}
 use Rattle.variables.proofs.Holding.{number-count, string-count, used-sum}
 
 -- ---- what was put together, taken apart
-
--- the bytes of the names
-bytes-back : (n : ℕ) (names : List ℕ) → 2 * n ≤ length names → nameBytes (namesFrom n names) ≡ take (2 * n) names
-unfolding nameBytes namesFrom
-bytes-back zero names h = refl
-bytes-back (suc n) [] h = absurd (omega arith)
-bytes-back (suc n) (a ∷ []) h = absurd (omega arith)
-bytes-back (suc n) (a ∷ b ∷ names) h =
-    let e : 2 * suc n ≡ suc (suc (2 * n)) = omega arith in rw e (ap (λ l. a ∷ b ∷ l) (bytes-back n names (omega arith)))
 
 number-names : (ns : List Telling) (ws : List ℕ) → length ns ≤ length ws → map (λ v. v .name) (numbersIn ns ws) ≡ ns
 unfolding numbersIn
@@ -75,8 +66,8 @@ numbers-told n y =
     let h : length ns ≤ length (n .words) = omega (arith, y .few, y .worded) in
     let k = number-count ns (n .words) h ∙ l in
     table-numbers n _ _ _
-    (rw (number-names ns (n .words) h, k, bytes-back (n .count) (n .names) (omega (arith, y .few, y .named)))
-    (back-blank (n .names) (2 * n .count) (128 - 2 * n .count) (y .namesBlank)))
+    (rw (number-names ns (n .words) h, k, y .filled)
+    (back-blank (n .names) (nameWidth * n .count) (namesLong - nameWidth * n .count) (y .namesBlank)))
     (rw (number-words ns (n .words) h, k, l) (back-blank (n .words) (n .count) (mostVariables - n .count) (y .wordsBlank)))
     (sym k)
 
@@ -88,7 +79,7 @@ strings-told t space y u =
     let k = string-count ns (t .lengths) space h ∙ l in
     let s : sumOf (take (length ns) (t .lengths)) ≤ length space = let e = used-sum t y in rw l (omega arith) in
     table-strings t _ _ _
-    (rw (string-names ns (t .lengths) space h, k, bytes-back (t .count) (t .names) (omega (arith, y .few, y .named)))
-    (back-blank (t .names) (2 * t .count) (128 - 2 * t .count) (y .namesBlank)))
+    (rw (string-names ns (t .lengths) space h, k, y .filled)
+    (back-blank (t .names) (nameWidth * t .count) (namesLong - nameWidth * t .count) (y .namesBlank)))
     (rw (string-lengths ns (t .lengths) space h s, k, l) (back-blank (t .lengths) (t .count) (mostVariables - t .count) (y .lengthsBlank)))
     (sym k)

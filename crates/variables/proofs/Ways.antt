@@ -8,8 +8,7 @@ use borrow.Author.Tests.{le-leb, lt-leb}
 use lib.ListN.{length, drop}
 use lib.Seq.{drop-drop}
 use Rattle.words.proofs.Choices.{by-test}
-use Rattle.words.specs.Names.{alike}
-use Rattle.words.specs.declared.names.Telling.{Telling}
+use Rattle.words.specs.Names.{Telling, nameWidth, alike}
 use Rattle.space.proofs.Bounds.{by-bound}
 use Rattle.variables.specs.bridge.Memory.{Absent, none, also, numberAppended, numberReplaced, numberStored, stringAppended, stringReplaced, stringStored, spaceReplaced, spaceStored}
 use Rattle.variables.specs.Tables.{namesFrom, namesIn, slotFrom, slotIn}
@@ -45,16 +44,16 @@ missing-absent k (n ∷ a) b name e =
 
 -- ---- the entries in use, and those after them
 
-pub names-split : (n m : ℕ) (names : List ℕ) → namesFrom (n + m) names ≡ namesFrom n names ++ namesFrom m (drop (2 * n) names)
+pub names-split : (n m : ℕ) (names : List ℕ) → namesFrom (n + m) names ≡ namesFrom n names ++ namesFrom m (drop (nameWidth * n) names)
 unfolding namesFrom
 names-split zero m names = let e : 0 + m ≡ m = omega arith in rw e
 names-split (suc n) m names =
     let e : suc n + m ≡ suc (n + m) = omega arith in
-    let f : 2 * suc n ≡ 2 + 2 * n = omega arith in
-    rw (e, f, names-split n m (drop 2 names), drop-drop (2 * n) 2 names)
+    let f : nameWidth * suc n ≡ nameWidth + nameWidth * n = omega arith in
+    rw (e, f, names-split n m (drop nameWidth names), drop-drop (nameWidth * n) nameWidth names)
 
 pub names-used : (count : ℕ) (names : List ℕ) → count ≤ mostVariables
-    → namesIn names ≡ namesFrom count names ++ namesFrom (mostVariables - count) (drop (2 * count) names)
+    → namesIn names ≡ namesFrom count names ++ namesFrom (mostVariables - count) (drop (nameWidth * count) names)
 unfolding namesIn
 names-used count names h = let e : mostVariables ≡ count + (mostVariables - count) = omega arith in ap (λ n. namesFrom n names) e ∙ names-split count (mostVariables - count) names
 
@@ -71,7 +70,7 @@ pub data Way (names : List ℕ) (count : ℕ) (name : Telling) : Type 0 where
 
 module _ (names : List ℕ) (count : ℕ) (name : Telling) (few : count ≤ mostVariables) where
   after : List Telling
-  after = namesFrom (mostVariables - count) (drop (2 * count) names)
+  after = namesFrom (mostVariables - count) (drop (nameWidth * count) names)
 
   way-by : (x : Slot) → slotIn names name ≡ x → Way names count name
   unfolding after

@@ -2,9 +2,8 @@
 use mathlib.Core.Bool.{cond}
 use mathlib.Core.List.{List, [], _∷_, _++_, map}
 use Prim.Native.Nat.{ℕ, zero, suc, _+_, _-_, _*_}
-use lib.ListN.{length, getD, drop, replicate}
-use Rattle.words.specs.Names.{nameWidth, alike}
-use Rattle.words.specs.declared.names.Telling.{Telling}
+use lib.ListN.{length, drop, replicate}
+use Rattle.words.specs.Names.{Telling, nameWidth, telling, alike, entryOf}
 use Rattle.variables.specs.Variables.{NumberVariable, StringVariable, mostVariables}
 use Rattle.variables.specs.declared.tables.Numbers.{Numbers}
 use Rattle.variables.specs.declared.tables.Strings.{Strings}
@@ -18,10 +17,10 @@ use Rattle.variables.specs.declared.tables.Slot.the-variants as slot
 abbrev pub namesLong : ℕ
 namesLong = nameWidth * mostVariables
 
--- names side by side, two bytes each
+-- names side by side
 unfoldable pub nameBytes : List Telling → List ℕ
 nameBytes [] = []
-nameBytes (n ∷ ns) = n .first ∷ n .second ∷ nameBytes ns
+nameBytes (n ∷ ns) = entryOf n ++ nameBytes ns
 
 abbrev pub numbersTable : List NumberVariable → Numbers
 numbersTable vs = record {
@@ -45,10 +44,10 @@ emptyTables = record {
 
 -- ---- what stands in a table
 
--- so many names of two bytes each
+-- so many names
 unfoldable pub namesFrom : ℕ → List ℕ → List Telling
 namesFrom zero names = []
-namesFrom (suc n) names = record { first = getD names 0 0; second = getD names 1 0 } ∷ namesFrom n (drop 2 names)
+namesFrom (suc n) names = telling names ∷ namesFrom n (drop nameWidth names)
 
 -- a table has 64
 unfoldable pub namesIn : List ℕ → List Telling

@@ -7,6 +7,7 @@ ghost use Rattle.space.specs.Moves.{cleared};
 ghost use Rattle.variables.specs.bridge.Memory.{withName, numbersOf, stringsOf, numbersLeft, stringsLeft, numberAppended, numberStored, stringAppended, stringReplaced, stringStored, bytesReplaced, spaceReplaced, spaceStored, Storable};
 ghost use Rattle.variables.specs.Variables.{mostVariables};
 ghost use Rattle.whole.specs.Texts.{longestString};
+ghost use Rattle.words.specs.Names.{nameBytes, tellingOf};
 use crate::tables::NameTable;
 use crate::tables::Slot;
 use crate::tables::Tables;
@@ -18,7 +19,8 @@ use space::clear_from;
 use space::copy_in;
 use space::move_bytes;
 use whole::Text;
-use words::Telling;
+use words::Name;
+use words::telling_of;
 
 // A number was stored, or there is no room for a new variable: its entry, and how many number variables there are then.
 pub struct NumberPut {
@@ -34,13 +36,12 @@ pub struct StringPut {
     pub used: Offset,
 }
 
-fn put_name(names: &mut NameTable, slot: usize, name: Telling)
+fn put_name(names: &mut NameTable, slot: usize, line: &[u8], name: Name)
     requires { ⌜ slot < mostVariables ⌝ }
-    ensures { λ _. ⌜ now (names .exit) ≡ withName (now (names .entry)) slot name ⌝ }
+    ensures { λ _. ⌜ now (names .exit) ≡ withName (now (names .entry)) slot (tellingOf (nameBytes (now (line .entry)) name)) ⌝ }
 {
-    let at = Telling::WIDTH * slot;
-    names[at] = name.first;
-    names[at + 1] = name.second;
+    let telling = telling_of(line, name);
+    copy_in(names, Offset(Name::WIDTH * slot), &telling);
 }
 
 // A new number variable after the others, if there is room.
@@ -48,11 +49,12 @@ fn append_number(
     names: &mut NameTable,
     words: &mut [u16; Tables::MOST],
     count: usize,
-    name: Telling,
+    line: &[u8],
+    name: Name,
     word: u16,
 ) -> NumberPut
     ensures { λ r. ⌜
-        numbersLeft r (now (names .exit)) (now (words .exit)) ≡ numberAppended (numbersOf (now (names .entry)) (now (words .entry)) count) name word
+        numbersLeft r (now (names .exit)) (now (words .exit)) ≡ numberAppended (numbersOf (now (names .entry)) (now (words .entry)) count) (tellingOf (nameBytes (now (line .entry)) name)) word
         ⌝ }
 {
     if Tables::MOST <= count {
@@ -62,7 +64,7 @@ fn append_number(
             count,
         };
     }
-    put_name(names, count, name);
+    put_name(names, count, line, name);
     words[count] = word;
     NumberPut {
         ok: true,
@@ -76,18 +78,19 @@ pub fn store_number(
     names: &mut NameTable,
     words: &mut [u16; Tables::MOST],
     count: usize,
-    name: Telling,
+    line: &[u8],
+    name: Name,
     word: u16,
 ) -> NumberPut
     ensures { λ r. ⌜
-        numbersLeft r (now (names .exit)) (now (words .exit)) ≡ numberStored (numbersOf (now (names .entry)) (now (words .entry)) count) name word
+        numbersLeft r (now (names .exit)) (now (words .exit)) ≡ numberStored (numbersOf (now (names .entry)) (now (words .entry)) count) (tellingOf (nameBytes (now (line .entry)) name)) word
         ⌝ }
 {
-    match slot_of(names, name) {
-        Slot::None => append_number(names, words, count, name, word),
+    match slot_of(names, line, name) {
+        Slot::None => append_number(names, words, count, line, name, word),
         Slot::At(slot) => {
             if count <= slot {
-                return append_number(names, words, count, name, word);
+                return append_number(names, words, count, line, name, word);
             }
             words[slot] = word;
             NumberPut {
@@ -105,12 +108,13 @@ fn append_string(
     lengths: &mut [u8; Tables::MOST],
     count: usize,
     used: Offset,
-    name: Telling,
+    line: &[u8],
+    name: Name,
     len: u8,
 ) -> StringPut
     requires { ⌜ used .0 + len < 18446744073709551616 ⌝ }
     ensures { λ r. ⌜
-        stringsLeft r (now (names .exit)) (now (lengths .exit)) ≡ stringAppended (stringsOf (now (names .entry)) (now (lengths .entry)) count) (used .0) name len
+        stringsLeft r (now (names .exit)) (now (lengths .exit)) ≡ stringAppended (stringsOf (now (names .entry)) (now (lengths .entry)) count) (used .0) (tellingOf (nameBytes (now (line .entry)) name)) len
         ⌝ }
 {
     if Tables::MOST <= count {
@@ -120,7 +124,7 @@ fn append_string(
             used,
         };
     }
-    put_name(names, count, name);
+    put_name(names, count, line, name);
     lengths[count] = len;
     StringPut {
         ok: true,
@@ -192,21 +196,22 @@ pub fn store_string(
     lengths: &mut [u8; Tables::MOST],
     count: usize,
     used: Offset,
-    name: Telling,
+    line: &[u8],
+    name: Name,
     space: &mut [u8],
     len: u8,
 ) -> StringPut
     requires { ⌜ Storable (now lengths) (used .0) (now space) len ⌝ }
     ensures { λ r. ⌜
-        (stringsLeft r (now (names .exit)) (now (lengths .exit)) ≡ stringStored (stringsOf (now (names .entry)) (now (lengths .entry)) count) (used .0) name len)
-        × (now (space .exit) ≡ spaceStored (stringsOf (now (names .entry)) (now (lengths .entry)) count) (used .0) name (now (space .entry)) len)
+        (stringsLeft r (now (names .exit)) (now (lengths .exit)) ≡ stringStored (stringsOf (now (names .entry)) (now (lengths .entry)) count) (used .0) (tellingOf (nameBytes (now (line .entry)) name)) len)
+        × (now (space .exit) ≡ spaceStored (stringsOf (now (names .entry)) (now (lengths .entry)) count) (used .0) (tellingOf (nameBytes (now (line .entry)) name)) (now (space .entry)) len)
         ⌝ }
 {
-    match slot_of(names, name) {
-        Slot::None => append_string(names, lengths, count, used, name, len),
+    match slot_of(names, line, name) {
+        Slot::None => append_string(names, lengths, count, used, line, name, len),
         Slot::At(slot) => {
             if count <= slot {
-                return append_string(names, lengths, count, used, name, len);
+                return append_string(names, lengths, count, used, line, name, len);
             }
             replace_string(lengths, count, used, slot, space, len)
         }

@@ -2,10 +2,13 @@
 ghost use mathlib.Core.Path.{_≡_};
 ghost use Prim.Native.Nat.{_<_, min};
 ghost use lib.ListN.{take};
+ghost use Rattle.words.specs.Names.{nameBytes, tellingOf};
 ghost use Rattle.variables.specs.Tables.{slotIn, sumOf, emptyTables};
 ghost use Rattle.variables.specs.Variables.{mostVariables};
 use space::Offset;
-use words::Telling;
+use words::Name;
+use words::character;
+use words::is_told;
 
 // The names of the variables of a kind, one after the other.
 pub type NameTable = [u8; Tables::NAMES];
@@ -34,7 +37,7 @@ impl Tables {
     pub const MOST: usize = 64;
 
     // How many bytes their names have.
-    pub const NAMES: usize = Telling::WIDTH * Tables::MOST;
+    pub const NAMES: usize = Name::WIDTH * Tables::MOST;
 
     pub fn empty() -> Tables
         ensures { λ r. ⌜ r ≡ emptyTables ⌝ }
@@ -58,19 +61,18 @@ pub enum Slot {
     None,
 }
 
-// The entry with a name.
-pub fn slot_of(names: &NameTable, name: Telling) -> Slot
-    ensures { λ r. ⌜ r ≡ slotIn (now (names .entry)) name ⌝ }
+// The entry with a name that stands in a line; most others begin otherwise.
+pub fn slot_of(names: &NameTable, line: &[u8], name: Name) -> Slot
+    ensures { λ r. ⌜ r ≡ slotIn (now (names .entry)) (tellingOf (nameBytes (now (line .entry)) name)) ⌝ }
 {
-    let first = name.first;
-    let second = name.second;
+    let first = character(line, name, 0);
     let mut i = 0;
     while i < Tables::MOST {
-        let at = Telling::WIDTH * i;
-        let a = names[at];
-        let b = names[at + 1];
-        if a == first && b == second {
-            return Slot::At(i);
+        let from = Name::WIDTH * i;
+        if names[from] == first {
+            if is_told(names, from as u16, line, name) {
+                return Slot::At(i);
+            }
         }
         i += 1;
     }

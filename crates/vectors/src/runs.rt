@@ -10,10 +10,12 @@ use crate::saying::tally;
 use crate::saying::word;
 use runner::Outcome;
 use runner::Ran;
+use runner::is_refused;
 use runner::run;
 use variables::Numbers;
 use variables::Strings;
 use variables::Tables;
+use words::Name;
 
 // What the lent bytes hold before a run.
 const OLD: u8 = 170;
@@ -53,16 +55,6 @@ fn show_outcome(outcome: Outcome) {
     }
 }
 
-fn is_refused(outcome: Outcome) -> bool {
-    match outcome {
-        Outcome::Ended => false,
-        Outcome::Stopped(_) => false,
-        Outcome::Out(_) => false,
-        Outcome::Failed(_, _) => false,
-        Outcome::Refused(_, _) => true,
-    }
-}
-
 fn wide_word(word: u16) -> u64 {
     word as u64
 }
@@ -91,8 +83,8 @@ fn show_numbers(numbers: Numbers) {
     let names = numbers.names;
     let words = numbers.words;
     let count = numbers.count % 65;
-    front(&names, 2 * count);
-    others(&names, 2 * count, 0);
+    front(&names, Name::WIDTH * count);
+    others(&names, Name::WIDTH * count, 0);
     show_words(&words, count);
     other_words(&words, count);
 }
@@ -101,8 +93,8 @@ fn show_strings(strings: Strings) {
     let names = strings.names;
     let lengths = strings.lengths;
     let count = strings.count % 65;
-    front(&names, 2 * count);
-    others(&names, 2 * count, 0);
+    front(&names, Name::WIDTH * count);
+    others(&names, Name::WIDTH * count, 0);
     front(&lengths, count);
     others(&lengths, count, 0);
 }

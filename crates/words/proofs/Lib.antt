@@ -3,3 +3,4 @@ pub mod Tables
 pub mod Classing
 pub mod Packing
 pub mod Runs
+pub mod Tellings

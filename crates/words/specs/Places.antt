@@ -16,3 +16,7 @@ largestLineNumber = 65529
 -- a line of a text has at most 255 bytes, its end not counted
 abbrev pub longestLine : ℕ
 longestLine = 255
+
+-- the last place of a line where a name or a quoted text can be said to stand; no line of a text that loads is as long
+abbrev pub furthest : ℕ
+furthest = 65535

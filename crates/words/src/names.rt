@@ -1,9 +1,8 @@
 // Names of variables: where one stands, whose it is, and the characters that tell it from others.
 ghost use mathlib.Core.Path.{_≡_};
-ghost use Prim.Native.Nat.{_≤_};
-ghost use lib.ListN.{getD, take, drop};
+ghost use lib.ListN.{getD, drop};
 ghost use Rattle.words.specs.Classes.{capitalOf};
-ghost use Rattle.words.specs.Names.{nameBytes, tellingOf, alike};
+ghost use Rattle.words.specs.Names.{nameBytes, tellingOf, alike, entryOf};
 use crate::classes::byte_at;
 use crate::classes::capital;
 use crate::places::Place;
@@ -16,52 +15,59 @@ pub enum Kind {
 
 // A name where it stands in a line, its `$` or `%` not counted.
 pub struct Name {
-    pub at: Place,
-    pub len: usize,
+    pub at: u16,
+    pub len: u16,
     pub kind: Kind,
 }
 
-// Only the first two characters of a name tell; the second is 0 where there is none.
-pub struct Telling {
-    pub first: u8,
-    pub second: u8,
+impl Name {
+    // How many characters tell, and a name may have.
+    pub const WIDTH: usize = 40;
 }
 
-impl Telling {
-    // How many characters tell.
-    pub const WIDTH: usize = 2;
-}
+// The characters of a name that tell, in capitals, and zeros after them.
+pub type Telling = [u8; Name::WIDTH];
 
-// A character of so many from a place on, in capitals; 0 where there is none.
-fn character(line: &[u8], at: Place, len: usize, index: usize) -> u8
-    requires { ⌜ index ≤ 1 ⌝ }
-    ensures { λ r. ⌜ r ≡ capitalOf (getD (take len (drop (at .0) (now (line .entry)))) index 0) ⌝ }
+// A character of a name, in capitals; 0 where there is none.
+pub fn character(line: &[u8], name: Name, index: usize) -> u8
+    ensures { λ r. ⌜ r ≡ capitalOf (getD (nameBytes (now (line .entry)) name) index 0) ⌝ }
 {
-    let first = at.0;
-    if len <= index {
+    if name.len as usize <= index {
         return 0;
     }
-    if line.len() <= first {
-        return 0;
-    }
-    capital(byte_at(line, Place(first + index)))
+    capital(byte_at(line, Place(name.at as usize + index)))
 }
 
-// The characters that tell a name, in capitals.
 pub fn telling_of(line: &[u8], name: Name) -> Telling
-    ensures { λ r. ⌜ r ≡ tellingOf (nameBytes (now (line .entry)) name) ⌝ }
+    ensures { λ r. ⌜ r ≡ entryOf (tellingOf (nameBytes (now (line .entry)) name)) ⌝ }
 {
-    let at = name.at;
-    let len = name.len;
-    Telling {
-        first: character(line, at, len, 0),
-        second: character(line, at, len, 1),
+    let mut telling = [0; Name::WIDTH];
+    let mut count = 0;
+    while count < Name::WIDTH {
+        let letter = character(line, name, count);
+        if letter == 0 {
+            return telling;
+        }
+        telling[count] = letter;
+        count += 1;
     }
+    telling
 }
 
-// Whether two names are one variable's.
-pub fn same_name(a: Telling, b: Telling) -> bool
-    ensures { λ r. ⌜ r ≡ alike a b ⌝ }
+// Whether a name is one variable's with the one that other bytes tell from a place on: it is compared where it stands.
+pub fn is_told(tellings: &[u8], from: u16, line: &[u8], name: Name) -> bool
+    ensures { λ r. ⌜ r ≡ alike (drop from (now (tellings .entry))) (tellingOf (nameBytes (now (line .entry)) name)) ⌝ }
 {
-    a.first == b.first && a.second == b.second
+    let mut i = 0;
+    while i < Name::WIDTH {
+        let letter = character(line, name, i);
+        if byte_at(tellings, Place(from as usize + i)) != letter {
+            return false;
+        }
+        if letter == 0 {
+            return true;
+        }
+        i += 1;
+    }
+    true
 }

@@ -9,3 +9,8 @@ impl LineNumber {
 
 // The place of a byte, counted from 0.
 pub struct Place(pub usize);
+
+impl Place {
+    // The last place where a name or a quoted text can be said to stand.
+    pub const FURTHEST: usize = 65535;
+}

@@ -63,8 +63,8 @@ pub enum Sign {
 
 // The bytes between two quotes.
 pub struct Quotation {
-    pub at: Place,
-    pub len: usize,
+    pub at: u16,
+    pub len: u16,
 }
 
 // Digits up to 32767 are a number and a line number, those above up to 65529 a line number only.

@@ -6,7 +6,7 @@ use mathlib.Core.List.{List}
 use Prim.Native.Nat.{ℕ}
 use Rattle.whole.specs.declared.errors.Error.the-variants.{NextWithoutFor, ForWithoutNext}
 use Rattle.words.specs.declared.names.Name.{Name}
-use Rattle.words.specs.declared.names.Telling.{Telling}
+use Rattle.words.specs.Names.{Telling}
 use Rattle.words.specs.declared.places.Place.{Place}
 use Rattle.grammar.specs.Tests.{onName}
 use Rattle.grammar.specs.Trees as tree

@@ -7,7 +7,7 @@ use lib.ListN.{length, length-append}
 use Rattle.whole.specs.Whole.{negated}
 use Rattle.words.specs.declared.names.Kind.{Kind}
 use Rattle.words.specs.declared.names.Kind.the-variants as kind
-use Rattle.words.specs.declared.names.Telling.{Telling}
+use Rattle.words.specs.Names.{Telling}
 use Rattle.words.specs.declared.symbols.Function.{Function}
 use Rattle.words.proofs.Choices.{both}
 use Rattle.grammar.specs.Trees.{Formula, number, variable, text, inside, minus, complement, twoSided, call, Arguments, none, also}

@@ -7,7 +7,7 @@ use lib.Dec.{ltb}
 use lib.ListN.{length}
 use Rattle.words.specs.declared.names.Kind.{Kind}
 use Rattle.words.specs.declared.names.Kind.the-variants as kind
-use Rattle.words.specs.declared.names.Telling.{Telling}
+use Rattle.words.specs.Names.{Telling}
 use Rattle.words.proofs.Choices.{by-test}
 use Rattle.grammar.specs.Trees.{Formula}
 use Rattle.variables.specs.Strings.{Value, whole, text, Room, Outcome, value, fault}

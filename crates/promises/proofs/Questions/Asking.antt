@@ -7,10 +7,9 @@ use native.Mathlib.Omega.{arith}
 use borrow.Author.Tests.{leb-false}
 use lib.Dec.{leb}
 use lib.ListN.{length, replicate}
-use Rattle.words.specs.Names.{alike, nameBytes, tellingOf}
+use Rattle.words.specs.Names.{Telling, alike, nameBytes, tellingOf}
 use Rattle.words.specs.Places.{place}
 use Rattle.words.specs.declared.names.Name.{Name}
-use Rattle.words.specs.declared.names.Telling.{Telling}
 use Rattle.words.specs.declared.symbols.Token.{Token}
 use Rattle.words.specs.declared.symbols.Token.the-variants as token
 use Rattle.words.proofs.Choices.{by-test}

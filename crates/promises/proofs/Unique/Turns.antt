@@ -61,5 +61,5 @@ with-string κs a p z z′ ws ws′ e e′ =
       λ i. storedFrom (q i),
       pair refl
           (pair (λ i. q i .state .tables .strings .names)
-          (pair (λ i. q i .state .tables .strings .lengths) (pair refl (pair (same (e .1) (e′ .1)) refl)))),
+          (pair (λ i. q i .state .tables .strings .lengths) (pair refl (pair refl (pair (same (e .1) (e′ .1)) refl))))),
     )

@@ -35,7 +35,7 @@ store-string κs a p z z′ ws ws′ e e′ =
     let q : stringsLeft z (ws .0) (ws .1 .0) ≡ stringsLeft z′ (ws′ .0) (ws′ .1 .0) = same (e .0) (e′ .0) in (
       λ i. record { ok = q i .ok; count = q i .strings .count; used = record { 0 = q i .used } },
       pair (λ i. q i .strings .names)
-          (pair (λ i. q i .strings .lengths) (pair refl (pair refl (pair refl (pair (same (e .1) (e′ .1)) refl))))),
+          (pair (λ i. q i .strings .lengths) (pair refl (pair refl (pair refl (pair refl (pair (same (e .1) (e′ .1)) refl)))))),
     )
 
 pub wide : Unique variables.wide.Kinds.ps variables.wide.Kinds.r variables.wide.Reads.Pre variables.wide.Reads.Post

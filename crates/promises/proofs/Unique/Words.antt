@@ -22,8 +22,11 @@ is-letter κs a p z z′ ws ws′ e e′ = (same e e′, refl)
 pub telling-of : Unique words.telling_of.Kinds.ps words.telling_of.Kinds.r words.telling_of.Reads.Pre words.telling_of.Reads.Post
 telling-of κs a p z z′ ws ws′ e e′ = (same e e′, refl)
 
-pub same-name : Unique words.same_name.Kinds.ps words.same_name.Kinds.r words.same_name.Reads.Pre words.same_name.Reads.Post
-same-name κs a p z z′ ws ws′ e e′ = (same e e′, refl)
+pub character : Unique words.character.Kinds.ps words.character.Kinds.r words.character.Reads.Pre words.character.Reads.Post
+character κs a p z z′ ws ws′ e e′ = (same e e′, refl)
+
+pub is-told : Unique words.is_told.Kinds.ps words.is_told.Kinds.r words.is_told.Reads.Pre words.is_told.Reads.Post
+is-told κs a p z z′ ws ws′ e e′ = (same e e′, refl)
 
 pub word-of : Unique words.word_of.Kinds.ps words.word_of.Kinds.r words.word_of.Reads.Pre words.word_of.Reads.Post
 word-of κs a p z z′ ws ws′ e e′ = (same e e′, refl)

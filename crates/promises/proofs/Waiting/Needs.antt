@@ -8,11 +8,10 @@ use lib.ListN.{length}
 use Rattle.whole.specs.Whole.{applied, negated, say}
 use Rattle.whole.specs.declared.arithmetic.Operator.{Operator}
 use Rattle.whole.specs.declared.arithmetic.Operator.the-variants.{Multiply, Divide, Modulo, Add, Subtract, Equal, Unequal, Less, Greater, AtMost, AtLeast, And, Or, Xor, Eqv, Imp}
-use Rattle.words.specs.Names.{alike}
+use Rattle.words.specs.Names.{Telling, alike}
 use Rattle.words.specs.Spellings.{sameBytes}
 use Rattle.words.specs.declared.names.Kind.{Kind}
 use Rattle.words.specs.declared.names.Kind.the-variants as kind
-use Rattle.words.specs.declared.names.Telling.{Telling}
 use Rattle.words.specs.declared.symbols.Function.{Function}
 use Rattle.words.proofs.Choices.{by-test}
 use Rattle.grammar.specs.Trees as tree

@@ -55,6 +55,10 @@ ranOf d names words labels lengths = record {
   tables = record { numbers = numbersOf names words (d .numbers); strings = stringsOf labels lengths (d .strings) };
 }
 
+-- tables that are lent, of which none is counted
+abbrev pub lentTables : List ℕ → List ℕ → List ℕ → List ℕ → Tables
+lentTables names words labels lengths = record { numbers = numbersOf names words 0; strings = stringsOf labels lengths 0 }
+
 abbrev pub endedAs : Outcome → State → Ran
 endedAs o m =
     record { outcome = o; steps = m .steps; written = m .printer .written; taken = m .taken; tables = m .tables }
@@ -74,8 +78,8 @@ pub record RanAs (ran : run.Ran) (space room : List ℕ) (r : Ran) (space′ roo
 
 -- ---- refusals
 
-abbrev pub refusedAs : Refusal → Place → Tables → Ran
-refusedAs refusal place tables = record { outcome = Refused refusal place; steps = 0; written = 0; taken = 0; tables = tables }
+abbrev pub refusedAs : Refusal → Place → Done
+refusedAs refusal place = record { outcome = Refused refusal place; steps = 0; written = 0; taken = 0; numbers = 0; strings = 0 }
 
 abbrev pub refusing : Refusal → Place → Before
 refusing refusal p = record { fine = false; refusal = refusal; place = p }

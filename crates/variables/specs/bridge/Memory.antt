@@ -6,10 +6,9 @@ use mathlib.Core.List.{List, [], _∷_}
 use Prim.Native.Nat.{ℕ, _+_, _-_, _*_, _≤_, _<_}
 use lib.Dec.{leb}
 use lib.ListN.{length, getD, set, take, drop, replicate}
-use Rattle.words.specs.Names.{nameWidth, alike}
-use Rattle.words.specs.declared.names.Telling.{Telling}
+use Rattle.words.specs.Names.{Telling, nameWidth, telling, alike, entryOf}
 use Rattle.variables.specs.Strings.{whole, text, Room, Outcome, value, fault}
-use Rattle.variables.specs.Tables.{namesLong, namesFrom, namesIn, numbersIn, slotIn, sumOf}
+use Rattle.variables.specs.Tables.{namesLong, nameBytes, namesFrom, namesIn, numbersIn, slotIn, sumOf}
 use Rattle.variables.specs.Variables.{NumberVariable, StringVariable, Variables, wordOf, bytesOf, mostVariables}
 use Rattle.whole.specs.declared.arithmetic.Answer.{Answer}
 use Rattle.whole.specs.declared.arithmetic.Answer.the-variants.{Whole, Fault}
@@ -120,6 +119,10 @@ numbersHeld n = numbersIn (namesFrom (n .count) (n .names)) (n .words)
 abbrev pub stringsHeld : Strings → List ℕ → List StringVariable
 stringsHeld t space = stringsIn (namesFrom (t .count) (t .names)) (t .lengths) space
 
+-- a name all of which tells
+abbrev pub Tells : Telling → Type 0
+Tells name = telling name ≡ name
+
 -- none of some names is one variable's with a name
 pub data Absent (name : Telling) : List Telling → Type 0 where
   none : Absent name []
@@ -130,11 +133,12 @@ pub data Apart : List Telling → Type 0 where
   empty : Apart []
   joining : {n : Telling} {ns : List Telling} → Absent n ns → Apart ns → Apart (n ∷ ns)
 
--- unused entries are zeros
+-- the bytes of an entry after its name, and unused entries, are zeros
 pub record TidyNumbers (n : Numbers) : Type 0 where
   pub few : n .count ≤ mostVariables
   pub named : length (n .names) ≡ namesLong
   pub worded : length (n .words) ≡ mostVariables
+  pub filled : nameBytes (namesFrom (n .count) (n .names)) ≡ take (nameWidth * n .count) (n .names)
   pub namesBlank : drop (nameWidth * n .count) (n .names) ≡ replicate (namesLong - nameWidth * n .count) 0
   pub wordsBlank : drop (n .count) (n .words) ≡ replicate (mostVariables - n .count) 0
   pub apart : Apart (namesFrom (n .count) (n .names))
@@ -143,16 +147,17 @@ pub record TidyStrings (t : Strings) : Type 0 where
   pub few : t .count ≤ mostVariables
   pub named : length (t .names) ≡ namesLong
   pub lengthy : length (t .lengths) ≡ mostVariables
+  pub filled : nameBytes (namesFrom (t .count) (t .names)) ≡ take (nameWidth * t .count) (t .names)
   pub namesBlank : drop (nameWidth * t .count) (t .names) ≡ replicate (namesLong - nameWidth * t .count) 0
   pub lengthsBlank : drop (t .count) (t .lengths) ≡ replicate (mostVariables - t .count) 0
 
 -- the i-th name of a table
 abbrev pub nameAt : List ℕ → ℕ → Telling
-nameAt names i = record { first = getD names (nameWidth * i) 0; second = getD names (nameWidth * i + 1) 0 }
+nameAt names i = telling (drop (nameWidth * i) names)
 
 -- a name in a table
 abbrev pub withName : List ℕ → ℕ → Telling → List ℕ
-withName names i name = set (set names (nameWidth * i) (name .first)) (nameWidth * i + 1) (name .second)
+withName names i name = copied names (nameWidth * i) (entryOf name)
 
 -- the lent arrays and a count, as a table
 abbrev pub numbersOf : List ℕ → List ℕ → ℕ → Numbers

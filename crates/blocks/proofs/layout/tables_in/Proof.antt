@@ -9,10 +9,9 @@ returns c =
     let l = c .before .before .before .before in
     let w = l .before .before .before .before in
     rw (
-      w .before .before .before .bytes-at .ensures,
-      w .words-of .ensures,
-      w .before .bytes-at2 .ensures,
-      l .before .before .bytes-at3 .ensures,
+      w .before .before .names-at .ensures,
+      w .words-at .ensures,
+      l .before .before .names-at2 .ensures,
       l .lengths-at .ensures,
       c .before .before .wide .ensures .0,
       c .wide2 .ensures .0,
@@ -26,9 +25,9 @@ tables-in-spec =
     (λ c κs. search needs)
     (λ c κs. search needs)
     (λ c κs. search needs)
-    (λ c κs. search needs)
     (λ c. search needs)
     (λ c κs. search needs)
+    (λ c. search needs)
     (λ c. search needs)
     (λ c κs. search needs)
     returns)

@@ -22,10 +22,10 @@ loop-holds c = (omega arith, refl, refl)
 
 loop-again : tie.Need-loop-again Inv-loop μ-loop
 loop-again c =
-    let l = c .before .before in (
+    let l = c .before .before .before .before in (
       omega arith,
       simp length-set (l .loop .inv .1),
-      word-read (l .loop .words) (l .before .args .t1) (l .loop .i) (c .word-of .result) (omega arith) (c .word-of .ensures) (l .loop .inv .2),
+      word-read (l .loop .words) (l .before .before .args .bytes .now) (l .loop .i) (c .word-of .result) (omega arith) (c .word-of .ensures) (l .loop .inv .2),
     )
 
 returns : tie.Need-returns Inv-loop μ-loop

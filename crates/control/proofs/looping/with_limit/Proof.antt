@@ -1,3 +1,4 @@
+use Rattle.words.specs.Names.{nameBytes, tellingOf}
 use Rattle.machine.specs.bridge.Holding.{positionOf}
 use Rattle.turns.specs.Steps.{fromStep}
 use Rattle.turns.specs.bridge.Turns.{afterOf}
@@ -12,7 +13,7 @@ returns c =
     λ input room to by t u sound p e s entry.
     let a = c .before .before .before .before .before .before .before .before .before .before .before .before .args in
     rw (c .fails .ensures, c .before .mismatch .ensures)
-    (turns-none (λ w n. fromStep (a .name) (a .at .0) (positionOf (a .text .now) (afterOf (a .here) u)) by (a .from) w n) sound (c .before .before .before .before .before .value .result) (c .before .before .match .keys2) (c .before .before .before .before .before .value .ensures to t e))
+    (turns-none (λ w n. fromStep (tellingOf (nameBytes (a .line .now) (a .name))) (a .at .0) (positionOf (a .text .now) (afterOf (a .here) u)) by (a .from) w n) sound (c .before .before .before .before .before .value .result) (c .before .before .match .keys2) (c .before .before .before .before .before .value .ensures to t e))
 
 with-step-requires : tie.Need-with-step-requires
 with-step-requires c κs =
@@ -25,7 +26,7 @@ returns-2 c =
     λ input room to by t u sound p e s entry.
     let a = c .before .before .before .before .before .before .before .before .before .before .before .before .before .before .before .before .before .before .args in
     let v = rw (c .before .before .before .before .before .before .before .worked .given .1) at (c .before .before .before .before .before .before .before .before .before .before .before .value .ensures to t e) in
-    turns-whole (λ w n. fromStep (a .name) (a .at .0) (positionOf (a .text .now) (afterOf (a .here) u)) by (a .from) w n) sound v
+    turns-whole (λ w n. fromStep (tellingOf (nameBytes (a .line .now) (a .name))) (a .at .0) (positionOf (a .text .now) (afterOf (a .here) u)) by (a .from) w n) sound v
     (c .before .before .with-step .ensures input room by u (sound-kept (v .framed .long) sound) p (rw (v .goes) s) entry)
 
 pub with-limit-spec : {M : Type 1} → statement M

@@ -1,5 +1,7 @@
 use mathlib.Core.Path.{refl, sym, _∙_}
 use borrow.Author.Tests.{not-true, not-false}
+use Rattle.words.specs.Names.{nameBytes, tellingOf}
+use Rattle.words.proofs.Tellings.{telling-told}
 use Rattle.machine.specs.bridge.Holding.{positionOf}
 use Rattle.turns.specs.Steps.{begun}
 use Rattle.turns.specs.bridge.Turns.{afterOf}
@@ -15,7 +17,7 @@ returns c =
     let a = c .before .before .before .before .before .before .before .before .args in
     let n = step-left-out (a .line .now) (a .follow) e (sym (c .before .before .before .before .is-keyword .ensures) ∙ not-true _ (c .before .before .before .if1 .taken)) in
     rw (n .0, n .1)
-    (turns-by-one entry (a .at) (a .name) (a .from) (a .limit) 1 (afterOf (a .here) (a .follow)) (a .found) sound (c .before .before .before .before .before .before .before .before .pre .1 .1 .0) (rw (n .1) at p) (c .begin-loop .ensures (a .labels .now) (a .lengths .now)) refl)
+    (turns-by-one entry (a .at) (tellingOf (nameBytes (a .line .now) (a .name))) (telling-told _) (a .from) (a .limit) 1 (afterOf (a .here) (a .follow)) (a .found) sound (c .before .before .before .before .before .before .before .before .pre .1 .1 .0) (rw (n .1) at p) (c .begin-loop .ensures (a .labels .now) (a .lengths .now)) refl)
 
 value-requires : tie.Need-value-requires
 value-requires c κs = (rw (c .before .before .before .token-at .ensures) (step-formed (c .before .before .before .before .before .before .before .before .before .pre .0) (sym (c .before .before .before .before .before .is-keyword .ensures) ∙ not-false _ (c .before .before .before .before .if1 .left))), c .before .before .before .before .before .before .before .before .before .pre .1 .0)
@@ -26,7 +28,7 @@ returns-2 c =
     let a = c .before .before .before .before .before .before .before .before .before .before .before .before .before .before .before .args in
     let read = step-stands (a .line .now) (a .follow) e (sym (c .before .before .before .before .before .before .before .before .before .before .before .is-keyword .ensures) ∙ not-false (c .before .before .before .before .before .before .before .before .before .before .before .is-keyword .result) (c .before .before .before .before .before .before .before .before .before .before .if1 .left)) in
     rw (c .fails .ensures, c .before .mismatch .ensures)
-    (turns-none (begun (a .name) (a .at .0) (positionOf (a .text .now) (afterOf (a .here) u)) (a .from) (a .limit)) sound (c .before .before .before .before .before .value .result) (c .before .before .match .keys2)
+    (turns-none (begun (tellingOf (nameBytes (a .line .now) (a .name))) (a .at .0) (positionOf (a .text .now) (afterOf (a .here) u)) (a .from) (a .limit)) sound (c .before .before .before .before .before .value .result) (c .before .before .match .keys2)
     (c .before .before .before .before .before .value .ensures by u (rw (c .before .before .before .before .before .before .before .before .before .token-at .ensures) read)))
 
 returns-3 : tie.Need-returns-3
@@ -34,7 +36,7 @@ returns-3 c =
     λ input room by u sound p e entry.
     let a = c .before .before .before .before .before .before .before .before .before .before .before .before .before .before .before .before .before .before .args in
     let read = step-stands (a .line .now) (a .follow) e (sym (c .before .before .before .before .before .before .before .before .before .before .before .before .before .before .is-keyword .ensures) ∙ not-false (c .before .before .before .before .before .before .before .before .before .before .before .before .before .before .is-keyword .result) (c .before .before .before .before .before .before .before .before .before .before .before .before .before .if1 .left)) in
-    turns-stepped entry (a .at) (a .name) (a .from) (a .limit) (a .here) (a .found) sound (c .before .before .before .before .before .before .before .before .before .before .before .before .before .before .before .before .before .before .pre .1 .1 .0) p (rw (c .before .before .before .before .worked .given .1) at (c .before .before .before .before .before .before .before .before .value .ensures by u (rw (c .before .before .before .before .before .before .before .before .before .before .before .before .token-at .ensures) read))) (c .begin-loop2 .ensures (a .labels .now) (a .lengths .now))
+    turns-stepped entry (a .at) (tellingOf (nameBytes (a .line .now) (a .name))) (telling-told _) (a .from) (a .limit) (a .here) (a .found) sound (c .before .before .before .before .before .before .before .before .before .before .before .before .before .before .before .before .before .before .pre .1 .1 .0) p (rw (c .before .before .before .before .worked .given .1) at (c .before .before .before .before .before .before .before .before .value .ensures by u (rw (c .before .before .before .before .before .before .before .before .before .before .before .before .token-at .ensures) read))) (c .begin-loop2 .ensures (a .labels .now) (a .lengths .now))
 
 pub with-step-spec : {M : Type 1} → statement M
 with-step-spec =

@@ -8,13 +8,13 @@ use Rattle.dialogue.proofs.inputting.asked_at.Tie as tie
 
 add-end : tie.Need-add-end
 add-end c =
-    let t = c .before .before .before .before in let s = t .before .before .before in
+    let t = c .before .before .before in let s = t .before .before .before in
     let h = quoted-inside (s .pre .scans) (t .token .given .1) in
     record { fits = omega (arith, h, s .pre .short) }
 
 returns : tie.Need-returns
 returns c =
-    let t = c .before .before .before .before .before in let s = t .before .before .before in
+    let t = c .before .before .before .before in let s = t .before .before .before in
     let a = s .args in let q = t .token .given .0 .0 in
     let h = quoted-inside (s .pre .scans) (t .token .given .1) in (
       omega arith,
@@ -22,7 +22,7 @@ returns c =
         omega (arith, h),
         λ prompt v u e.
             let k = input-quoted (a .line .now) (a .first) e q (t .token .given .1) in
-            (k .1 ∙ sym (quoted-part (a .line .now) (q .at .0) (q .len)), rw (c .after-text .ensures, k .1) (k .0)),
+            (k .1 ∙ sym (quoted-part (a .line .now) (q .at) (q .len)), rw (c .after-text .ensures, k .1) (k .0)),
       ),
     )
 
@@ -39,4 +39,4 @@ returns-2 c =
     )
 
 pub asked-at-spec : {M : Type 1} → statement M
-asked-at-spec = tie.close (tie.spec (λ c. search needs) add-end (λ c κs. search needs) returns returns-2)
+asked-at-spec = tie.close (tie.spec (λ c. search needs) (λ c. search needs) (λ c. search needs) add-end (λ c κs. search needs) returns returns-2)

@@ -6,7 +6,7 @@ use Rattle.host.proofs.answers.answer_of.Tie as tie
 returns : tie.Need-returns
 returns c =
     let s = c .before .before in
-    rw (s .before .ending-of .ensures, s .wide-steps .ensures, c .before .wide-size .ensures, c .wide-size2 .ensures)
+    λ names words labels lengths. rw (s .before .ending-of .ensures, s .wide-steps .ensures, c .before .wide-size .ensures, c .wide-size2 .ensures)
 
 pub answer-of-spec : {M : Type 1} → statement M
 answer-of-spec =

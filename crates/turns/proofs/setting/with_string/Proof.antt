@@ -7,7 +7,7 @@ use Rattle.turns.proofs.setting.with_string.Tie as tie
 
 returns : tie.Need-returns
 returns c = (
-  λ names words. ap (λ s. stringKept (stateOf (c .before .before .before .before .before .before .before .before .before .args .machine) names words (c .before .before .before .before .before .before .before .before .before .args .labels .now) (c .before .before .before .before .before .before .before .before .before .args .lengths .now)) s) (c .before .before .before .store-string .ensures .0),
+  λ names words. ap (λ s. stringKept (stateOf (c .before .before .before .before .before .before .before .before .before .before .args .machine) names words (c .before .before .before .before .before .before .before .before .before .before .args .labels .now) (c .before .before .before .before .before .before .before .before .before .before .args .lengths .now)) s) (c .before .before .before .store-string .ensures .0),
   c .before .before .before .store-string .ensures .1,
 )
 

@@ -2,17 +2,18 @@
 use mathlib.Core.Path.{_∙_}
 use Prim.Native.Nat.{_-_}
 use borrow.Author.Needs.{needs}
+use Rattle.variables.specs.Tables.{namesLong}
 use Rattle.blocks.proofs.Parts.{part-copied}
-use Rattle.blocks.proofs.layout.bytes_at.Statement.{statement}
-use Rattle.blocks.proofs.layout.bytes_at.Tie as tie
+use Rattle.blocks.proofs.layout.names_at.Statement.{statement}
+use Rattle.blocks.proofs.layout.names_at.Tie as tie
 
 returns : tie.Need-returns
 returns c =
     let s = c .before .before .before .before .before in
-    c .before .copy-in .ensures ∙ part-copied (s .args .block .now) (s .args .from) 128 (s .pre)
+    c .before .copy-in .ensures ∙ part-copied (s .args .block .now) (s .args .from) namesLong (s .pre)
 
-pub bytes-at-spec : {M : Type 1} → statement M
-bytes-at-spec =
+pub names-at-spec : {M : Type 1} → statement M
+names-at-spec =
     tie.close
     (tie.spec
     (λ c. search needs)
