@@ -11,7 +11,7 @@
 #include "recipes.h"
 
 static int is_error(uint64_t n) {
-    static const uint8_t errors[] = {1, 2, 3, 5, 6, 7, 8, 11, 13, 14, 15, 16, 23, 26, 29, 30, 62, 110};
+    static const uint8_t errors[] = {1, 2, 3, 4, 5, 6, 7, 8, 11, 13, 14, 15, 16, 23, 26, 29, 30, 62, 110};
     return n < 256 && memchr(errors, (int)n, sizeof errors) != NULL;
 }
 

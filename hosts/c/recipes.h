@@ -14,7 +14,8 @@ static void read_cases(void) {
 }
 
 static const char *const words[] = {
-    "LET ", "PRINT ", "?", "IF ", " THEN ", " ELSE ", "GOTO ", "GOSUB ", "RETURN", "FOR ", " TO ", " STEP ", "NEXT ", "WHILE ", "WEND", "LINE INPUT ",
+    "LET ", "PRINT ", "?", "IF ", " THEN ", " ELSE ", "GOTO ", "GOSUB ", "RETURN", "FOR ", " TO ", " STEP ", "NEXT ", "WHILE ", "WEND",
+    "DATA ", "READ ", "RESTORE", "LINE INPUT ",
     "END", "STOP", "REM x", "'x", ":", ",", ";", "=", "<>", "<", ">=", "+", "-", "*", "\\", " MOD ", " NOT ", " AND ", " OR ", " XOR ",
     " EQV ", " IMP ", "(", ")", "(", ")", "LEN(", "ASC(", "CHR$(", "LEFT$(", "MID$(", "RIGHT$(", "SPACE$(", "STRING$(", "INSTR(", "STR$(",
     "HEX$(", "VAL(", "ABS(", "SGN(", "FRE(", "A", "B%", "TOP", "A$", "LOT$", "XY$", "RINSE", "RIVET", "RIVET$", "I", "I=",
@@ -24,10 +25,12 @@ static const char *const words[] = {
 
 static const char *const statements[] = {
     "A=A+1", "B%=A*3\\2", "C=-A MOD 7", "A$=A$+\"AB\"", "LOT$=STR$(A)+HEX$(B)", "A$=LEFT$(A$,A)", "B$=MID$(A$,2,B)", "X$=CHR$(A+64)",
-    "C$=STRING$(A*20,\"*\")", "D=INSTR(A$,\"B\")", "RINSE=RIVET+1", "RIVET$=LOT$", "A234567890B234567890C234567890D234567890=A", "E=VAL(B$)+LEN(A$)", "F=FRE(0)", "PRINT A,B$;", "PRINT \"LOT \";LOT$;A", "?A$,,C;",
-    "FOR I=1 TO 4", "FOR J=A TO 1 STEP -2", "NEXT", "NEXT I", "NEXT J", "WHILE A<5", "WHILE B%", "WEND", "GOSUB 40", "RETURN", "GOTO 20", "GOTO 30:REM x",
+    "C$=STRING$(A*20,\"*\")", "D=INSTR(A$,\"B\")", "RINSE=RIVET+1", "RIVET$=LOT$", "A234567890B234567890C234567890D234567890=A",
+    "E=VAL(B$)+LEN(A$)", "F=FRE(0)", "PRINT A,B$;", "PRINT \"LOT \";LOT$;A", "?A$,,C;",
+    "FOR I=1 TO 4", "FOR J=A TO 1 STEP -2", "NEXT", "NEXT I", "NEXT J", "WHILE A<5", "WHILE B%", "WEND", "GOSUB 40", "RETURN", "GOTO 20",
+    "GOTO 30:REM x",
     "IF A>3 THEN 50 ELSE PRINT \"N\"", "IF A$<B$ THEN A$=B$:B=B+1", "IF NOT A AND 1 THEN END", "LINE INPUT A$", "LINE INPUT \"LOT? \";B$",
-    "END", "STOP", "", "'x",
+    "END", "STOP", "", "'x", "DATA 1,AB ,\"C\",-3", "DATA", "READ A", "READ A$,B", "RESTORE", "RESTORE 30",
 };
 
 #define ANY(list) list[below(sizeof list / sizeof *list)]

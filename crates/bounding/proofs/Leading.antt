@@ -12,7 +12,7 @@ use Rattle.words.specs.declared.symbols.Scanned.{Scanned}
 use Rattle.words.specs.declared.symbols.Word.{Word}
 use Rattle.words.specs.declared.symbols.Word.the-variants.{Let, Print, If, Then, Else, Goto, Gosub, Return, For, To, Step, Next, Line, Input, End, Stop, Rem, While, Wend, Data, Read, Restore}
 use Rattle.scanner.specs.Tokens.{tokenAt}
-use Rattle.grammar.specs.Trees.{Statement, empty, assign, print, ifThen, ifElse, goto, gosub, return, for, next, nextOf, while, wend, lineInput, end, stop, remark, Part, last, more}
+use Rattle.grammar.specs.Trees.{Statement, empty, assign, print, ifThen, ifElse, goto, gosub, return, for, next, nextOf, while, wend, lineInput, dataOf, read, restore, restoreTo, end, stop, remark, Part, last, more}
 use Rattle.grammar.specs.bridge.Answers.{lineOf}
 use Rattle.grammar.specs.declared.tests.NamedLine.the-variants.{Names}
 use Rattle.statements.specs.Parts.{headOf}
@@ -108,6 +108,10 @@ word-jumps n w t (nextOf v) e h = rw (← e)
 word-jumps n w t (while c) e h = rw (← e)
 word-jumps n w t wend e h = rw (← e)
 word-jumps n w t (lineInput b v) e h = rw (← e)
+word-jumps n w t (dataOf l) e h = rw (← e)
+word-jumps n w t (read vs) e h = rw (← e)
+word-jumps n w t restore e h = rw (← e)
+word-jumps n w t (restoreTo l) e h = rw (← e)
 word-jumps n w t end e h = rw (← e)
 word-jumps n w t stop e h = rw (← e)
 word-jumps n w t remark e h = rw (← e)

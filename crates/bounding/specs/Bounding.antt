@@ -12,13 +12,13 @@ use Rattle.loader.specs.Loading.{loadOf}
 use Rattle.loader.specs.Refusals.{refusalNumber}
 use Rattle.loader.specs.declared.loading.Loaded.{Loaded}
 use Rattle.loader.specs.declared.loading.Loaded.the-variants as loaded
-use Rattle.grammar.specs.Trees.{Statement, empty, assign, print, ifThen, ifElse, goto, gosub, return, for, next, nextOf, while, wend, lineInput, end, stop, remark}
+use Rattle.grammar.specs.Trees.{Statement, empty, assign, print, ifThen, ifElse, goto, gosub, return, for, next, nextOf, while, wend, lineInput, dataOf, read, restore, restoreTo, end, stop, remark}
 use Rattle.statements.specs.Parts.{headOf}
 use Rattle.machine.specs.Order.{Stand, stands}
 use Rattle.bounding.specs.declared.bounds.Bound.{Bound}
 use Rattle.bounding.specs.declared.bounds.Bound.the-variants.{Steps, NotBounded, Refused}
 
--- a statement of the line with the number n jumps on: it is no FOR, NEXT, GOSUB, RETURN, WHILE or WEND, and a line that it names is higher.
+-- a statement of the line with the number n jumps on: it is no FOR, NEXT, GOSUB, RETURN, WHILE or WEND, and a line that it jumps to is higher; RESTORE is no jump.
 -- THEN n, ELSE n and IF .. GOTO n hold the statement GOTO n; that of an IF itself names none
 abbrev pub jumpsOn : ℕ → Statement → Bool
 jumpsOn n empty = true
@@ -35,6 +35,10 @@ jumpsOn n (nextOf v) = false
 jumpsOn n (while c) = false
 jumpsOn n wend = false
 jumpsOn n (lineInput t v) = true
+jumpsOn n (dataOf l) = true
+jumpsOn n (read vs) = true
+jumpsOn n restore = true
+jumpsOn n (restoreTo l) = true
 jumpsOn n end = true
 jumpsOn n stop = true
 jumpsOn n remark = true

@@ -12,7 +12,8 @@ use Rattle.loader.specs.declared.loading.Loaded.{Loaded}
 use Rattle.loader.specs.declared.loading.Loaded.the-variants as loaded
 use Rattle.loader.proofs.Rising.{recipe}
 use Rattle.grammar.specs.Trees.{Part}
-use Rattle.machine.specs.Machine.{Machine, Lent, fresh}
+use Rattle.machine.specs.Items.{fresh}
+use Rattle.machine.specs.Machine.{Machine, Lent}
 use Rattle.runner.specs.Run.{Standing, finished, at, entering, turn, running, runOf}
 use Rattle.runner.specs.declared.running.Ran as code
 use Rattle.bounding.specs.Bounding.{isBounded, statementsIn, ifLoaded, boundOf}
@@ -70,7 +71,7 @@ module _ (text : List ℕ) (b : Bounded text) where
   run-bounded input lent budget (long h e) = rw e (omega arith)
   run-bounded input lent budget (unloaded r p h k e) = rw e (omega arith)
   run-bounded input lent budget (runs h k e) =
-      let m = fresh input lent in
+      let m = fresh text input lent in
       let f = running-bounded budget (entering m (linesOf text)) 0 (statementsIn text) (entering-stands (λ m. m .steps ≡ 0) m (linesOf text) refl) (begun m) in
       rw e (omega arith)
 
@@ -83,7 +84,7 @@ steps-bounded c b =
 pub bounded-never-out : boundedNeverOut
 bounded-never-out c l b h o =
     let a = out-of-steps-exactly c l .exactly .0 o in
-    let m = fresh (inputOf c) (lentOf c) in
+    let m = fresh (textOf c) (inputOf c) (lentOf c) in
     let f = stands-before (textOf c) b (budgetOf c) (entering m (linesOf (textOf c))) (statementsIn (textOf c)) (begun (textOf c) b m) (a .stands) in
     omega arith
 

@@ -7,7 +7,9 @@ use native.Mathlib.Omega.{arith}
 use borrow.Author.Tests.{ltb-true}
 use lib.Dec.{ltb, eqb}
 use lib.ListN.{length, length-append}
-use Rattle.whole.specs.Digits.{leadingValue}
+use Rattle.whole.specs.Digits.{leadingValue, numberItem}
+use Rattle.whole.specs.declared.arithmetic.Answer.{Answer}
+use Rattle.whole.specs.declared.arithmetic.Answer.the-variants.{Whole, Fault}
 use Rattle.whole.specs.declared.errors.Error.{Error}
 use Rattle.words.specs.declared.names.Kind.{Kind}
 use Rattle.words.specs.declared.names.Kind.the-variants as kind
@@ -24,10 +26,10 @@ use Rattle.reader.specs.Lines.{Judgement, unreadable, tooDeep, holds, judgement
 use Rattle.variables.specs.Strings.{Value, whole, text, Outcome, value, fault, make}
 use Rattle.variables.specs.Variables.{numbersFull, stringsFull}
 use Rattle.operators.specs.Values.{valueOf}
-use Rattle.machine.specs.Machine.{Position, Machine, roomOf, withStep, withInput, noting, write, commaBlanks, longestInputLine}
+use Rattle.machine.specs.Machine.{Position, Machine, roomOf, withStep, withInput, withItems, noting, write, commaBlanks, longestInputLine}
 use Rattle.machine.specs.Order.{partsHeld}
 use Rattle.order.proofs.Laws.{Every, every-front, every-back}
-use Rattle.turns.specs.Steps.{Next, goesOn, enters, ends, stops, fails, worked, wholeOnly, workedWhole, assigned, written, shownValue, printItems, toLine, Taken, takeLine, filled, lineTaken, inputLine, doStatement}
+use Rattle.turns.specs.Steps.{Next, goesOn, enters, ends, stops, fails, worked, wholeOnly, workedWhole, assigned, written, shownValue, printItems, toLine, Taken, takeLine, filled, lineTaken, inputLine, givenNumber, given, nextItem, readItems, doStatement}
 use Rattle.runner.specs.Run.{lineNumberOf, enter, judgedLine, Standing, finished, at, byEntered, entering, onward, following, turn}
 use Rattle.promises.proofs.Checked.Operators.{by-choice}
 use Rattle.bounds.proofs.Ahead.{leftIn, left-here, left-suffix, JumpsOn, PartOn, LinesOn, on-suffix, higher-suffix}
@@ -82,6 +84,28 @@ module _ (P : Next → Type 0) (failing : (e : Error) (m : Machine) → P (fails
   pub input-by : (input : List ℕ) (m : Machine) (v : Variable) (go : Machine → Next) → ((n : Machine) → P (go n)) → P (inputLine input m v go)
   input-by [] m v go h = failing _ m
   input-by (b ∷ s) m v go h = taken-by m v (takeLine (b ∷ s)) go h
+
+  given-by : (k : Kind) (name : Telling) (b : List ℕ) (m : Machine) (go : Machine → Next) → ((n : Machine) → P (go n)) → P (given k name b m go)
+  given-by kind.Whole name b m go h = by-number (numberItem b)
+    where
+      by-number : (a : Answer) → P (givenNumber a name m go)
+      by-number (Whole w) = by-choice P (numbersFull (m .variables .numbers) name) (failing _ m) (h _)
+      by-number (Fault e) = failing e m
+  given-by kind.Text name b m go h =
+      worked-by m (make b (roomOf m)) _ (λ v n. by-choice P (stringsFull (n .variables .strings) name) (failing _ n) (h _))
+
+  pub read-by : (vs : List Variable) (m : Machine) (go : Machine → Next) → ((n : Machine) → P (go n)) → P (readItems vs m go)
+  unfolding readItems
+  read-by [] m go h = h m
+  read-by (v ∷ vs) m go h = by-items (m .items) (λ n. read-by vs n go h)
+    where
+      by-items : (l : List (List ℕ)) → ((n : Machine) → P (readItems vs n go)) → P (nextItem l m (λ b n. given (v .kind) (v .telling) b n (λ o. readItems vs o go)))
+      by-items [] r = failing _ m
+      by-items (b ∷ l) r = given-by (v .kind) (v .telling) b (withItems m l) _ r
+
+  pub found-by : (m : Machine) (ls : List Line) (go : List Line → Next) → ((from : List Line) → P (go from)) → P (toLine m ls go)
+  found-by m [] go h = failing _ m
+  found-by m (l ∷ ls) go h = h (l ∷ ls)
 
   pub line-by : (m : Machine) (ls : List Line) (go : List Line → Next) → P (go ls) → P (toLine m ls go)
   line-by m [] go h = failing _ m
@@ -195,6 +219,10 @@ module _ (all : List Line) where
     statement-within place (tree.while c) m after b = absurd (false≢true (b .jumps))
     statement-within place tree.wend m after b = absurd (false≢true (b .jumps))
     statement-within place (tree.lineInput t v) m after b = written-by (Goes k) (failing k) m t _ (λ n. input-by (Goes k) (failing k) (n .input) n v _ (λ o. b .goes))
+    statement-within place (tree.dataOf l) m after b = b .goes
+    statement-within place (tree.read vs) m after b = read-by (Goes k) (failing k) vs m _ (λ n. b .goes)
+    statement-within place tree.restore m after b = b .goes
+    statement-within place (tree.restoreTo n) m after b = found-by (Goes k) (failing k) m (fromNumber (n .0) (linesOf program)) _ (λ from. b .goes)
     statement-within place tree.end m after b = tt
     statement-within place tree.stop m after b = tt
     statement-within place tree.remark m after b = b .goes

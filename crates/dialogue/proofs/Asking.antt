@@ -57,6 +57,7 @@ use Rattle.turns.specs.Steps.{goesOn, fails, firstLine, takeLine, lineTaken, in
 use Rattle.dialogue.specs.bridge.Asking.{Laid, takesLine, fillsIn}
 use Rattle.turns.proofs.Keeping.{settled-kept, sound-kept, same-kept, same-noting, room-held, leaves-unprinted}
 use Rattle.turns.proofs.Leading.{leads-on, turns-fails, turns-then}
+use Rattle.turns.proofs.Making.{leads-unmade, leads-made}
 use Rattle.turns.proofs.Storing.{string-settled, string-long, leads-string, sound-tables, turns-stored}
 use Rattle.machine.proofs.Tokens.{tokenTag, noNames, no-name}
 use Rattle.dialogue.proofs.Printing.{leads-written, printed-none, printed-more, printed-leaves}
@@ -156,6 +157,7 @@ module _ {m : State} {input space room : List ℕ} (k : ℕ) where
         outputRoom = s .outputRoom;
         left = refl;
         taken = refl;
+        feeds = s .feeds;
         steps = s .steps;
         limit = s .limit;
         placed = s .placed;
@@ -210,36 +212,20 @@ module _ (text : List ℕ) {m : State} {input space room : List ℕ} (sound : So
 
 -- ---- the variable is set to the line
 
-module _ {room : Room} {space : List ℕ} {used : ℕ} (b : List ℕ) (held : Held room space used) where
-  make-full : length space < used + length b → make b room ≡ fault OutOfStringSpace room
-  unfolding make
-  make-full h = rw (held .limit, held .lives, lt-ltb (length space) (used + length b) h)
-
-  make-fits : used + length b ≤ length space → make b room ≡ value (text b) (withString (length b) room)
-  unfolding make
-  make-fits h = rw (held .limit, held .lives, le-ltb (length space) (used + length b) h)
-
 module _ (program : List ℕ) {m : State} {input space room : List ℕ} (sound : Sound m input space room) (b : List ℕ) where
   -- there is no room for it
   pub fills-none : (v : Variable) (after : spec.Position) → length space < m .used + length b
       → Turns program m input space room anyRecords (fillsIn v b after) (turnedTo m (next.Fails OutOfStringSpace)) space room
   fills-none v after h =
       turns-fails (leaves-unprinted sound refl refl refl)
-      (λ rs l t n s.
-      record { machine = noting n (roomOf n); is = rw (make-full b (room-held (sound .settled) s) h); same = same-noting s (roomOf n) })
+      (λ rs l t n s. leads-unmade (sound .settled) b (λ o. filled (v .kind) (v .telling) b o (λ p. goesOn p after)) s h)
 
   module _ (fits : m .used + length b ≤ length space) where
     -- the bytes stand right after the variables'
-    leads-made : (v : Variable) (after : spec.Position) {rs : List Record} {n : spec.Machine} → Same program rs m input space room n
+    leads-filled : (v : Variable) (after : spec.Position) {rs : List Record} {n : spec.Machine} → Same program rs m input space room n
         → Leads program rs m input (copied space (m .used) b) room (fillsIn v b after n)
         (λ o. filled (v .kind) (v .telling) b o (λ p. goesOn p after))
-    leads-made v after {n = n} s =
-        let r = withString (length b) (roomOf n) in
-        record {
-          machine = noting n r;
-          is = rw (make-fits b (room-held (sound .settled) s) fits);
-          same = same-noting (same-kept (copied-length space (m .used) b) (sound .settled) (copied-below space (m .used) b (m .used) (le-refl _)) s) r;
-        }
+    leads-filled v after s = leads-made (sound .settled) b (λ o. filled (v .kind) (v .telling) b o (λ p. goesOn p after)) s fits
 
     -- a number's variable takes none
     pub fills-number : (name : Telling) (after : spec.Position)
@@ -248,7 +234,7 @@ module _ (program : List ℕ) {m : State} {input space room : List ℕ} (sound :
     fills-number name after =
         let long = copied-length space (m .used) b in
         turns-fails (leaves-unprinted (sound-kept long sound) long refl refl)
-        (λ rs l t n s. leads-made (record { kind = kind.Whole; telling = name }) after s)
+        (λ rs l t n s. leads-filled (record { kind = kind.Whole; telling = name }) after s)
 
     -- a string's is set
     pub fills-string : (name : Telling) → Tells name → (here : Place) (u : Scanned) → Positioned program (afterOf here u)
@@ -264,7 +250,7 @@ module _ (program : List ℕ) {m : State} {input space room : List ℕ} (sound :
         turns-stored here u (stringSet m name (length b)) (sound-tables sound (string-settled name own (length b) k f))
         (string-long name own (length b) k f ∙ long) refl refl p
         (λ rs l t n s.
-        leads-on (leads-made (record { kind = kind.Text; telling = name }) after s)
+        leads-on (leads-filled (record { kind = kind.Text; telling = name }) after s)
         (λ o e.
         rw (copied-bytes space (m .used) b fits) at (leads-string name own (length b) k f e (λ o. goesOn o after))))
 

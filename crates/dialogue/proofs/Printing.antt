@@ -49,6 +49,7 @@ module _ {text : List ℕ} {rs : List Record} {m : State} {input space room : Li
         outputRoom = same .outputRoom ∙ sym long;
         left = same .left;
         taken = same .taken;
+        feeds = same .feeds;
         steps = same .steps;
         limit = same .limit;
         placed = same .placed;

@@ -57,6 +57,12 @@ mutual
     wend : Statement
     -- the text to print first, and the variable
     lineInput : List ℕ → Variable → Statement
+    -- its items, by their bytes
+    dataOf : List (List ℕ) → Statement
+    -- never without a variable
+    read : List Variable → Statement
+    restore : Statement
+    restoreTo : LineNumber → Statement
     end : Statement
     stop : Statement
     remark : Statement

@@ -16,7 +16,8 @@ use Rattle.grammar.specs.Trees.{Formula, Part}
 use Rattle.statements.specs.Parts.{formulasOf, headOf, tailOf, placeOf, Rest, nothing, part, heads}
 use Rattle.reader.specs.Lines.{Judgement, unreadable, tooDeep, holds, judgement}
 use Rattle.variables.specs.Strings.{longestSpace}
-use Rattle.machine.specs.Machine.{Position, Machine, Lent, fresh, withStep}
+use Rattle.machine.specs.Items.{fresh}
+use Rattle.machine.specs.Machine.{Position, Machine, Lent, withStep}
 use Rattle.machine.specs.Order.{Stand, placed, standsIn, stands}
 use Rattle.order.proofs.Laws.{Every, every-front, every-back, Throughout}
 use Rattle.turns.specs.Steps.{Next}
@@ -130,7 +131,7 @@ module _ (k : ℕ) where
   run-same text input lent budget e h small =
       let f = lines-free (linesOf text) (stands-free (stands (linesOf text)) e) in
       let fits : lent .space ≤ longestSpace = omega arith in
-      let m = fresh input lent in
+      let m = fresh text input lent in
       rw (le-ltb longestSpace (lent .space) fits, le-ltb longestSpace k small)
       (loaded-same (loadOf text) m (λ n. running budget text (entering n (linesOf text)))
       (running-same budget text f (entering-same m (linesOf text) (record { small = h; held = tt }) f)))

@@ -6,6 +6,7 @@ use mathlib.Core.List.{List, [], _∷_}
 use Prim.Native.Nat.{ℕ, _+_, _-_}
 use lib.Dec.{ltb, leb, eqb}
 use lib.ListN.{length}
+use Rattle.whole.specs.Digits.{numberItem}
 use Rattle.whole.specs.Whole.{applied}
 use Rattle.whole.specs.declared.arithmetic.Answer.{Answer}
 use Rattle.whole.specs.declared.arithmetic.Answer.the-variants.{Whole, Fault}
@@ -22,11 +23,12 @@ use Rattle.statements.specs.Parts.{itemFormulas, headOf, partsOf, partsWithin, 
 use Rattle.statements.proofs.Depths.{heads-append}
 use Rattle.variables.specs.Strings.{Value, whole, text}
 use Rattle.variables.specs.Variables.{wordOf, numbersFull, stringsFull}
-use Rattle.machine.specs.Machine.{Position, Record, loop, call, again, Machine, mostRecords, roomOf, withInput, write, commaBlanks, Search, missing, found, sought, passed, isCall, isLoop, isLoopOf, longestInputLine}
-use Rattle.machine.specs.Order.{Stand, Partner, none, some, past, pairsBy, nextFor, wendFor}
+use Rattle.machine.specs.Machine.{Position, Record, loop, call, again, Machine, mostRecords, roomOf, withInput, withItems, write, commaBlanks, Search, missing, found, sought, passed, isCall, isLoop, isLoopOf, longestInputLine}
+use Rattle.machine.specs.Items.{itemsOf}
+use Rattle.machine.specs.Order.{Stand, stands, Partner, none, some, past, pairsBy, nextFor, wendFor}
 use Rattle.machine.specs.Repeats.{startOf, isWhile, isWhileOf}
 use Rattle.order.proofs.Laws.{Every, every-front, every-back}
-use Rattle.turns.specs.Steps.{Next, goesOn, enters, withNumber, assigned, written, shownValue, printItems, toLine, pushed, returned, turned, nextOn, takeLine, filled, inputLine, isWholeKind, doStatement, cleared, begun, namesOther, skipped, hereOf, repeated, whileBy, turnedBack}
+use Rattle.turns.specs.Steps.{Next, goesOn, enters, withNumber, withString, assigned, written, shownValue, printItems, toLine, pushed, returned, turned, nextOn, takeLine, filled, inputLine, givenNumber, given, nextItem, readItems, isWholeKind, doStatement, cleared, begun, namesOther, skipped, hereOf, repeated, whileBy, turnedBack}
 use Rattle.laws.proofs.Positions.{from-throughout, partner-throughout, here-throughout}
 use Rattle.promises.proofs.Records as records
 use Rattle.promises.proofs.Records.{sought-each, below-each}
@@ -155,6 +157,31 @@ module _ (k : ℕ) where
       (wider-makes k (t .bytes) (roomOf n) (roomOf (widened k n)) (record { small = s .small; is = refl }))
       (λ x o u. filled-same (v .kind) (v .telling) (t .bytes) o after u a))
 
+  -- ---- READ
+
+  given-same : (kd : Kind) (name : Telling) (b : List ℕ) (m : Machine) (go : Machine → Next) → Apt k m → Alike k go
+      → Same k (given kd name b m go) (given kd name b (widened k m) go)
+  given-same kind.Whole name b m go s h = by-number (numberItem b)
+    where
+      by-number : (x : Answer) → Same k (givenNumber x name m go) (givenNumber x name (widened k m) go)
+      by-number (Whole w) = either-same (numbersFull (m .variables .numbers) name) failed (h (withNumber m name w) (record { small = s .small; held = s .held }))
+      by-number (Fault e) = failed
+  given-same kind.Text name b m go s h =
+      worked-same _ s (wider-makes k b (roomOf m) (roomOf (widened k m)) (record { small = s .small; is = refl }))
+      (λ x o u. either-same (stringsFull (o .variables .strings) name) failed (h (withString o name b) (record { small = u .small; held = u .held })))
+
+  read-same : (vs : List Variable) (m : Machine) (go : Machine → Next) → Apt k m → Alike k go
+      → Same k (readItems vs m go) (readItems vs (widened k m) go)
+  unfolding readItems
+  read-same [] m go s h = h m s
+  read-same (v ∷ vs) m go s h = by-items (m .items) (λ n t. read-same vs n go t h)
+    where
+      by-items : (l : List (List ℕ)) → Alike k (λ n. readItems vs n go)
+          → Same k (nextItem l m (λ b n. given (v .kind) (v .telling) b n (λ o. readItems vs o go)))
+          (nextItem l (widened k m) (λ b n. given (v .kind) (v .telling) b n (λ o. readItems vs o go)))
+      by-items [] r = failed
+      by-items (b ∷ l) r = given-same (v .kind) (v .telling) b (withItems m l) _ (record { small = s .small; held = s .held }) r
+
   -- ---- all statements
 
   pub statement-same : (program : List ℕ) (at : ℕ) (x : Statement) (m : Machine) (after : Position) → FreeLines (linesOf program)
@@ -202,6 +229,12 @@ module _ (k : ℕ) where
       back-same m (sought test (m .records)) s (sought-each FreeRecord test (m .records) (s .held))
   statement-same program at (tree.lineInput t v) m after l g p s a =
       written-same m t _ s (λ n i. input-same (n .input) n v after i a)
+  statement-same program at (tree.dataOf d) m after l g p s a = onward s a
+  statement-same program at (tree.read vs) m after l g p s a = read-same vs m _ s (λ n t. onward t a)
+  statement-same program at tree.restore m after l g p s a = onward (record { small = s .small; held = s .held }) a
+  statement-same program at (tree.restoreTo n) m after l g p s a =
+      line-same m (fromNumber (n .0) (linesOf program)) (λ o ls. goesOn (withItems o (itemsOf (stands ls))) after)
+      (from-throughout FreeStatement (n .0) (linesOf program) l) (λ ls h. onward (record { small = s .small; held = s .held }) a)
   statement-same program at tree.end m after l g p s a = ended
   statement-same program at tree.stop m after l g p s a = stopped
   statement-same program at tree.remark m after l g p s a = onward s a

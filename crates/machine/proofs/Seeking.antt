@@ -19,7 +19,7 @@ use Rattle.statements.specs.Statements.{Begun, bad, done, variableOf, forAt, by
 use Rattle.statements.specs.declared.leading.Lead.{Lead}
 use Rattle.statements.proofs.Findings.{by-name, by-line}
 use Rattle.statements.proofs.Views.{Final, plain, thens, elses, more-view, final-view}
-use Rattle.statements.proofs.Ways.{if-so, by-assign, by-items, by-condition, by-for, by-repeat, by-input}
+use Rattle.statements.proofs.Ways.{if-so, by-assign, by-items, by-condition, by-for, by-repeat, by-data, by-read, by-input}
 use Rattle.machine.specs.declared.records.Sought.{Sought}
 use Rattle.machine.specs.bridge.Wanted as sought
 use Rattle.machine.specs.bridge.Seeking.{wishOf, soughtFor, loopSought, Seeks, soughtLoop}
@@ -109,6 +109,6 @@ module _ (names : List ℕ) (numbers : ℕ) (here at : Place) (s : List ℕ) (t 
   word-seeks Rem h = refl
   word-seeks While h = absurd (miss otherWords 17 tt h)
   word-seeks Wend h = absurd (miss otherWords 18 tt h)
-  word-seeks Data h = tt
-  word-seeks Read h = tt
-  word-seeks Restore h = tt
+  word-seeks Data h = by-data N tt s t (λ l p e. refl)
+  word-seeks Read h = by-read N tt s t (λ vs u e. refl)
+  word-seeks Restore h = by-line N (t .token) _ _ (λ l n r. refl) (λ n. refl)

@@ -1,4 +1,5 @@
 pub mod Machine
 pub mod Order
+pub mod Items
 pub mod Repeats
 pub mod bridge

@@ -36,6 +36,8 @@ pub record Machine : Type 0 where
   -- what is left of the input, and how many bytes were taken
   pub input : List ℕ
   pub taken : ℕ
+  -- the items of DATA that are left, by their bytes
+  pub items : List (List ℕ)
   pub steps : ℕ
   -- the bytes of the string space, and the most unfinished strings that there ever were
   pub space : ℕ
@@ -49,9 +51,9 @@ pub record Lent : Type 0 where
 abbrev pub lentBy : List ℕ → List ℕ → Lent
 lentBy space room = record { space = length space; room = length room }
 
--- every variable unset, both tables empty, column 0
-abbrev pub fresh : List ℕ → Lent → Machine
-fresh input lent = record {
+-- every variable unset, both tables empty, column 0, and some items of DATA
+abbrev pub freshWith : List (List ℕ) → List ℕ → Lent → Machine
+freshWith items input lent = record {
   variables = record { numbers = []; strings = [] };
   records = [];
   column = 0;
@@ -59,6 +61,7 @@ fresh input lent = record {
   outputRoom = lent .room;
   input = input;
   taken = 0;
+  items = items;
   steps = 0;
   space = lent .space;
   highest = 0;
@@ -79,23 +82,26 @@ roomOf m = record { limit = m .space; live = stringBytes (m .variables .strings)
 -- ---- one part of the machine anew
 
 abbrev pub withVariables : Machine → Variables → Machine
-withVariables m v = record { variables = v; records = m .records; column = m .column; output = m .output; outputRoom = m .outputRoom; input = m .input; taken = m .taken; steps = m .steps; space = m .space; highest = m .highest }
+withVariables m v = record { variables = v; records = m .records; column = m .column; output = m .output; outputRoom = m .outputRoom; input = m .input; taken = m .taken; items = m .items; steps = m .steps; space = m .space; highest = m .highest }
 
 abbrev pub withRecords : Machine → List Record → Machine
-withRecords m r = record { variables = m .variables; records = r; column = m .column; output = m .output; outputRoom = m .outputRoom; input = m .input; taken = m .taken; steps = m .steps; space = m .space; highest = m .highest }
+withRecords m r = record { variables = m .variables; records = r; column = m .column; output = m .output; outputRoom = m .outputRoom; input = m .input; taken = m .taken; items = m .items; steps = m .steps; space = m .space; highest = m .highest }
 
 abbrev pub withOutput : Machine → List ℕ → ℕ → Machine
-withOutput m out col = record { variables = m .variables; records = m .records; column = col; output = out; outputRoom = m .outputRoom; input = m .input; taken = m .taken; steps = m .steps; space = m .space; highest = m .highest }
+withOutput m out col = record { variables = m .variables; records = m .records; column = col; output = out; outputRoom = m .outputRoom; input = m .input; taken = m .taken; items = m .items; steps = m .steps; space = m .space; highest = m .highest }
 
 abbrev pub withInput : Machine → List ℕ → ℕ → Machine
-withInput m inp n = record { variables = m .variables; records = m .records; column = m .column; output = m .output; outputRoom = m .outputRoom; input = inp; taken = n; steps = m .steps; space = m .space; highest = m .highest }
+withInput m inp n = record { variables = m .variables; records = m .records; column = m .column; output = m .output; outputRoom = m .outputRoom; input = inp; taken = n; items = m .items; steps = m .steps; space = m .space; highest = m .highest }
+
+abbrev pub withItems : Machine → List (List ℕ) → Machine
+withItems m l = record { variables = m .variables; records = m .records; column = m .column; output = m .output; outputRoom = m .outputRoom; input = m .input; taken = m .taken; items = l; steps = m .steps; space = m .space; highest = m .highest }
 
 abbrev pub withStep : Machine → Machine
-withStep m = record { variables = m .variables; records = m .records; column = m .column; output = m .output; outputRoom = m .outputRoom; input = m .input; taken = m .taken; steps = suc (m .steps); space = m .space; highest = m .highest }
+withStep m = record { variables = m .variables; records = m .records; column = m .column; output = m .output; outputRoom = m .outputRoom; input = m .input; taken = m .taken; items = m .items; steps = suc (m .steps); space = m .space; highest = m .highest }
 
 -- what was worked out may have had more unfinished strings than ever before
 abbrev pub noting : Machine → Room → Machine
-noting m room = record { variables = m .variables; records = m .records; column = m .column; output = m .output; outputRoom = m .outputRoom; input = m .input; taken = m .taken; steps = m .steps; space = m .space; highest = room .highest }
+noting m room = record { variables = m .variables; records = m .records; column = m .column; output = m .output; outputRoom = m .outputRoom; input = m .input; taken = m .taken; items = m .items; steps = m .steps; space = m .space; highest = room .highest }
 
 -- ---- printing
 

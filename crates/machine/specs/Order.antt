@@ -8,7 +8,7 @@ use Rattle.words.specs.declared.symbols.Word.{Word}
 use Rattle.words.specs.declared.symbols.Word.the-variants as word
 use Rattle.loader.specs.Lines.{Line, afterNumber, nextLine}
 use Rattle.grammar.specs.Tests.{wordRank}
-use Rattle.grammar.specs.Trees.{Statement, empty, assign, print, ifThen, ifElse, goto, gosub, return, for, next, nextOf, while, wend, lineInput, end, stop, remark, Part}
+use Rattle.grammar.specs.Trees.{Statement, empty, assign, print, ifThen, ifElse, goto, gosub, return, for, next, nextOf, while, wend, lineInput, dataOf, read, restore, restoreTo, end, stop, remark, Part}
 use Rattle.statements.specs.Parts.{headOf, placeOf, tailOf, partsOf}
 use Rattle.reader.specs.Lines.{Judgement, unreadable, tooDeep, holds, judgement}
 use Rattle.machine.specs.Machine.{Position}
@@ -105,6 +105,10 @@ wordOf (nextOf v) = word.Next
 wordOf (while c) = word.While
 wordOf wend = word.Wend
 wordOf (lineInput t v) = word.Line
+wordOf (dataOf l) = word.Data
+wordOf (read vs) = word.Read
+wordOf restore = word.Restore
+wordOf (restoreTo l) = word.Restore
 wordOf end = word.End
 wordOf stop = word.Stop
 wordOf remark = word.Rem

@@ -23,6 +23,7 @@ pub use records::is_sought;
 pub use records::record_at;
 pub use records::with_record;
 pub use sought::sought_record;
+pub use state::Feed;
 pub use state::Machine;
 pub use state::Printer;
 pub use taking::InputLine;

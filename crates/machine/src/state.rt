@@ -1,6 +1,6 @@
 // The machine: counts of what was printed, taken and done, and how much of the tables is in use.
 ghost use mathlib.Core.Path.{_≡_};
-ghost use Rattle.machine.specs.bridge.Holding.{freshMachine};
+ghost use Rattle.machine.specs.bridge.Holding.{feedFrom, freshMachine};
 use space::Offset;
 use words::Place;
 
@@ -8,6 +8,14 @@ use words::Place;
 pub struct Printer {
     pub column: usize,
     pub written: usize,
+}
+
+// Where the items of DATA go on: a line, by where it begins in the text, and a place in it. Inside a DATA statement the next item begins
+// there; else it is the first of the statements from there on.
+pub struct Feed {
+    pub line: Place,
+    pub at: Place,
+    pub inside: bool,
 }
 
 // The variables' tables are lent beside it, and so are the records.
@@ -20,9 +28,23 @@ pub struct Machine {
     pub printer: Printer,
     // The first byte of input that was not taken.
     pub taken: Place,
+    pub feed: Feed,
     pub steps: u32,
     // How many records there are.
     pub depth: usize,
+}
+
+impl Feed {
+    // All items from a line on.
+    pub fn from_line(line: Place) -> Feed
+        ensures { λ r. ⌜ r ≡ feedFrom line ⌝ }
+    {
+        Feed {
+            line,
+            at: Place(0),
+            inside: false,
+        }
+    }
 }
 
 impl Machine {
@@ -45,6 +67,7 @@ impl Machine {
                 written: 0,
             },
             taken: Place(0),
+            feed: Feed::from_line(Place(0)),
             steps: 0,
             depth: 0,
         }

@@ -10,7 +10,7 @@ use Rattle.whole.proofs.Never.{never}
 use Rattle.words.specs.declared.symbols.Scanned.{Scanned}
 use Rattle.words.proofs.Choices.{by-test}
 use Rattle.loader.specs.Lines.{Line, afterNumber, nextLine}
-use Rattle.grammar.specs.Trees.{Statement, empty, assign, print, ifThen, ifElse, goto, gosub, return, for, next, nextOf, while, wend, lineInput, end, stop, remark, Part, last, more}
+use Rattle.grammar.specs.Trees.{Statement, empty, assign, print, ifThen, ifElse, goto, gosub, return, for, next, nextOf, while, wend, lineInput, dataOf, read, restore, restoreTo, end, stop, remark, Part, last, more}
 use Rattle.statements.specs.Parts.{headOf, placeOf, partsOf, partsWithin, heads, statementsOf}
 use Rattle.statements.specs.Statements.{goodPart, partOf}
 use Rattle.statements.proofs.Depths.{heads-append}
@@ -92,6 +92,10 @@ module _ (P : Statement → Type 0) where
     throughout-within (while c) a = tt
     throughout-within wend a = tt
     throughout-within (lineInput t v) a = tt
+    throughout-within (dataOf l) a = tt
+    throughout-within (read vs) a = tt
+    throughout-within restore a = tt
+    throughout-within (restoreTo l) a = tt
     throughout-within end a = tt
     throughout-within stop a = tt
     throughout-within remark a = tt

@@ -19,7 +19,7 @@ use Rattle.grammar.specs.Formulas.{after}
 use Rattle.statements.proofs.Findings.{by-name, by-line}
 use Rattle.statements.proofs.Parts.{unrolled}
 use Rattle.statements.proofs.Views.{Final, plain, thens, elses, more-view, final-view}
-use Rattle.statements.proofs.Ways.{if-so, by-assign, by-items, by-condition, by-for, by-repeat, by-input}
+use Rattle.statements.proofs.Ways.{if-so, by-assign, by-items, by-condition, by-for, by-repeat, by-data, by-read, by-input}
 use Rattle.machine.specs.Order.{wordOf}
 
 -- what a word leads is a statement of that word
@@ -49,9 +49,9 @@ module _ (s : List ℕ) (t : Scanned) where
   worded Rem = refl
   worded While = by-repeat (Worded While) tt s t (λ c u e. refl)
   worded Wend = refl
-  worded Data = tt
-  worded Read = tt
-  worded Restore = tt
+  worded Data = by-data (Worded Data) tt s t (λ l p e. refl)
+  worded Read = by-read (Worded Read) tt s t (λ vs u e. refl)
+  worded Restore = by-line (Worded Restore) (t .token) _ _ (λ l n r. refl) (λ n. refl)
 
 abbrev LedAs : Lead → Begun → Type 0
 LedAs (By w t) b = Worded w b

@@ -8,7 +8,7 @@ use borrow.Author.Tests.{not-true}
 use lib.ListN.{length, getD}
 use Rattle.words.proofs.Choices.{by-test}
 use Rattle.variables.specs.declared.tables.Tables.{Tables}
-use Rattle.machine.specs.Machine.{fresh}
+use Rattle.machine.specs.Items.{fresh}
 use Rattle.checker.specs.Check.{checkOf}
 use Rattle.checker.specs.declared.checking.Verdict.{Verdict}
 use Rattle.checker.specs.declared.checking.Verdict.the-variants as verdict
@@ -81,7 +81,7 @@ pub box-refusals-change-nothing : boxRefusalsChangeNothing
 box-refusals-change-nothing c h =
     let w = word-refused (ran c .ending) (sym (told c 0) ∙ h) in
     let k = refused-told (ran c .ending) _ _ (record { refused = w; numbered = refl; placed = refl }) in
-    let e : ran c ≡ endsWith (Refused (k .refusal) _) (fresh (inputIn c) (lentIn c)) = refused-fresh (textIn c) (inputIn c) (lentIn c) (budgetIn c) (k .refusal) _ (k .is) in
+    let e : ran c ≡ endsWith (Refused (k .refusal) _) (fresh (textIn c) (inputIn c) (lentIn c)) = refused-fresh (textIn c) (inputIn c) (lentIn c) (budgetIn c) (k .refusal) _ (k .is) in
     record {
       steps = told c 4 ∙ ap (λ (x : Ran). x .machine .steps) e;
       written = told c 5 ∙ ap (λ (x : Ran). length (x .machine .output)) e;

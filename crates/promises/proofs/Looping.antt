@@ -7,6 +7,7 @@ use lib.Dec.{ltb, leb, eqb}
 use lib.IntN.{ℤ, pos, negsuc}
 use lib.ListN.{length}
 use lib.Signed.{ltZ}
+use Rattle.whole.specs.Digits.{numberItem}
 use Rattle.whole.specs.Errors.{errorNumber}
 use Rattle.whole.specs.Whole.{fit, applied}
 use Rattle.whole.specs.declared.arithmetic.Answer.{Answer}
@@ -24,11 +25,12 @@ use Rattle.variables.proofs.Names.{alike-self}
 use Rattle.variables.specs.Strings.{Value, whole, text, Outcome, value, fault, make}
 use Rattle.variables.specs.Variables.{NumberVariable, wordOf, setNumber, hasNumber, numbersFull, stringsFull}
 use Rattle.operators.specs.Values.{valueOf}
-use Rattle.machine.specs.Machine.{Position, Record, loop, call, again, Machine, mostRecords, fresh, roomOf, withStep, noting, write, commaBlanks, isCall, isLoop, isLoopOf, Search, missing, found, sought, passed, longestInputLine}
+use Rattle.machine.specs.Items.{fresh}
+use Rattle.machine.specs.Machine.{Position, Record, loop, call, again, Machine, mostRecords, roomOf, withItems, withStep, noting, write, commaBlanks, isCall, isLoop, isLoopOf, Search, missing, found, sought, passed, longestInputLine}
 use Rattle.statements.specs.Parts.{Rest, nothing, part, headOf, tailOf, placeOf}
 use Rattle.machine.specs.Order.{Partner, none, some, nextFor, wendFor}
 use Rattle.machine.specs.Repeats.{startOf, isWhile, isWhileOf}
-use Rattle.turns.specs.Steps.{Next, goesOn, enters, ends, stops, fails, wholeOnly, worked, workedWhole, withNumber, storeNumber, storeString, assigned, written, printItems, toLine, pushed, returned, cleared, begun, turned, nextOn, takeLine, filled, inputLine, isWholeKind, doStatement, namesOther, skipped, hereOf, repeated, whileBy, turnedBack}
+use Rattle.turns.specs.Steps.{Next, goesOn, enters, ends, stops, fails, wholeOnly, worked, workedWhole, withNumber, storeNumber, storeString, assigned, written, printItems, toLine, pushed, returned, cleared, begun, turned, nextOn, takeLine, filled, inputLine, isWholeKind, doStatement, namesOther, skipped, hereOf, repeated, whileBy, turnedBack, givenNumber, given, nextItem, readItems}
 use Rattle.runner.specs.Run.{lineNumberOf, Entered, over, faulty, opened, enter, Standing, finished, at, byEntered, entering, onward, following, turn}
 use Rattle.promises.specs.Passing.{standsAfter, isNext, lacksRoom, nextHasRoom}
 use Rattle.promises.proofs.Checked.Operators.{by-choice}
@@ -208,6 +210,23 @@ input-made (b ∷ s) m v go r k =
     by-choice NextMade (ltb longestInputLine (length (t .bytes))) tt
     (worked-made _ (make (t .bytes) _) _ r (λ c n q. filled-made (v .kind) (v .telling) (t .bytes) n go q k))
 
+given-made : (k : Kind) (name : Telling) (b : List ℕ) (m : Machine) (go : Machine → Next) → MachineMade m → Continues go → NextMade (given k name b m go)
+given-made kind.Whole name b m go r k = by-number (numberItem b)
+  where
+    by-number : (a : Answer) → NextMade (givenNumber a name m go)
+    by-number (answer.Whole w) = number-stored m name w go r (λ n q h. k n q)
+    by-number (answer.Fault e) = tt
+given-made kind.Text name b m go r k = worked-made m (make b (roomOf m)) _ r (λ v n q. string-stored n name b go q k)
+
+read-made : (vs : List Variable) (m : Machine) (go : Machine → Next) → MachineMade m → Continues go → NextMade (readItems vs m go)
+unfolding readItems
+read-made [] m go r k = k m r
+read-made (v ∷ vs) m go r k = by-items (m .items) (λ n q. read-made vs n go q k)
+  where
+    by-items : (l : List (List ℕ)) → Continues (λ n. readItems vs n go) → NextMade (nextItem l m (λ b n. given (v .kind) (v .telling) b n (λ o. readItems vs o go)))
+    by-items [] h = tt
+    by-items (b ∷ l) h = given-made (v .kind) (v .telling) b (withItems m l) _ r h
+
 statement-made : (program : List ℕ) (place : ℕ) (x : Statement) (m : Machine) (after : Position) → MachineMade m → NextMade (doStatement program place x m after)
 statement-made program place tree.empty m after r = r
 statement-made program place (tree.assign v f) m after r =
@@ -235,6 +254,10 @@ statement-made program place tree.wend m after r =
     let test = isWhileOf (startOf (after .lines)) place in
     back-made m (sought test (m .records)) (sought-each (RecordMade (m .variables .numbers)) test (m .records) r)
 statement-made program place (tree.lineInput t v) m after r = written-made m t _ r (λ n q. input-made (n .input) n v _ q (λ o s. s))
+statement-made program place (tree.dataOf l) m after r = r
+statement-made program place (tree.read vs) m after r = read-made vs m _ r (λ n q. q)
+statement-made program place tree.restore m after r = r
+statement-made program place (tree.restoreTo l) m after r = line-made m (fromNumber (l .0) (linesOf program)) _ (λ from. r)
 statement-made program place tree.end m after r = tt
 statement-made program place tree.stop m after r = tt
 statement-made program place tree.remark m after r = r
@@ -318,13 +341,17 @@ statement-has-room program place (tree.for v from to by) m after e r = absurd (f
 statement-has-room program place (tree.while c) m after e r = absurd (false≢true e)
 statement-has-room program place tree.wend m after e r = absurd (false≢true e)
 statement-has-room program place (tree.lineInput t v) m after e r = absurd (false≢true e)
+statement-has-room program place (tree.dataOf l) m after e r = absurd (false≢true e)
+statement-has-room program place (tree.read vs) m after e r = absurd (false≢true e)
+statement-has-room program place tree.restore m after e r = absurd (false≢true e)
+statement-has-room program place (tree.restoreTo l) m after e r = absurd (false≢true e)
 statement-has-room program place tree.end m after e r = absurd (false≢true e)
 statement-has-room program place tree.stop m after e r = absurd (false≢true e)
 statement-has-room program place tree.remark m after e r = absurd (false≢true e)
 
 pub next-has-room : nextHasRoom
 next-has-room program input lent statements m lines p stands e =
-    let begins = fresh input lent in
+    let begins = fresh program input lent in
     let made : StandingMade (at m lines p) =
     rw stands at (stands-made statements program (entering begins (linesOf program)) (entered-made (enter (linesOf program)) begins (linesOf program) tt)) in
     statement-has-room program (placeOf p) (headOf p) (withStep m) (record { lines = lines; rest = tailOf p }) e made

@@ -12,6 +12,7 @@ use Rattle.whole.specs.declared.errors.Error.the-variants.{
   NextWithoutFor,
   Syntax,
   ReturnWithoutGosub,
+  OutOfData,
   IllegalFunctionCall,
   Overflow,
   OutOfMemory,
@@ -61,6 +62,7 @@ errorOf n =
     cond (eqb n 1) NextWithoutFor
     (cond (eqb n 2) Syntax
     (cond (eqb n 3) ReturnWithoutGosub
+    (cond (eqb n 4) OutOfData
     (cond (eqb n 5) IllegalFunctionCall
     (cond (eqb n 6) Overflow
     (cond (eqb n 7) OutOfMemory
@@ -74,13 +76,14 @@ errorOf n =
     (cond (eqb n 26) ForWithoutNext
     (cond (eqb n 29) WhileWithoutWend
     (cond (eqb n 30) WendWithoutWhile
-    (cond (eqb n 62) InputPastEnd OutputFull))))))))))))))))
+    (cond (eqb n 62) InputPastEnd OutputFull)))))))))))))))))
 
 error-back : (e : Error) → errorOf (errorNumber e) ≡ e
 unfolding errorOf
 error-back NextWithoutFor = refl
 error-back Syntax = refl
 error-back ReturnWithoutGosub = refl
+error-back OutOfData = refl
 error-back IllegalFunctionCall = refl
 error-back Overflow = refl
 error-back OutOfMemory = refl
@@ -104,6 +107,7 @@ pub error-some : (e : Error) → 0 < errorNumber e
 error-some NextWithoutFor = omega arith
 error-some Syntax = omega arith
 error-some ReturnWithoutGosub = omega arith
+error-some OutOfData = omega arith
 error-some IllegalFunctionCall = omega arith
 error-some Overflow = omega arith
 error-some OutOfMemory = omega arith

@@ -9,7 +9,8 @@ use Rattle.words.specs.declared.places.LineNumber.{LineNumber}
 use Rattle.loader.specs.Lines.{Line, linesOf, nextLine}
 use Rattle.grammar.specs.Trees.{Part}
 use Rattle.variables.specs.Strings.{longestSpace}
-use Rattle.machine.specs.Machine.{Machine, Lent, fresh, withStep}
+use Rattle.machine.specs.Items.{fresh}
+use Rattle.machine.specs.Machine.{Machine, Lent, withStep}
 use Rattle.statements.specs.Parts.{Rest, nothing, part, headOf, tailOf, placeOf}
 use Rattle.turns.specs.Steps.{Next, goesOn, enters, ends, stops, fails, doStatement}
 use Rattle.runner.specs.Run.{Ran, endsWith, lineNumberOf, Entered, over, faulty, opened, enter, Standing, finished, at, byEntered, entering, onward, following, turn, running, runOf}
@@ -96,13 +97,13 @@ module _ (program : List ℕ) (m : Machine) (lines : List Line) (p : Part) where
 
 module _ (text input : List ℕ) (lent : Lent) (budget : ℕ) (l : LineNumber) where
   abbrev start : Standing
-  start = entering (fresh input lent) (linesOf text)
+  start = entering (fresh text input lent) (linesOf text)
 
   out-view : RunView text input lent budget → runOf text input lent budget .ending ≡ Out l → AnotherStands text input lent budget l
   out-view (long h e) f = let g = rw e at f in never (cc)
   out-view (unloaded r p h k e) f = let g = rw e at f in never (cc)
   out-view (runs h k e) f =
-      let y = running-stands budget text start l (entering-not-out (fresh input lent) (linesOf text)) (rw e at f) in
+      let y = running-stands budget text start l (entering-not-out (fresh text input lent) (linesOf text)) (rw e at f) in
       record { small = h; loads = k; machine = y .machine; lines = y .lines; part = y .part; stands = y .stands; numbered = y .numbered }
 
   run-out : (a : AnotherStands text input lent budget l) → runOf text input lent budget ≡ endsWith (Out l) (a .machine)
@@ -114,7 +115,7 @@ module _ (text input : List ℕ) (lent : Lent) (budget : ℕ) (l : LineNumber) w
   another-steps : (a : AnotherStands text input lent budget l) → a .machine .steps ≡ budget
   another-steps a =
       let h = stands-steps text (a .machine) (a .lines) (a .part) budget start 0
-      (entering-stands (λ o. o .steps ≡ 0) (fresh input lent) (linesOf text) refl) (a .stands) in
+      (entering-stands (λ o. o .steps ≡ 0) (fresh text input lent) (linesOf text) refl) (a .stands) in
       omega arith
 
 pub out-of-steps : outOfSteps

@@ -4,6 +4,7 @@ pub use Rattle.calls.proofs.Same.{same, pair}
 pub mod Whole
 pub mod Words
 pub mod Scanner
+pub mod Items
 pub mod Loader
 pub mod Grammar
 pub mod Skimming

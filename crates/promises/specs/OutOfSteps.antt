@@ -10,7 +10,8 @@ use Rattle.loader.specs.Loading.{loadOf}
 use Rattle.loader.specs.declared.loading.Loaded.the-variants.{Fine}
 use Rattle.grammar.specs.Trees.{Part}
 use Rattle.variables.specs.Strings.{longestSpace}
-use Rattle.machine.specs.Machine.{Machine, Lent, fresh}
+use Rattle.machine.specs.Items.{fresh}
+use Rattle.machine.specs.Machine.{Machine, Lent}
 use Rattle.runner.specs.Run.{lineNumberOf, at, entering, runOf}
 use Rattle.runner.specs.declared.running.Outcome.the-variants.{Out}
 use Rattle.promises.specs.Calls.{RunCall, textOf, inputOf, lentOf, budgetOf}
@@ -24,7 +25,7 @@ pub record AnotherStands (text input : List ℕ) (lent : Lent) (budget : ℕ) (l
   pub machine : Machine
   pub lines : List Line
   pub part : Part
-  pub stands : standsAfter budget text (entering (fresh input lent) (linesOf text)) ≡ at machine lines part
+  pub stands : standsAfter budget text (entering (fresh text input lent) (linesOf text)) ≡ at machine lines part
   pub numbered : lineNumberOf lines ≡ l
 
 -- A run of any text, on any input, with whatever it is lent and any budget is out of steps at a line if and only if as many statements as its

@@ -10,7 +10,8 @@ use Rattle.checker.specs.declared.checking.Verdict.the-variants.{Passed}
 use Rattle.loader.specs.Lines.{Line, linesOf}
 use Rattle.grammar.specs.Trees as tree
 use Rattle.grammar.specs.Trees.{Statement, Part}
-use Rattle.machine.specs.Machine.{Machine, Lent, fresh, withStep}
+use Rattle.machine.specs.Items.{fresh}
+use Rattle.machine.specs.Machine.{Machine, Lent, withStep}
 use Rattle.statements.specs.Parts.{placeOf}
 use Rattle.statements.specs.Parts.{headOf, tailOf}
 use Rattle.turns.specs.Steps.{Next, goesOn, enters, ends, stops, fails, doStatement}
@@ -60,6 +61,10 @@ isNext (tree.nextOf v) = true
 isNext (tree.while c) = false
 isNext tree.wend = false
 isNext (tree.lineInput t v) = false
+isNext (tree.dataOf l) = false
+isNext (tree.read vs) = false
+isNext tree.restore = false
+isNext (tree.restoreTo l) = false
 isNext tree.end = false
 isNext tree.stop = false
 isNext tree.remark = false
@@ -77,5 +82,5 @@ lacksRoom (fails e m) = eqb (errorNumber e) 7
 abbrev pub nextHasRoom : Type 0
 nextHasRoom =
     (text input : List ℕ) (lent : Lent) (statements : ℕ) (m : Machine) (lines : List Line) (p : Part)
-    → standsAfter statements text (entering (fresh input lent) (linesOf text)) ≡ at m lines p → isNext (headOf p) ≡ true
+    → standsAfter statements text (entering (fresh text input lent) (linesOf text)) ≡ at m lines p → isNext (headOf p) ≡ true
     → lacksRoom (doStatement text (placeOf p) (headOf p) (withStep m) (record { lines = lines; rest = tailOf p })) ≡ false

@@ -10,7 +10,8 @@ use Rattle.loader.specs.declared.loading.Loaded.the-variants.{Fine}
 use Rattle.grammar.specs.Trees.{Statement}
 use Rattle.variables.specs.Strings.{longestSpace}
 use Rattle.variables.specs.Variables.{stringBytes}
-use Rattle.machine.specs.Machine.{Machine, Lent, fresh}
+use Rattle.machine.specs.Items.{fresh}
+use Rattle.machine.specs.Machine.{Machine, Lent}
 use Rattle.runner.specs.Run.{entering, runOf}
 use Rattle.promises.specs.StringSpace.{Ask, bytesIn, StatementAsks, Begins}
 use Rattle.promises.specs.Unfinished.{mostUnfinished, Few}
@@ -31,13 +32,14 @@ pub record Request (text input : List ℕ) (lent : Lent) (budget : ℕ) : Type 0
   pub place : ℕ
   pub statement : Statement
   pub machine : Machine
-  pub begins : Begins text budget (entering (fresh input lent) (linesOf text)) from place statement machine
+  pub begins : Begins text budget (entering (fresh text input lent) (linesOf text)) from place statement machine
+  pub asking : Machine
   pub ask : Ask
-  pub asks : StatementAsks from place statement machine ask
+  pub asks : StatementAsks from place statement machine asking ask
 
 -- and the space holds it
 abbrev pub Granted : {text input : List ℕ} {lent : Lent} {budget : ℕ} → Request text input lent budget → Type 0
-Granted {lent = lent} q = Fits (lent .space) (stringBytes (q .machine .variables .strings)) (q .ask)
+Granted {lent = lent} q = Fits (lent .space) (stringBytes (q .asking .variables .strings)) (q .ask)
 
 -- Whenever a run of any text asks for a string, whether it gets it or not, at most 28 strings are unfinished with it, and so at most 32: with
 -- any input, string space, room for output and budget. The strings are those that `Ask` lists, not a count that the definition keeps. It does

@@ -23,10 +23,11 @@ use Rattle.variables.specs.Strings.{Value, whole, text, Room, value, produced, 
 use Rattle.variables.specs.Variables.{Variables, bytesOf, stringBytes}
 use Rattle.strings.specs.Functions.{called}
 use Rattle.operators.specs.Values.{leftRight, taken, valueOf, valuesOf}
-use Rattle.machine.specs.Machine.{Machine, Lent, fresh, roomOf, withStep, noting, printed, write, commaBlanks, longestInputLine}
+use Rattle.machine.specs.Items.{fresh}
+use Rattle.machine.specs.Machine.{Machine, Lent, roomOf, withItems, withStep, noting, printed, write, commaBlanks, longestInputLine}
 use Rattle.statements.specs.Parts.{placeOf, headOf}
 use Rattle.machine.specs.Order.{Stand, some, wendFor}
-use Rattle.turns.specs.Steps.{shownValue, takeLine, isWholeKind}
+use Rattle.turns.specs.Steps.{Next, shownValue, takeLine, given, isWholeKind}
 use Rattle.runner.specs.Run.{lineNumberOf, Standing, at, entering, turn}
 
 -- ---- one request
@@ -104,29 +105,42 @@ pub data PrintAsks : List Item → Machine → Ask → Type 0 where
       → PrintAsks (tree.comma ∷ is) m k
   afterSemicolon : {is : List Item} {m : Machine} {k : Ask} → PrintAsks is m k → PrintAsks (tree.semicolon ∷ is) m k
 
--- LET and PRINT, the condition of an IF and of a WHILE, FOR's start, limit and step one after another, and the line that LINE INPUT has
--- taken; the statement stands at a place of the first of some lines
-pub data StatementAsks (lines : List Line) (place : ℕ) : Statement → Machine → Ask → Type 0 where
-  assigned : {v : Variable} {f : Formula} {m : Machine} {k : Ask} → FormulaAsks f m k → StatementAsks lines place (tree.assign v f) m k
-  printing : {is : List Item} {m : Machine} {k : Ask} → PrintAsks is m k → StatementAsks lines place (tree.print is) m k
-  tested : {c : Formula} {p : Part} {m : Machine} {k : Ask} → FormulaAsks c m k → StatementAsks lines place (tree.ifThen c p) m k
-  chosen : {c : Formula} {p q : Part} {m : Machine} {k : Ask} → FormulaAsks c m k → StatementAsks lines place (tree.ifElse c p q) m k
+-- a variable of a READ is set to an item, and then the machine is this one
+abbrev pub Gave : Variable → List ℕ → Machine → Machine → Type 0
+Gave v b m n = (go : Machine → Next) → given (v .kind) (v .telling) b m go ≡ go n
+
+-- READ's items are taken one by one; the variables that it has set are live for those after them, and so are those of another machine
+pub data ReadAsks : List Variable → Machine → Machine → Ask → Type 0 where
+  thisVariable : {v : Variable} {vs : List Variable} {m : Machine} {b : List ℕ} {l : List (List ℕ)} → v .kind ≡ kind.Text → m .items ≡ b ∷ l
+      → ReadAsks (v ∷ vs) m m (record { unfinished = []; bytes = b })
+  afterVariable : {v : Variable} {vs : List Variable} {m n o : Machine} {b : List ℕ} {l : List (List ℕ)} {k : Ask} → m .items ≡ b ∷ l
+      → Gave v b (withItems m l) n → ReadAsks vs n o k → ReadAsks (v ∷ vs) m o k
+
+-- LET and PRINT, the condition of an IF and of a WHILE, FOR's start, limit and step one after another, the line that LINE INPUT has
+-- taken, and READ's items; the statement stands at a place of the first of some lines. The first machine is the one that it is begun with,
+-- the second has the variables that are live when it asks
+pub data StatementAsks (lines : List Line) (place : ℕ) : Statement → Machine → Machine → Ask → Type 0 where
+  assigned : {v : Variable} {f : Formula} {m : Machine} {k : Ask} → FormulaAsks f m k → StatementAsks lines place (tree.assign v f) m m k
+  printing : {is : List Item} {m : Machine} {k : Ask} → PrintAsks is m k → StatementAsks lines place (tree.print is) m m k
+  tested : {c : Formula} {p : Part} {m : Machine} {k : Ask} → FormulaAsks c m k → StatementAsks lines place (tree.ifThen c p) m m k
+  chosen : {c : Formula} {p q : Part} {m : Machine} {k : Ask} → FormulaAsks c m k → StatementAsks lines place (tree.ifElse c p q) m m k
   started : {v : Variable} {from to by : Formula} {m : Machine} {k : Ask} → isWholeKind (v .kind) ≡ true → FormulaAsks from m k
-      → StatementAsks lines place (tree.for v from to by) m k
+      → StatementAsks lines place (tree.for v from to by) m m k
   limited : {v : Variable} {from to by : Formula} {m : Machine} {a : ℕ} {room : Room} {k : Ask} → isWholeKind (v .kind) ≡ true
       → valueOf from (m .variables) (roomOf m) ≡ value (whole a) room → FormulaAsks to (noting m room) k
-      → StatementAsks lines place (tree.for v from to by) m k
+      → StatementAsks lines place (tree.for v from to by) m m k
   stepped : {v : Variable} {from to by : Formula} {m : Machine} {a b : ℕ} {room next : Room} {k : Ask} → isWholeKind (v .kind) ≡ true
       → valueOf from (m .variables) (roomOf m) ≡ value (whole a) room
       → valueOf to (m .variables) (roomOf (noting m room)) ≡ value (whole b) next → FormulaAsks by (noting m next) k
-      → StatementAsks lines place (tree.for v from to by) m k
+      → StatementAsks lines place (tree.for v from to by) m m k
   -- a WHILE without its WEND is 29, and asks for none
   repeated : {c : Formula} {w : Stand} {m : Machine} {k : Ask} → wendFor place lines ≡ some w → FormulaAsks c m k
-      → StatementAsks lines place (tree.while c) m k
+      → StatementAsks lines place (tree.while c) m m k
   -- a line of over 254 bytes is 23, and asks for none
   input : {t : List ℕ} {v : Variable} {m n : Machine} {b : ℕ} {s : List ℕ} → write m t ≡ printed n → n .input ≡ b ∷ s
       → length (takeLine (b ∷ s) .bytes) ≤ longestInputLine
-      → StatementAsks lines place (tree.lineInput t v) m (record { unfinished = []; bytes = takeLine (b ∷ s) .bytes })
+      → StatementAsks lines place (tree.lineInput t v) m m (record { unfinished = []; bytes = takeLine (b ∷ s) .bytes })
+  reading : {vs : List Variable} {m n : Machine} {k : Ask} → ReadAsks vs m n k → StatementAsks lines place (tree.read vs) m n k
 
 -- ---- what a run asks for
 
@@ -147,7 +161,8 @@ pub record AsksTooMuch (program lines : List ℕ) (lent : Lent) (budget : ℕ) (
   pub place : ℕ
   pub statement : Statement
   pub machine : Machine
-  pub begins : Begins program budget (entering (fresh lines lent) (linesOf program)) from place statement machine
+  pub begins : Begins program budget (entering (fresh program lines lent) (linesOf program)) from place statement machine
+  pub asking : Machine
   pub ask : Ask
-  pub asks : StatementAsks from place statement machine ask
-  pub exceeds : Exceeds (lent .space) (stringBytes (machine .variables .strings)) ask
+  pub asks : StatementAsks from place statement machine asking ask
+  pub exceeds : Exceeds (lent .space) (stringBytes (asking .variables .strings)) ask

@@ -5,7 +5,7 @@ use mathlib.Core.List.{List, [], _∷_}
 use Prim.Native.Nat.{ℕ, zero, suc, _+_, _≤_}
 use native.Mathlib.Omega.{arith}
 use lib.Dec.{ltb}
-use lib.ListN.{length, length-drop}
+use lib.ListN.{length, take, drop, length-drop}
 use Rattle.whole.specs.Digits.{leadingDigits}
 use Rattle.whole.specs.Texts.{longestString}
 use Rattle.whole.proofs.Never.{never}
@@ -22,33 +22,70 @@ use Rattle.loader.specs.declared.loading.Judged.the-variants.{Good, Bad}
 use Rattle.loader.specs.declared.loading.Loaded.the-variants.{Fine}
 use Rattle.loader.proofs.Rising as rising
 use Rattle.loader.proofs.Rising.{judged-good}
+use Rattle.items.specs.Items as item
+use Rattle.items.specs.Items.{DataItems}
+use Rattle.items.specs.declared.reading.ItemRead.{ItemRead}
+use Rattle.items.specs.declared.reading.ItemRead.the-variants as itemRead
 use Rattle.grammar.specs.Tests.{isSymbol, isKeyword, endsStatement}
-use Rattle.grammar.specs.Trees.{Formula, number, Item, comma, semicolon, shown, Statement, empty, assign, print, ifThen, ifElse, goto, gosub, return, for, next, nextOf, while, wend, lineInput, end, stop, remark, Part}
+use Rattle.grammar.specs.Trees.{Formula, number, Item, comma, semicolon, shown, Statement, empty, assign, print, ifThen, ifElse, goto, gosub, return, for, next, nextOf, while, wend, lineInput, dataOf, read, restore, restoreTo, end, stop, remark, Part}
 use Rattle.grammar.specs.Formulas as formulas
 use Rattle.grammar.specs.Formulas.{Reading, good, after, enough, formulaOf}
-use Rattle.statements.specs.Parts.{itemFormulas, formulasOf}
+use Rattle.statements.specs.Parts.{itemFormulas, formulasOf, headOf}
 use Rattle.statements.specs.Statements.{Begun, bad, done, choice, Items, noItems, items, withItem, isSeparator, afterShown, itemsAt, begunAt}
 use Rattle.statements.specs.bridge.Answers.{itemsOf}
 use Rattle.statements.proofs.Standing.{past, stepOf, Stands, Seen, begun-seen}
 use Rattle.reader.specs.Lines.{holds, judgement}
-use Rattle.order.proofs.Laws.{Every, Throughout, LinesThroughout}
-use Rattle.run_laws.proofs.Proper.{Bytes, drop-bytes, each-byte, ProperFormula}
+use Rattle.variables.specs.Strings as strings
+use Rattle.machine.specs.Items as order
+use Rattle.machine.specs.Items.{itemsIn}
+use Rattle.machine.specs.Order.{Stand, stands}
+use Rattle.order.proofs.Laws.{Every, every-join, Throughout, StandThroughout, LinesThroughout, stands-throughout}
+use Rattle.laws.proofs.Positions.{head-throughout}
+use Rattle.run_laws.proofs.Proper.{Bytes, take-bytes, drop-bytes, each-byte, Proper, ProperFormula}
 use Rattle.run_laws.proofs.Reading.{ProperToken, token-proper, formula-proper}
 use Rattle.run_laws.proofs.Throughout.{Begins, line-throughout}
 
+abbrev pub ProperItem : List ℕ → Type 0
+ProperItem b = Proper (strings.text b)
+
+-- its formulas, and the items of DATA
+abbrev pub ProperAll : List Formula → List (List ℕ) → Type 0
+ProperAll fs [] = Every ProperFormula fs
+ProperAll fs (b ∷ l) = ProperItem b × ProperAll fs l
+
 abbrev pub ProperStatement : Statement → Type 0
-ProperStatement x = Every ProperFormula (formulasOf x)
+ProperStatement x = ProperAll (formulasOf x) (itemsIn x)
+
+all-items : (fs : List Formula) (l : List (List ℕ)) → ProperAll fs l → Every ProperItem l
+all-items fs [] h = tt
+all-items fs (b ∷ l) h = (h .0, all-items fs l (h .1))
+
+-- so those of some statements
+pub items-throughout : (xs : List Stand) → Every (StandThroughout ProperStatement) xs → Every ProperItem (order.itemsOf xs)
+unfolding order.itemsOf
+items-throughout [] h = tt
+items-throughout (x ∷ xs) h =
+    let k = head-throughout ProperStatement (x .part) (h .0) in
+    every-join ProperItem (itemsIn (headOf (x .part))) (order.itemsOf xs) (all-items (formulasOf (headOf (x .part))) (itemsIn (headOf (x .part))) (k .0)) (items-throughout xs (h .1))
+
+pub lines-items : (ls : List Line) → LinesThroughout ProperStatement ls → Every ProperItem (order.itemsOf (stands ls))
+lines-items ls h = items-throughout (stands ls) (stands-throughout ProperStatement ls h)
+
+take-within : (n : ℕ) (s : List ℕ) → length (take n s) ≤ length s
+take-within zero s = omega arith
+take-within (suc n) [] = omega arith
+take-within (suc n) (b ∷ s) = omega (arith, take-within n s)
 
 module _ (s : List ℕ) (short : length s ≤ longestString) (plain : Bytes s) where
   -- the formula that begins with a token of the line
-  read : (t : Scanned) {f : Formula} {u : Scanned} → formulaOf s (after s t) ≡ good f u → ProperFormula f
-  read t e = formula-proper s short plain (after s t) (token-proper s (t .next)) e .0
+  formula-read : (t : Scanned) {f : Formula} {u : Scanned} → formulaOf s (after s t) ≡ good f u → ProperFormula f
+  formula-read t e = formula-proper s short plain (after s t) (token-proper s (t .next)) e .0
 
   step-read : (t : Scanned) {f : Formula} {u : Scanned} → stepOf s t ≡ good f u → ProperFormula f
   unfolding ProperFormula
   step-read t {f} {u} e =
       by-test (isKeyword Step (t .token))
-      (λ h. read t (rw h at e))
+      (λ h. formula-read t (rw h at e))
       (λ h. let k = rw h at e in let same : f ≡ number 1 = cc in rw same (omega arith))
 
   -- PRINT's items
@@ -85,11 +122,34 @@ module _ (s : List ℕ) (short : length s ≤ longestString) (plain : Bytes s) w
       (by-test (endsStatement (t .token)) (λ g. rw g tt) λ g. rw g
       (after-read t (formulaOf s t) (λ u. itemsAt n s u) p refl (λ u k. items-read n u k))))
 
+  -- DATA's items
+  abbrev ProperData : DataItems → Type 0
+  ProperData item.bad = Unit {0}
+  ProperData (item.items l p) = ProperAll [] l
+
+  part-read : (n i : ℕ) → ProperItem (take n (drop i s))
+  part-read n i = (omega (arith, take-within n (drop i s), length-drop i s), take-bytes n (drop i s) (drop-bytes i s plain))
+
+  item-read : (b : List ℕ) (x : DataItems) → ProperItem b → ProperData x → ProperData (item.withItem b x)
+  item-read b item.bad h k = tt
+  item-read b (item.items l p) h k = (h, k)
+
+  more-read : (r : ItemRead) (go : ℕ → DataItems) → ((p : ℕ) → ProperData (go p)) → ProperData (item.andMore s r go)
+  more-read itemRead.Bad go h = tt
+  more-read (itemRead.Good i) go h =
+      item-read (item.itemBytes s i) (item.ifMore (i .more) (i .end .0) go) (part-read (i .len) (i .from .0))
+      (by-test (i .more) (λ e. rw e (h (i .end .0 + 1))) (λ e. rw e tt))
+
+  data-read : (n at : ℕ) → ProperData (item.itemsAt n s at)
+  unfolding item.itemsAt
+  data-read zero at = tt
+  data-read (suc n) at = more-read (item.itemAt s at) (item.itemsAt n s) (λ p. data-read n p)
+
   module _ (first : Bool) (t : Scanned) where
     stands-read : (x : Statement) (u : Scanned) → Stands s first t x u → ProperStatement x
     unfolding itemsOf
     stands-read empty u h = tt
-    stands-read (assign v f) u h = (read (after s (past Let s t)) (h .value), tt)
+    stands-read (assign v f) u h = (formula-read (after s (past Let s t)) (h .value), tt)
     stands-read (print is) u h = rw (h .shows) at (items-read (enough s) (after s t) (token-proper s (t .next)))
     stands-read (ifThen c p) u h = absurd h
     stands-read (ifElse c p q) u h = absurd h
@@ -97,12 +157,16 @@ module _ (s : List ℕ) (short : length s ≤ longestString) (plain : Bytes s) w
     stands-read (gosub l) u h = tt
     stands-read return u h = tt
     stands-read (for v a b c) u h =
-        let n = h .counts in (read (after s (after s t)) (n .from), (read (n .upto) (n .limit), (step-read (n .steps) (n .by), tt)))
+        let n = h .counts in (formula-read (after s (after s t)) (n .from), (formula-read (n .upto) (n .limit), (step-read (n .steps) (n .by), tt)))
     stands-read next u h = tt
     stands-read (nextOf v) u h = tt
-    stands-read (while c) u h = (read t (h .condition), tt)
+    stands-read (while c) u h = (formula-read t (h .condition), tt)
     stands-read wend u h = tt
     stands-read (lineInput text v) u h = tt
+    stands-read (dataOf l) u h = rw (h .lists) at (data-read (suc (length s)) (t .next .0))
+    stands-read (read vs) u h = tt
+    stands-read restore u h = tt
+    stands-read (restoreTo l) u h = tt
     stands-read end u h = tt
     stands-read stop u h = tt
     stands-read remark u h = tt
@@ -110,7 +174,7 @@ module _ (s : List ℕ) (short : length s ≤ longestString) (plain : Bytes s) w
     seen-read : (b : Begun) → Seen s first t b → Begins ProperStatement b
     seen-read bad h = tt
     seen-read (done x u) h = stands-read x u h
-    seen-read (choice c u) h = let k = read t (h .condition) in (λ p. (k, tt), λ p q. (k, tt))
+    seen-read (choice c u) h = let k = formula-read t (h .condition) in (λ p. (k, tt), λ p q. (k, tt))
 
   line-read : (first : Bool) (p : ℕ) → Begins ProperStatement (begunAt s first p)
   line-read first p = seen-read first (tokenAt s (place p)) (begunAt s first p) (begun-seen s first p)

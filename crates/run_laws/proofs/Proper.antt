@@ -11,14 +11,14 @@ use lib.IntN.{ℤ, pos, negsuc, _+ℤ_, _-ℤ_, _*ℤ_, negℤ, natAbs}
 use lib.Signed.{ltZ, leZ, quotZ, remZ}
 use lib.ListN.{length, take, drop, getD, replicate, length-drop}
 use Rattle.whole.specs.Bytes.{is, blank}
-use Rattle.whole.specs.Digits.{leadingValue, signedValue, valOf}
+use Rattle.whole.specs.Digits.{leadingValue, signedValue, valOf, signLength, digitsOnly, numberItem}
 use Rattle.whole.specs.Texts.{places, trimmed, digitByte, numeral, signByte, signedNumeral, hexadecimal, longestString}
 use Rattle.whole.specs.Whole.{num, word, fit, say, applied, negated, flipped, magnitude, signOf, signum}
 use Rattle.whole.specs.declared.arithmetic.Answer.{Answer}
 use Rattle.whole.specs.declared.arithmetic.Answer.the-variants.{Whole, Fault}
 use Rattle.whole.specs.declared.arithmetic.Operator.{Operator}
 use Rattle.whole.specs.declared.arithmetic.Operator.the-variants as operator
-use Rattle.whole.specs.declared.errors.Error.the-variants.{DivisionByZero}
+use Rattle.whole.specs.declared.errors.Error.the-variants.{IllegalFunctionCall, DivisionByZero}
 use Rattle.words.specs.Names.{Telling, alike}
 use Rattle.words.specs.Spellings.{sameBytes}
 use Rattle.words.specs.declared.names.Kind.the-variants as kind
@@ -108,6 +108,11 @@ val-proper [] = fit-proper (pos 0)
 val-proper (b ∷ s) =
     cond-proper (is "-" b) (fit (negℤ (pos (leadingValue s)))) _ (fit-proper (negℤ (pos (leadingValue s))))
     (cond-proper (is "+" b) (fit (pos (leadingValue s))) _ (fit-proper (pos (leadingValue s))) (fit-proper (pos (leadingValue (b ∷ s)))))
+
+-- an item read as a number
+pub item-proper : (s : List ℕ) → ProperAnswer (numberItem s)
+unfolding numberItem
+item-proper s = cond-proper (digitsOnly (drop (signLength s) s)) (signedValue s) (Fault IllegalFunctionCall) (val-proper s) tt
 
 found-within : (p : ℕ) (s y : List ℕ) → found p s y ≤ p + length s
 unfolding found

@@ -27,7 +27,7 @@ use Rattle.words.specs.declared.symbols.Sign.the-variants.{Open, Close, Comma, 
 use Rattle.words.specs.declared.symbols.Token.{Token}
 use Rattle.words.specs.declared.symbols.Token.the-variants.{EndOfLine, Keyword, Not, Infix, Call, Named, Number, Hexadecimal, LineOnly, Quoted, Symbol, Unreadable}
 use Rattle.words.specs.declared.vocabulary.WordFound.{WordFound}
-use Rattle.words.specs.declared.vocabulary.WordFound.the-variants.{Plain, Dollared, Remark, Free}
+use Rattle.words.specs.declared.vocabulary.WordFound.the-variants.{Plain, Dollared, Remark, Items, Free}
 use Rattle.words.proofs.Choices.{by-test, both}
 use Rattle.words.proofs.Tables.{every, meaning-passes}
 use Rattle.scanner.specs.Tokens.{markOf, marked, wordToken, numberToken, hexFrom, hexToken, textToken, paired, signToken, begun, tokenFrom, otherToken, tokenAt}
@@ -94,6 +94,7 @@ abbrev noNumberWord : WordFound → Bool
 noNumberWord (Plain t) = noNumber t
 noNumberWord (Dollared t) = noNumber t
 noNumberWord Remark = true
+noNumberWord Items = true
 noNumberWord Free = true
 
 abbrev noNumberSign : SignFound → Bool
@@ -108,6 +109,7 @@ marked-proper (Dollared t) Dollar i n end e = table-proper t e
 marked-proper (Dollared t) Percent i n end e = tt
 marked-proper (Dollared t) Bare i n end e = tt
 marked-proper Remark m i n end e = tt
+marked-proper Items m i n end e = tt
 marked-proper Free m i n end e = by-test (leb n nameWidth && leb i furthest) (λ t. rw t tt) (λ t. rw t tt)
 
 word-proper : (end i : ℕ) (s : List ℕ) → ProperToken (wordToken end i s .token)

@@ -8,7 +8,8 @@ use Rattle.grammar.specs.Trees.{Formula, Variable, Statement, Part}
 use Rattle.statements.specs.Parts.{headOf, tailOf, Rest, nothing, part, placeOf}
 use Rattle.reader.specs.Lines.{Judgement, unreadable, tooDeep, holds, judgement}
 use Rattle.variables.specs.Strings.{Value, whole, text}
-use Rattle.machine.specs.Machine.{Position, Machine, Lent, fresh, roomOf, withStep}
+use Rattle.machine.specs.Items.{fresh}
+use Rattle.machine.specs.Machine.{Position, Machine, Lent, roomOf, withStep}
 use Rattle.turns.specs.Steps.{Next, goesOn, enters, ends, stops, fails, doStatement}
 use Rattle.runner.specs.Run.{lineNumberOf, enter, judgedLine, Standing, finished, at, byEntered, entering, onward, following, turn}
 use Rattle.promises.specs.Calls.{RunCall, textOf, inputOf, lentOf}
@@ -21,7 +22,7 @@ use Rattle.laws.proofs.Texts.{parts-join-again, brackets-do-not-matter}
 use Rattle.laws.proofs.Wholes.{not-of-and, division-comes-back}
 use Rattle.run_laws.proofs.Carrying.{one-value, one-value-bar-fourteen, given}
 use Rattle.run_laws.proofs.Proper.{each-byte, Proper, ProperFormula, value-proper}
-use Rattle.run_laws.proofs.Lines.{ProperStatement, loaded-proper}
+use Rattle.run_laws.proofs.Lines.{ProperStatement, lines-items, loaded-proper}
 use Rattle.run_laws.proofs.Turning.{ProperLines, ProperPart, ProperRest, Sound, ProperNext, statement-sound}
 
 -- ---- where a run stands
@@ -52,7 +53,7 @@ following-proper l (stops m) h = tt
 following-proper l (fails e m) h = tt
 
 counted : {m : Machine} → Sound m → Sound (withStep m)
-counted s = record { variables = s .variables; input = s .input; held = s .held }
+counted s = record { variables = s .variables; input = s .input; items = s .items; held = s .held }
 
 turn-proper : (program : List ℕ) (m : Machine) (lines : List Line) (p : Part) → ProperLines (linesOf program) → ProperStanding (at m lines p)
     → ProperStanding (turn program m lines p)
@@ -69,16 +70,17 @@ begun-proper (space.first {p = p}) l h = (counted (h .0), head-throughout Proper
 begun-proper {program = program} (space.later {m = m} {lines = lines} {p = p} b) l h =
     begun-proper b l (turn-proper program m lines p l h)
 
-fresh-sound : (input : List ℕ) (lent : Lent) → AreBytes input → Sound (fresh input lent)
-fresh-sound input lent h = record { variables = record { numbers = tt; strings = tt }; input = each-byte input h; held = tt }
+fresh-sound : (program input : List ℕ) (lent : Lent) → AreBytes input → ProperLines (linesOf program) → Sound (fresh program input lent)
+fresh-sound program input lent h l =
+    record { variables = record { numbers = tt; strings = tt }; input = each-byte input h; items = lines-items (linesOf program) l; held = tt }
 
 module _ {c : RunCall} {v : Variable} {f : Formula} (k : Assigns c v f) where
   -- where an assignment is begun, the machine and the formula are proper
   begun-there : Sound (k .machine) × ProperFormula f
   begun-there =
       let l = loaded-proper (textOf c) (k .loads) in
-      let m = fresh (inputOf c) (lentOf c) in
-      let b = begun-proper (k .begins) l (entering-proper m (linesOf (textOf c)) (fresh-sound (inputOf c) (lentOf c) (k .input)) l) in
+      let m = fresh (textOf c) (inputOf c) (lentOf c) in
+      let b = begun-proper (k .begins) l (entering-proper m (linesOf (textOf c)) (fresh-sound (textOf c) (inputOf c) (lentOf c) (k .input) l) l) in
       (b .0, b .1 .0)
 
   -- and so is what a part of it gives

@@ -8,6 +8,7 @@ use borrow.Author.Tests.{ltb-false}
 use lib.Dec.{ltb, leb, eqb}
 use lib.IntN.{_+ℤ_}
 use lib.ListN.{length}
+use Rattle.whole.specs.Digits.{numberItem}
 use Rattle.whole.specs.Texts.{longestString}
 use Rattle.whole.specs.Whole.{num, applied}
 use Rattle.whole.specs.declared.arithmetic.Answer.{Answer}
@@ -26,15 +27,15 @@ use Rattle.statements.proofs.Depths.{heads-append}
 use Rattle.variables.specs.Strings.{Value, whole, text, Outcome, value, fault, make}
 use Rattle.variables.specs.Variables.{wordOf, numbersFull, stringsFull}
 use Rattle.operators.specs.Values.{valueOf}
-use Rattle.machine.specs.Machine.{Position, Record, loop, call, again, Machine, mostRecords, roomOf, withRecords, withInput, write, commaBlanks, Search, missing, found, sought, passed, isCall, isLoop, isLoopOf, longestInputLine}
+use Rattle.machine.specs.Machine.{Position, Record, loop, call, again, Machine, mostRecords, roomOf, withRecords, withInput, write, commaBlanks, Search, missing, found, sought, passed, isCall, isLoop, isLoopOf, longestInputLine, withItems}
 use Rattle.machine.specs.Order.{Stand, Partner, none, some, past, pairsBy, nextFor, wendFor}
 use Rattle.machine.specs.Repeats.{startOf, isWhile, isWhileOf}
 use Rattle.order.proofs.Laws.{Every, every-front, every-back, Throughout, LinesThroughout}
-use Rattle.turns.specs.Steps.{Next, goesOn, enters, ends, stops, fails, worked, wholeOnly, workedWhole, withNumber, withString, assigned, written, shownValue, printItems, toLine, pushed, returned, turned, nextOn, firstLine, takeLine, filled, inputLine, isWholeKind, doStatement, cleared, begun, namesOther, skipped, hereOf, repeated, whileBy, turnedBack}
+use Rattle.turns.specs.Steps.{Next, goesOn, enters, ends, stops, fails, worked, wholeOnly, workedWhole, withNumber, withString, assigned, written, shownValue, printItems, toLine, pushed, returned, turned, nextOn, firstLine, takeLine, filled, inputLine, isWholeKind, doStatement, cleared, begun, namesOther, skipped, hereOf, repeated, whileBy, turnedBack, givenNumber, given, nextItem, readItems}
 use Rattle.laws.specs.Laws.{words}
 use Rattle.laws.proofs.Positions.{RestThroughout, PositionThroughout, RecordThroughout, from-throughout, partner-throughout, here-throughout}
-use Rattle.run_laws.proofs.Proper.{Bytes, drop-bytes, Proper, ProperAnswer, fit-proper, ProperOutcome, make-proper, ProperVariables, set-number, set-string, ProperFormula, value-proper}
-use Rattle.run_laws.proofs.Lines.{ProperStatement}
+use Rattle.run_laws.proofs.Proper.{Bytes, drop-bytes, Proper, ProperAnswer, fit-proper, item-proper, ProperOutcome, make-proper, ProperVariables, set-number, set-string, ProperFormula, value-proper}
+use Rattle.run_laws.proofs.Lines.{ProperItem, ProperStatement, lines-items}
 use Rattle.promises.proofs.Records as records
 use Rattle.promises.proofs.Records.{sought-each, below-each}
 
@@ -60,6 +61,7 @@ ProperRecord r = RecordThroughout ProperStatement r
 pub record Sound (m : Machine) : Type 0 where
   pub variables : ProperVariables (m .variables)
   pub input : Bytes (m .input)
+  pub items : Every ProperItem (m .items)
   pub held : records.Each ProperRecord (m .records)
 
 abbrev pub ProperNext : Next → Type 0
@@ -73,8 +75,8 @@ ProperNext (fails e m) = Sound m
 
 worked-sound : {m : Machine} (o : Outcome) (go : Value → Machine → Next) → Sound m → ProperOutcome o
     → ((v : Value) (n : Machine) → Proper v → Sound n → ProperNext (go v n)) → ProperNext (worked m o go)
-worked-sound (value v room) go s h k = k v _ h (record { variables = s .variables; input = s .input; held = s .held })
-worked-sound (fault e room) go s h k = record { variables = s .variables; input = s .input; held = s .held }
+worked-sound (value v room) go s h k = k v _ h (record { variables = s .variables; input = s .input; items = s .items; held = s .held })
+worked-sound (fault e room) go s h k = record { variables = s .variables; input = s .input; items = s .items; held = s .held }
 
 formula-sound : (f : Formula) (m : Machine) (go : Value → Machine → Next) → ProperFormula f → Sound m
     → ((v : Value) (n : Machine) → Proper v → Sound n → ProperNext (go v n)) → ProperNext (worked m (valueOf f (m .variables) (roomOf m)) go)
@@ -99,6 +101,7 @@ number-sound : {m : Machine} (name : Telling) (w : ℕ) → w < words → Sound 
 number-sound {m} name w h s = record {
   variables = record { numbers = set-number (m .variables .numbers) name w h (s .variables .numbers); strings = s .variables .strings };
   input = s .input;
+  items = s .items;
   held = s .held;
 }
 
@@ -106,6 +109,7 @@ string-sound : {m : Machine} (name : Telling) (b : List ℕ) → Proper (text b)
 string-sound {m} name b h s = record {
   variables = record { numbers = s .variables .numbers; strings = set-string (m .variables .strings) name b h (s .variables .strings) };
   input = s .input;
+  items = s .items;
   held = s .held;
 }
 
@@ -126,7 +130,7 @@ unfolding write
 written-sound m b go s k =
     by-test (ltb (m .outputRoom) (length (m .output) + length b))
     (λ e. rw e s)
-    (λ e. rw e (k _ (record { variables = s .variables; input = s .input; held = s .held })))
+    (λ e. rw e (k _ (record { variables = s .variables; input = s .input; items = s .items; held = s .held })))
 
 print-sound : (quiet : Bool) (is : List Item) (m : Machine) (go : Machine → Next) → Every ProperFormula (itemFormulas is) → Sound m
     → ((n : Machine) → Sound n → ProperNext (go n)) → ProperNext (printItems quiet is m go)
@@ -145,7 +149,7 @@ line-sound [] go s h k = s
 line-sound (l ∷ ls) go s h k = k (l ∷ ls) h
 
 records-sound : {m : Machine} (rs : List Record) → Sound m → records.Each ProperRecord rs → Sound (withRecords m rs)
-records-sound rs s h = record { variables = s .variables; input = s .input; held = h }
+records-sound rs s h = record { variables = s .variables; input = s .input; items = s .items; held = h }
 
 pushed-sound : {m : Machine} (r : Record) (go : Machine → Next) → Sound m → ProperRecord r → ((n : Machine) → Sound n → ProperNext (go n))
     → ProperNext (pushed m r go)
@@ -248,11 +252,39 @@ input-sound (b ∷ rest) m v after h s a =
     let t = takeLine (b ∷ rest) in
     let k = line-bytes (b ∷ rest) h in
     let n = withInput m (t .left) (m .taken + (length (m .input) - length (t .left))) in
-    let i : Sound n = record { variables = s .variables; input = k .1; held = s .held } in
+    let i : Sound n = record { variables = s .variables; input = k .1; items = s .items; held = s .held } in
     by-test (ltb longestInputLine (length (t .bytes))) (λ e. rw e s) (λ e.
     let short : length (t .bytes) ≤ longestString = omega (arith, ltb-false longestInputLine (length (t .bytes)) e) in
     rw e (worked-sound (make (t .bytes) (roomOf n)) _ i (make-proper (t .bytes) (roomOf n) short (k .0))
     (λ x o h u. filled-sound (v .kind) (v .telling) (t .bytes) after (short, k .0) u a)))
+
+-- ---- READ and RESTORE
+
+given-sound : (k : Kind) (name : Telling) (b : List ℕ) (m : Machine) (go : Machine → Next) → ProperItem b → Sound m
+    → ((n : Machine) → Sound n → ProperNext (go n)) → ProperNext (given k name b m go)
+given-sound kind.Whole name b m go h s next = by-number (numberItem b) (item-proper b)
+  where
+    by-number : (x : Answer) → ProperAnswer x → ProperNext (givenNumber x name m go)
+    by-number (Whole w) p = either-proper (numbersFull (m .variables .numbers) name) _ _ s (next (withNumber m name w) (number-sound name w p s))
+    by-number (Fault e) p = s
+given-sound kind.Text name b m go h s next =
+    worked-sound (make b (roomOf m)) _ s (make-proper b (roomOf m) (h .0) (h .1))
+    (λ x o p u. either-proper (stringsFull (o .variables .strings) name) _ _ u (next (withString o name b) (string-sound name b h u)))
+
+-- the machine with other items
+items-sound : {m : Machine} (l : List (List ℕ)) → Every ProperItem l → Sound m → Sound (withItems m l)
+items-sound l h s = record { variables = s .variables; input = s .input; items = h; held = s .held }
+
+read-sound : (vs : List Variable) (m : Machine) (go : Machine → Next) → Sound m → ((n : Machine) → Sound n → ProperNext (go n))
+    → ProperNext (readItems vs m go)
+unfolding readItems
+read-sound [] m go s h = h m s
+read-sound (v ∷ vs) m go s h = by-items (m .items) (s .items) (λ n t. read-sound vs n go t h)
+  where
+    by-items : (l : List (List ℕ)) → Every ProperItem l → ((n : Machine) → Sound n → ProperNext (readItems vs n go))
+        → ProperNext (nextItem l m (λ b n. given (v .kind) (v .telling) b n (λ o. readItems vs o go)))
+    by-items [] p r = s
+    by-items (b ∷ l) p r = given-sound (v .kind) (v .telling) b (withItems m l) _ (p .0) (items-sound l (p .1) s) r
 
 -- ---- all statements
 
@@ -298,6 +330,12 @@ statement-sound program at tree.wend m after l g p s a =
     back-sound (sought test (m .records)) s (sought-each ProperRecord test (m .records) (s .held))
 statement-sound program at (tree.lineInput t v) m after l g p s a =
     written-sound m t _ s (λ n i. input-sound (n .input) n v after (i .input) i a)
+statement-sound program at (tree.dataOf d) m after l g p s a = (s, a)
+statement-sound program at (tree.read vs) m after l g p s a = read-sound vs m _ s (λ n t. (t, a))
+statement-sound program at tree.restore m after l g p s a = (items-sound _ (lines-items (linesOf program) l) s, a)
+statement-sound program at (tree.restoreTo n) m after l g p s a =
+    line-sound (fromNumber (n .0) (linesOf program)) _ s (from-throughout ProperStatement (n .0) (linesOf program) l)
+    (λ ls h. (items-sound _ (lines-items ls h) s, a))
 statement-sound program at tree.end m after l g p s a = s
 statement-sound program at tree.stop m after l g p s a = s
 statement-sound program at tree.remark m after l g p s a = (s, a)

@@ -13,7 +13,8 @@ use Rattle.loader.specs.Loading.{loadOf}
 use Rattle.loader.specs.declared.loading.Loaded.the-variants.{Fine}
 use Rattle.grammar.specs.Trees.{Formula, Variable, assign}
 use Rattle.variables.specs.Strings.{Value, whole, text, longestSpace}
-use Rattle.machine.specs.Machine.{Position, Machine, fresh, roomOf}
+use Rattle.machine.specs.Items.{fresh}
+use Rattle.machine.specs.Machine.{Position, Machine, roomOf}
 use Rattle.runner.specs.Run.{entering}
 use Rattle.promises.specs.Calls.{RunCall, textOf, inputOf, lentOf, budgetOf}
 use Rattle.promises.specs.StringSpace.{Begins}
@@ -32,7 +33,7 @@ pub record Assigns (c : RunCall) (v : Variable) (f : Formula) : Type 0 where
   pub from : List Line
   pub place : ℕ
   pub machine : Machine
-  pub begins : Begins (textOf c) (budgetOf c) (entering (fresh (inputOf c) (lentOf c)) (linesOf (textOf c))) from place (assign v f) machine
+  pub begins : Begins (textOf c) (budgetOf c) (entering (fresh (textOf c) (inputOf c) (lentOf c)) (linesOf (textOf c))) from place (assign v f) machine
 
 -- one of the two sides of a law
 pub data OneOf (f g : Formula) : Formula → Type 0 where

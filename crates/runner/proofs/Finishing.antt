@@ -21,6 +21,7 @@ use Rattle.variables.specs.declared.tables.Tables.{Tables}
 use Rattle.variables.proofs.Holding.{cleaned, strings-live}
 use Rattle.variables.proofs.Told.{numbers-told, strings-told}
 use Rattle.variables.specs.Strings.{longestSpace}
+use Rattle.machine.specs.Items.{fresh}
 use Rattle.machine.specs.Machine as spec
 use Rattle.machine.specs.Machine.{lentBy}
 use Rattle.machine.specs.bridge.Holding.{variablesOf, Settled, Sound, Same, State}
@@ -97,7 +98,7 @@ module _ (text input space room : List ℕ) (budget : ℕ) (names words labels l
   abbrev given : Tables
   given = lentTables names words labels lengths
 
-  refused-as : {f : Refusal} {p : Place} → whole ≡ endsWith (Refused f p) (spec.fresh input (lentBy space room))
+  refused-as : {f : Refusal} {p : Place} → whole ≡ endsWith (Refused f p) (fresh text input (lentBy space room))
       → {d : Done} → d ≡ refusedAs f p → Met whole given space room (ranOf d names words labels lengths) space room
   refused-as e a = rw e (ap (λ d. ranOf d names words labels lengths) a, (refl, refl))
 

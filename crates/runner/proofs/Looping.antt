@@ -1,7 +1,7 @@
 -- The run's loop: what holds at each of its turns, that a turn keeps it, and what it gives at the end.
 use mathlib.Core.Path.{_≡_, refl, sym, ap, _∙_}
 use mathlib.Core.Bool.{true, false, false≢true}
-use mathlib.Core.List.{List}
+use mathlib.Core.List.{List, []}
 use Prim.Native.Nat.{ℕ, zero, suc, _+_, _-_, _≤_, _<_}
 use native.Mathlib.Omega.{arith}
 use borrow.Author.Tests.{ltb-true, ltb-false}
@@ -18,7 +18,8 @@ use Rattle.rows.specs.bridge.Rows.{spanIn, Tabled}
 use Rattle.rows.proofs.Ordering.{row-lines}
 use Rattle.machine.specs.Machine.{lentBy, mostRecords}
 use Rattle.machine.specs.Machine as spec
-use Rattle.machine.specs.bridge.Holding.{linesAt, blankRecord, freshMachine, State, stateOf, Sound, Same}
+use Rattle.machine.specs.Items as text-items
+use Rattle.machine.specs.bridge.Holding.{linesAt, blankRecord, freshMachine, fromLine, State, stateOf, Sound, Same}
 use Rattle.machine.specs.declared.records.Record.{Record}
 use Rattle.machine.specs.declared.records.Sought.{Sought}
 use Rattle.machine.specs.declared.state.Machine.{Machine}
@@ -93,7 +94,7 @@ module _ (text input space room : List ℕ) (small : length space ≤ longestSpa
         deep = omega arith;
       }
 
-  fresh-same : (rs : List Record) → Same text rs fresh input space room (spec.fresh input (lentBy space room))
+  fresh-same : (rs : List Record) → Same text rs fresh input space room (text-items.fresh text input (lentBy space room))
   fresh-same rs =
       record {
         variables = rw (empty-numbers-held, empty-strings-held space);
@@ -103,6 +104,7 @@ module _ (text input space room : List ℕ) (small : length space ≤ longestSpa
         outputRoom = refl;
         left = refl;
         taken = refl;
+        feeds = fromLine refl [] refl refl;
         steps = refl;
         limit = refl;
         placed = λ i h. absurd (omega arith);
@@ -122,10 +124,10 @@ module _ (text input space room : List ℕ) (small : length space ≤ longestSpa
         slots = rw f (length-replicate mostRecords blankRecord);
         within = omega arith;
         rowed = e .1 .rowed;
-        machine = spec.fresh input (lentBy space room);
+        machine = text-items.fresh text input (lentBy space room);
         same = fresh-same rs;
-        place = entering (spec.fresh input (lentBy space room)) (linesOf text);
-        stands = e .1 .stands text t tt (spec.fresh input (lentBy space room));
+        place = entering (text-items.fresh text input (lentBy space room)) (linesOf text);
+        stands = e .1 .stands text t tt (text-items.fresh text input (lentBy space room));
         comes = let z : budget - 0 ≡ budget = omega arith in rw z;
       })
 
@@ -173,8 +175,8 @@ module _ {text rows input space₀ room₀ : List ℕ} {budget : ℕ} {space roo
     left = goes-at t (k .machine) (k .place) s (k .rowed) (k .stands) e .1
 
     pub kept-ready : budget < 4294967296 → {sought : Sought} {lookup : Lookup} → LooksUp sought (m .depth) rs lookup
-        → Ready m lookup input space room
-    kept-ready h w = record { below = looked-below w; sound = k .sound; few = omega (arith, left) }
+        → Ready text m lookup input space room
+    kept-ready h w = record { below = looked-below w; sound = k .sound; few = omega (arith, left); fed = record { items = k .machine .items; feeds = k .same .feeds } }
 
     module _ {asked : Asked} {lookup : Lookup} {r : Acted} {m′ : State} {space′ room′ : List ℕ} (acted : ActsAt text rows s m asked lookup input space room r m′ space′ room′) where
       abbrev acts : Acts text rows (kept-at .row .0) (kept-at .at) m asked lookup input space room r m′ space′ room′

@@ -22,7 +22,7 @@ use Rattle.rows.specs.declared.cells.Row.{Row}
 use Rattle.rows.proofs.Ordering.{row-lines}
 use Rattle.machine.specs.Machine as spec
 use Rattle.machine.specs.Machine.{mostRecords}
-use Rattle.machine.specs.bridge.Holding.{linesAt, blankRecord, Parted, State, stateOf, Sound, Same}
+use Rattle.machine.specs.bridge.Holding.{linesAt, blankRecord, Parted, Fed, State, stateOf, Sound, Same}
 use Rattle.machine.specs.bridge.Wanted.{isSought, foundIn, entryAt, Told}
 use Rattle.machine.specs.bridge.Seeking.{Wish, wishOf, testOf, Seeks}
 use Rattle.machine.specs.declared.positions.Next.{Next}
@@ -82,6 +82,7 @@ same-stepped s =
       outputRoom = s .outputRoom;
       left = s .left;
       taken = s .taken;
+      feeds = s .feeds;
       steps = omega (arith, s .steps);
       limit = s .limit;
       placed = s .placed;
@@ -205,15 +206,15 @@ acts-at {row = row} {at = at} e a =
 
 module _ {text rows : List ℕ} {row : ℕ} {at : Place} {m : State} {asked : Asked} {lookup : Lookup} {input space room : List ℕ}
     (here : At text rows row at) (asks : Asks (m .tables .numbers .names) (m .tables .numbers .count) (lineIn text (spanIn rows row)) (spanIn rows row .place) at asked)
-    (ready : Ready m lookup input space room) where
+    (ready : Ready text m lookup input space room) where
   -- what the statement asks of the caller
   pub acts-begins : Standing text (lineIn text (spanIn rows row)) (spanIn rows row .place)
       × (Parted (lineIn text (spanIn rows row)) (at .0)
       × (Sound (stepped m) input space room
       × (FoundBelow (m .depth) (lookup .found)
-      × ((asked .lead ≡ leadOf (lineIn text (spanIn rows row)) true (tokenAt (lineIn text (spanIn rows row)) at)) × Tabled text rows))))
+      × ((asked .lead ≡ leadOf (lineIn text (spanIn rows row)) true (tokenAt (lineIn text (spanIn rows row)) at)) × (Tabled text rows × Fed text (m .feed))))))
   acts-begins =
-      (stood-line (here .stood), (stood-parted (here .stood), (sound-stepped (ready .sound), (ready .below, (asks .led, here .tabled)))))
+      (stood-line (here .stood), (stood-parted (here .stood), (sound-stepped (ready .sound), (ready .below, (asks .led, (here .tabled, ready .fed))))))
 
   -- and what it does
   pub acts-made : {turned : Turned} (names words labels lengths : List ℕ) {s : code.Standing} {space′ room′ : List ℕ}

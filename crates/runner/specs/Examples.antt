@@ -4,30 +4,33 @@ use mathlib.Core.List.{List, [], _∷_, map}
 use Prim.Native.Nat.{ℕ}
 use Prim.Native.String.{String}
 use Rattle.whole.specs.Bytes.{bytes, leading}
-use Rattle.whole.specs.Digits.{isDigit, valueFrom, signedValue}
+use Rattle.whole.specs.Digits.{isDigit, valueFrom, signedValue, signLength, digitsOnly, numberItem}
 use Rattle.whole.specs.Whole.{num, fit}
 use Rattle.whole.specs.Texts.{places, trimmed, digitByte, numeral, signedNumeral}
-use Rattle.whole.specs.declared.errors.Error.the-variants.{NextWithoutFor, Overflow, TypeMismatch, OutOfStringSpace, ForWithoutNext, WhileWithoutWend, WendWithoutWhile}
+use Rattle.whole.specs.declared.errors.Error.the-variants.{NextWithoutFor, OutOfData, IllegalFunctionCall, Overflow, UndefinedLine, TypeMismatch, OutOfStringSpace, ForWithoutNext, WhileWithoutWend, WendWithoutWhile}
 use Rattle.words.specs.Spellings.{sameBytes, meaning}
 use Rattle.words.specs.Classes.{capitalOf, isLetter, isHex, hexDigit, signs, pairs, classOf}
 use Rattle.words.specs.Vocabulary.{reserved}
 use Rattle.words.specs.Names.{telling, tellingOf}
 use Rattle.words.specs.Places.{lineNumber}
 use Rattle.scanner.specs.Tokens.{markOf, wordToken, numberToken, hexFrom, hexToken, textToken, signToken, tokenAt}
+use Rattle.items.specs.Items as item
+use Rattle.items.specs.Items.{ended, quotedItem, cut, bareItem, itemAt}
 use Rattle.loader.specs.Lines.{linesFrom, numberOf, fromNumber}
 use Rattle.loader.specs.Loading.{isPlain, numbered, judged, loadLines, loadOf}
 use Rattle.grammar.specs.Functions.{formFor, anyFor}
 use Rattle.grammar.specs.Formulas.{countOf, formulaAt, climbAt, operandAt, argumentsAt, formulaOf}
 use Rattle.expressions.specs.Types.{depthOf, deepestOf}
-use Rattle.statements.specs.Statements.{itemsAt, printAt, forAt, inputAt, begunAt, partAt, readLine}
+use Rattle.statements.specs.Statements.{itemsAt, printAt, forAt, inputAt, dataAt, namesAt, readAt, begunAt, partAt, readLine}
 use Rattle.statements.specs.Parts.{deepest, partsOf, heads, deepestIn}
 use Rattle.variables.specs.Strings.{make, letGo, letAllGo, produced}
 use Rattle.variables.specs.Variables.{wordOf, bytesOf, stringBytes, hasNumber, hasString, setNumber, setString, joinedStrings}
 use Rattle.strings.specs.Functions.{argument, startsWith, found, placeOf}
 use Rattle.operators.specs.Values.{isBefore, wantAt, valueOf, valuesOf}
 use Rattle.machine.specs.Machine.{Lent, columnAfter, write, sought, passed}
+use Rattle.machine.specs.Items.{itemsOf}
 use Rattle.machine.specs.Order.{beyond, placed, stands, later, partner}
-use Rattle.turns.specs.Steps.{printItems}
+use Rattle.turns.specs.Steps.{printItems, readItems}
 use Rattle.runner.specs.Run.{Ran, enter, running, runOf}
 use Rattle.runner.specs.declared.running.Outcome.{Outcome}
 use Rattle.runner.specs.declared.running.Outcome.the-variants.{Ended, Failed}
@@ -124,6 +127,30 @@ pub repeated-loops-hold : map (λ (e : Example). summed (runOf (bytes (e .recipe
     ≡ map (λ (e : Example). e .run) repeatedLoops
 unfolding repeatedLoops bytes leading isDigit valueFrom sameBytes meaning capitalOf isLetter isHex hexDigit signs pairs classOf reserved telling tellingOf markOf wordToken numberToken hexFrom hexToken textToken signToken tokenAt linesFrom numberOf isPlain numbered judged loadLines loadOf formFor anyFor countOf formulaAt climbAt operandAt argumentsAt formulaOf depthOf deepestOf itemsAt printAt forAt inputAt begunAt partAt readLine deepest partsOf heads deepestIn signedValue num fit places trimmed digitByte numeral signedNumeral fromNumber make letGo letAllGo produced wordOf bytesOf stringBytes argument startsWith found placeOf isBefore wantAt valueOf valuesOf hasNumber hasString setNumber setString columnAfter write printItems sought passed enter running runOf joinedStrings beyond placed stands later partner
 repeated-loops-hold = refl
+
+-- DATA, READ and RESTORE (document 02, M-105)
+pub readings : List Example
+readings =
+    -- ELSE is text in a bare item, outer blanks are cut, and a quoted item may be read as a number
+    example "10 READ A$,B,C$\n20 PRINT A$;B;C$\n30 DATA 1 ELSE 2,\"7\", a b " 40 Ended "1 ELSE 2 7 a b\r\n" 3 "1 ELSE 2a b"
+    -- items of any branch count, and a line that does not read holds none
+    ∷ example "10 IF 0 THEN DATA 1:ELSE GOTO 30\n20 DATA 2\"\n30 READ A,B:PRINT A;B\n40 DATA 3" 0 Ended " 1  3 \r\n" 5 ""
+    -- past the last is 4; more than a sign and digits is 5, out of range 6
+    ∷ example "10 READ A,B\n20 DATA 1" 0 (Failed OutOfData (lineNumber 10)) "" 1 ""
+    ∷ example "10 READ A\n20 DATA 1 2" 0 (Failed IllegalFunctionCall (lineNumber 10)) "" 1 ""
+    ∷ example "10 READ A\n20 DATA -32769" 0 (Failed Overflow (lineNumber 10)) "" 1 ""
+    -- all again, or those from a line on, which must be there
+    ∷ example "10 READ A,B:RESTORE 30:READ C:RESTORE:READ D:PRINT A;B;C;D\n20 DATA 1\n30 DATA 2" 0 Ended " 1  2  2  1 \r\n" 8 ""
+    ∷ example "10 RESTORE 15\n20 DATA 1" 0 (Failed UndefinedLine (lineNumber 10)) "" 1 ""
+    -- what was read before is live
+    ∷ example "10 READ A$,B$\n20 DATA AB,CD" 4 Ended "" 2 "ABCD"
+    ∷ example "10 READ A$,B$\n20 DATA AB,CD" 3 (Failed OutOfStringSpace (lineNumber 10)) "" 1 "AB"
+    ∷ []
+
+pub readings-hold : map (λ (e : Example). summed (runOf (bytes (e .recipe)) [] (lending (e .space)) 1000)) readings
+    ≡ map (λ (e : Example). e .run) readings
+unfolding readings bytes leading isDigit valueFrom sameBytes meaning capitalOf isLetter isHex hexDigit signs pairs classOf reserved telling tellingOf markOf wordToken numberToken hexFrom hexToken textToken signToken tokenAt linesFrom numberOf isPlain numbered judged loadLines loadOf formFor anyFor countOf formulaAt climbAt operandAt argumentsAt formulaOf depthOf deepestOf itemsAt printAt forAt inputAt begunAt partAt readLine deepest partsOf heads deepestIn signedValue num fit places trimmed digitByte numeral signedNumeral fromNumber make letGo letAllGo produced wordOf bytesOf stringBytes argument startsWith found placeOf isBefore wantAt valueOf valuesOf hasNumber hasString setNumber setString columnAfter write printItems sought passed enter running runOf joinedStrings beyond placed stands later partner ended quotedItem cut bareItem itemAt item.itemsAt dataAt namesAt readAt signLength digitsOnly numberItem itemsOf readItems
+readings-hold = refl
 
 -- eight functions in one another, a comparison and a `+` waiting at each: 28 unfinished strings, the most that there can be
 pub nested : String

@@ -26,7 +26,8 @@ use Rattle.variables.specs.Strings.{longestSpace}
 use Rattle.runner.specs.declared.running.Ran as code
 use Rattle.runner.specs.declared.running.Outcome.{Outcome}
 use Rattle.runner.specs.declared.running.Outcome.the-variants.{Ended, Stopped, Out, Failed, Refused}
-use Rattle.machine.specs.Machine.{Machine, Lent, fresh, withStep}
+use Rattle.machine.specs.Items.{fresh}
+use Rattle.machine.specs.Machine.{Machine, Lent, withStep}
 use Rattle.turns.specs.Steps.{Next, goesOn, enters, ends, stops, fails, doStatement}
 
 pub record Ran : Type 0 where
@@ -106,8 +107,8 @@ ifLoaded (loaded.Refused refusal p) m go = endsWith (Refused refusal p) m
 -- text is loaded
 unfoldable pub runOf : List ℕ → List ℕ → Lent → ℕ → Ran
 runOf text input lent budget =
-    cond (ltb longestSpace (lent .space)) (endsWith (Refused SpaceTooLong (place 0)) (fresh input lent))
-    (ifLoaded (loadOf text) (fresh input lent) (λ _. running budget text (entering (fresh input lent) (linesOf text))))
+    cond (ltb longestSpace (lent .space)) (endsWith (Refused SpaceTooLong (place 0)) (fresh text input lent))
+    (ifLoaded (loadOf text) (fresh text input lent) (λ _. running budget text (entering (fresh text input lent) (linesOf text))))
 
 -- ---- what is answered: outcome word, number, line, place; what does not apply is 0
 

@@ -186,7 +186,7 @@ pub(crate) fn act(
     requires { ⌜
         StandsAt (now text) (now rows) (going .standing)
         × (AsksAt (now text) (now rows) (now names) (going .machine .numbers) (going .standing) asked
-        × Ready (stateOf (going .machine) (now names) (now words) (now labels) (now lengths)) lookup (now input) (now space) (now room))
+        × Ready (now text) (stateOf (going .machine) (now names) (now words) (now labels) (now lengths)) lookup (now input) (now space) (now room))
         ⌝ }
     ensures { λ r. ⌜
         ActsAt (now (text .entry)) (now (rows .entry)) (going .standing) (stateOf (going .machine) (now (names .entry)) (now (words .entry)) (now (labels .entry)) (now (lengths .entry))) asked lookup (now (input .entry)) (now (space .entry)) (now (room .entry)) r

@@ -23,7 +23,7 @@ use Rattle.words.specs.declared.classes.ByteClass.the-variants.{Letter, Digit, 
 use Rattle.words.specs.declared.classes.SignFound.{SignFound}
 use Rattle.words.specs.declared.classes.SignFound.the-variants.{Is, None}
 use Rattle.words.specs.declared.vocabulary.WordFound.{WordFound}
-use Rattle.words.specs.declared.vocabulary.WordFound.the-variants.{Plain, Dollared, Remark, Free}
+use Rattle.words.specs.declared.vocabulary.WordFound.the-variants.{Plain, Dollared, Remark, Items, Free}
 use Rattle.words.specs.declared.names.Name.{Name}
 use Rattle.words.specs.declared.symbols.Quotation.{Quotation}
 use Rattle.words.specs.declared.symbols.Scanned.{Scanned}
@@ -125,6 +125,7 @@ abbrev bareWord : WordFound → Bool
 bareWord (Plain t) = bare t
 bareWord (Dollared t) = bare t
 bareWord Remark = true
+bareWord Items = true
 bareWord Free = true
 
 abbrev bareSign : SignFound → Bool
@@ -165,6 +166,7 @@ marked-stays (Dollared t) Dollar i n end b h k = (omega arith, omega arith, kept
 marked-stays (Dollared t) Percent i n end b h k = omega arith
 marked-stays (Dollared t) Bare i n end b h k = omega arith
 marked-stays Remark m i n end b h k = omega arith
+marked-stays Items m i n end b h k = omega arith
 marked-stays Free m i n end b h k = by-test (leb n nameWidth && leb i furthest) (λ e. rw e (omega arith)) (λ e. rw e (omega arith))
 
 -- ---- signs and digits

@@ -1,5 +1,5 @@
--- The runs of bytes that words, numbers and texts are made of, and the blanks before them.
-use mathlib.Core.Bool.{Bool, true, false, not}
+-- The runs of bytes that words, numbers, texts and bare items of DATA are made of, and the blanks before them.
+use mathlib.Core.Bool.{Bool, true, false, not, _||_}
 use Prim.Native.Nat.{ℕ}
 use Rattle.whole.specs.Bytes.{is}
 use Rattle.words.specs.Classes.{isHex, classOf}
@@ -17,9 +17,14 @@ ofWord class.Sign = false
 ofWord class.Quote = false
 ofWord class.Other = false
 
--- whether a byte belongs to a run: of blanks, a word's, a hexadecimal number's, a quoted text's
+-- a bare item of DATA runs to the next comma, colon or apostrophe, and no quote stands in it
+abbrev pub inItem : ℕ → Bool
+inItem b = not (is "," b || is ":" b || is "'" b || is "\"" b)
+
+-- whether a byte belongs to a run: of blanks, a word's, a hexadecimal number's, a quoted text's, a bare item's
 abbrev pub passes : Run → ℕ → Bool
 passes run.Blank b = is " " b
 passes run.Word b = ofWord (classOf b)
 passes run.Hex b = isHex b
 passes run.Unquoted b = not (is "\"" b)
+passes run.Item b = inItem b

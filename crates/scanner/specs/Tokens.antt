@@ -16,8 +16,8 @@ use Rattle.words.specs.declared.classes.ByteClass.the-variants.{Letter, Digit, 
 use Rattle.words.specs.declared.classes.SignFound.{SignFound}
 use Rattle.words.specs.declared.classes.SignFound.the-variants.{Is, None}
 use Rattle.words.specs.declared.vocabulary.WordFound.{WordFound}
-use Rattle.words.specs.declared.vocabulary.WordFound.the-variants.{Plain, Dollared, Remark, Free}
-use Rattle.words.specs.declared.symbols.Word.the-variants.{Rem}
+use Rattle.words.specs.declared.vocabulary.WordFound.the-variants.{Plain, Dollared, Remark, Items, Free}
+use Rattle.words.specs.declared.symbols.Word.the-variants.{Rem, Data}
 use Rattle.words.specs.declared.names.Kind.{Kind}
 use Rattle.words.specs.declared.names.Kind.the-variants.{Whole, Text}
 use Rattle.words.specs.declared.symbols.Scanned.{Scanned}
@@ -74,7 +74,7 @@ abbrev pub nameToken : ℕ → ℕ → Kind → Token
 nameToken i n kind = Named (record { at = i; len = n; kind = kind })
 
 -- a word of n letters and digits with the mark after it; a reserved word has no mark but its own `$`,
--- REM takes the line to its end, whatever follows, and a name has at most 40 characters
+-- REM takes the line to its end, whatever follows, what follows DATA is of its items, and a name has at most 40 characters
 abbrev pub marked : WordFound → Mark → ℕ → ℕ → ℕ → Scanned
 marked (Plain t) Bare i n end = t upto (i + n)
 marked (Plain t) Dollar i n end = unreadable i
@@ -83,6 +83,7 @@ marked (Dollared t) Dollar i n end = t upto (i + n + 1)
 marked (Dollared t) Percent i n end = unreadable i
 marked (Dollared t) Bare i n end = unreadable i
 marked Remark m i n end = Keyword Rem upto end
+marked Items m i n end = Keyword Data upto (i + n)
 marked Free m i n end = cond (leb n nameWidth && leb i furthest) (nameToken i n (kindOf m) upto (i + n + markLength m)) (unreadable i)
 
 -- a run of letters and digits that begins with a letter is one word

@@ -4,18 +4,19 @@ ghost use Prim.Native.Nat.{_+_};
 ghost use lib.ListN.{length, drop};
 ghost use Rattle.whole.specs.Bytes.{leading};
 ghost use Rattle.words.specs.Classes.{isHex};
-ghost use Rattle.scanner.specs.Runs.{passes};
+ghost use Rattle.scanner.specs.Runs.{inItem, passes};
 use whole::is_digit;
 use words::Place;
 use words::capital;
 use words::is_letter;
 
-// The runs of bytes that a token is made of, and the blanks before it.
+// The runs of bytes that a token or a bare item of DATA is made of, and the blanks before it.
 pub enum Run {
     Blank,
     Word,
     Hex,
     Unquoted,
+    Item,
 }
 
 fn is_hex(byte: u8) -> bool
@@ -28,6 +29,19 @@ fn is_hex(byte: u8) -> bool
     b'A' <= letter && letter <= b'F'
 }
 
+// A comma, a colon or an apostrophe ends a bare item of DATA, and no quote stands in one.
+fn in_item(byte: u8) -> bool
+    ensures { λ r. ⌜ r ≡ inItem byte ⌝ }
+{
+    match byte {
+        b',' => false,
+        b':' => false,
+        b'\'' => false,
+        b'"' => false,
+        _ => true,
+    }
+}
+
 // Whether a byte belongs to a run.
 fn in_run(run: Run, byte: u8) -> bool
     ensures { λ r. ⌜ r ≡ passes run byte ⌝ }
@@ -37,6 +51,7 @@ fn in_run(run: Run, byte: u8) -> bool
         Run::Word => is_letter(byte) || is_digit(byte),
         Run::Hex => is_hex(byte),
         Run::Unquoted => byte != b'"',
+        Run::Item => in_item(byte),
     }
 }
 

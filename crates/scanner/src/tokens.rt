@@ -129,6 +129,7 @@ fn word_at(line: &[u8], at: Place) -> Scanned
         WordFound::Plain(token) => plain(token, mark, at, after),
         WordFound::Dollared(token) => dollared(token, mark, at, after),
         WordFound::Remark => up_to(Token::Keyword(Word::Rem), Place(line.len())),
+        WordFound::Items => up_to(Token::Keyword(Word::Data), after),
         WordFound::Free => named(mark, at, after),
     }
 }

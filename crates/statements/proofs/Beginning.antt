@@ -6,23 +6,25 @@ use Prim.Native.Nat.{ℕ, zero, suc, _≤_}
 use native.Mathlib.Omega.{arith}
 use Rattle.words.specs.Places.{place}
 use Rattle.words.specs.declared.symbols.Scanned.{Scanned}
+use Rattle.words.specs.declared.symbols.Token.the-variants.{Keyword}
 use Rattle.words.specs.declared.symbols.Sign.the-variants.{Comma, Semicolon, Equal}
 use Rattle.words.specs.declared.symbols.Word.{Word}
-use Rattle.words.specs.declared.symbols.Word.the-variants.{Let, Then, Goto, To, Step, Input}
+use Rattle.words.specs.declared.symbols.Word.the-variants.{Let, Then, Goto, To, Step, Input, Data}
 use Rattle.words.proofs.Choices.{by-test}
-use Rattle.scanner.specs.Tokens.{reads, tokenAt}
-use Rattle.grammar.specs.Tests.{isSymbol, isKeyword, endsStatement}
-use Rattle.grammar.specs.Trees.{Formula, Variable, Item, comma, semicolon, shown, Statement, empty, assign, print, ifThen, ifElse, goto, gosub, return, for, next, nextOf, while, wend, lineInput, end, stop, remark}
+use Rattle.scanner.specs.Tokens.{_upto_, reads, tokenAt}
+use Rattle.items.proofs.Listing.{items-onward}
+use Rattle.grammar.specs.Tests.{choose, isSymbol, isKeyword, endsStatement}
+use Rattle.grammar.specs.Trees.{Formula, Variable, Item, comma, semicolon, shown, Statement, empty, assign, print, ifThen, ifElse, goto, gosub, return, for, next, nextOf, while, wend, lineInput, dataOf, read, restore, restoreTo, end, stop, remark}
 use Rattle.grammar.specs.Formulas as formulas
 use Rattle.grammar.specs.Formulas.{Reading, good, after, enough, formulaOf}
-use Rattle.statements.specs.Statements.{Begun, bad, done, choice, Items, noItems, items, withItem, isSeparator, afterShown, itemsAt, begunAt}
+use Rattle.statements.specs.Statements.{Begun, bad, done, choice, Items, noItems, items, withItem, isSeparator, afterShown, itemsAt, NameList, unlisted, listed, withName, namesAt, variableOf, begunAt}
 use Rattle.statements.specs.bridge.Answers.{itemsOf}
 use Rattle.statements.specs.Parts.{partsWithin}
 use Rattle.skimming.specs.bridge.Remaining.{weight}
 use Rattle.skimming.proofs.Weights.{reads-if, after-lighter, symbol-reads, keyword-reads}
 use Rattle.skimming.proofs.Grammar.{formula-lighter}
-use Rattle.statements.proofs.Findings.{by-text, line-reads}
-use Rattle.statements.proofs.Standing.{isPrint, Target, stepOf, pastText, past-text, past-no-text, past, past-word, past-none, Asked, Way, by-then, by-goto, Stands, Seen, begun-seen}
+use Rattle.statements.proofs.Findings.{by-text, by-name-in, line-reads}
+use Rattle.statements.proofs.Standing.{isPrint, Target, stepOf, pastText, past-text, past-no-text, past, past-word, past-none, Asked, Held, Way, by-then, by-goto, Stands, Seen, begun-seen}
 
 -- ---- what a statement leaves to read: no more than there was where it began
 
@@ -89,6 +91,36 @@ module _ (s : List ℕ) where
       (by-test (endsStatement (t .token)) (λ g. rw g h) λ g. rw g
       (shown-within w t (formulaOf s t) (λ u. itemsAt n s u) refl h (λ u k. items-within n w u k))))
 
+  -- ---- DATA and READ
+
+  data-within : (t : Scanned) {l : List (List ℕ)} {u : Scanned} → Held s t l u → weight s u ≤ weight s t
+  unfolding weight
+  data-within t {l} {u} h =
+      let lighter = after-lighter s (Keyword Data upto h .end) refl in
+      let onward = items-onward s (t .next .0) l (h .end) (h .lists) in
+      rw (h .next, h .word) (omega (arith, lighter, onward))
+
+  abbrev NamesWithin : ℕ → NameList → Type 0
+  NamesWithin w unlisted = Unit {0}
+  NamesWithin w (listed vs t) = weight s t ≤ w
+
+  name-within-list : (w : ℕ) (v : Variable) (x : NameList) → NamesWithin w x → NamesWithin w (withName v x)
+  name-within-list w v unlisted h = tt
+  name-within-list w v (listed vs t) h = h
+
+  names-within : (n w : ℕ) (t : Scanned) → weight s t ≤ w → NamesWithin w (namesAt n s t)
+  unfolding namesAt
+  names-within zero w t h = tt
+  names-within (suc n) w t h =
+      by-name-in (NamesWithin w) (t .token) _ _
+      (λ v f r.
+      let l = after-lighter s t (rw r) in
+      name-within-list w (variableOf s v) (choose (isSymbol Comma (after s t .token)) (λ _. namesAt n s (after s (after s t))) (λ _. listed [] (after s t)))
+      (by-test (isSymbol Comma (after s t .token))
+      (λ e. let k = after-lighter s (after s t) (symbol-reads Comma (after s t .token) e) in rw e (names-within n w (after s (after s t)) (omega arith)))
+      (λ e. rw e (omega arith))))
+      (λ f. tt)
+
   -- ---- each statement
 
   text-within : (t : Scanned) {text : List ℕ} {v : Variable} {u : Scanned} → Asked s t text v u → weight s u ≤ weight s t
@@ -141,6 +173,12 @@ module _ (s : List ℕ) where
         after-lighter s (after s t) (keyword-reads Input (after s t .token) (h .input)),
         text-within (after s (after s t)) (h .asks),
       )
+  done-within first t (dataOf l) u h = data-within t h
+  done-within first t (read vs) u h =
+      omega (arith, after-lighter s t (rw (h .word)), rw (h .names) at (names-within (enough s) (weight s (after s t)) (after s t) (omega arith)))
+  done-within first t restore u h = next-within t (rw (h .word)) (h .next)
+  done-within first t (restoreTo l) u h =
+      omega (arith, after-lighter s t (rw (h .word)), next-within (after s t) (line-reads (after s t .token) (h .line)) (h .next))
   done-within first t end u h = next-within t (rw (h .word)) (h .next)
   done-within first t stop u h = next-within t (rw (h .word)) (h .next)
   done-within first t remark u h = next-within t (rw (h .word)) (h .next)
@@ -189,6 +227,10 @@ done-alone s first t (nextOf v) u h = refl
 done-alone s first t (while c) u h = refl
 done-alone s first t wend u h = refl
 done-alone s first t (lineInput text v) u h = refl
+done-alone s first t (dataOf l) u h = refl
+done-alone s first t (read vs) u h = refl
+done-alone s first t restore u h = refl
+done-alone s first t (restoreTo l) u h = refl
 done-alone s first t end u h = refl
 done-alone s first t stop u h = refl
 done-alone s first t remark u h = refl

@@ -31,20 +31,24 @@ failed {b} e h = sym e ∙ not-true b h
 
 -- ---- what holds of each way holds of the choice
 
+pub by-name-in : {A : Type 0} (P : A → Type 0) (t : Token) (go : Name → A) (other : A)
+    → ((v : Name) → nameOf t ≡ Is v → t ≡ Named v → P (go v)) → (nameOf t ≡ None → P other) → P (onName t go other)
+by-name-in P EndOfLine go other found none = none refl
+by-name-in P (Keyword w) go other found none = none refl
+by-name-in P Not go other found none = none refl
+by-name-in P (Infix op) go other found none = none refl
+by-name-in P (Call f) go other found none = none refl
+by-name-in P (Named v) go other found none = found v refl refl
+by-name-in P (Number n) go other found none = none refl
+by-name-in P (Hexadecimal n) go other found none = none refl
+by-name-in P (LineOnly l) go other found none = none refl
+by-name-in P (Quoted q) go other found none = none refl
+by-name-in P (Symbol s) go other found none = none refl
+by-name-in P Unreadable go other found none = none refl
+
 pub by-name : (P : Begun → Type 0) (t : Token) (go : Name → Begun) (other : Begun)
     → ((v : Name) → nameOf t ≡ Is v → t ≡ Named v → P (go v)) → (nameOf t ≡ None → P other) → P (onName t go other)
-by-name P EndOfLine go other found none = none refl
-by-name P (Keyword w) go other found none = none refl
-by-name P Not go other found none = none refl
-by-name P (Infix op) go other found none = none refl
-by-name P (Call f) go other found none = none refl
-by-name P (Named v) go other found none = found v refl refl
-by-name P (Number n) go other found none = none refl
-by-name P (Hexadecimal n) go other found none = none refl
-by-name P (LineOnly l) go other found none = none refl
-by-name P (Quoted q) go other found none = none refl
-by-name P (Symbol s) go other found none = none refl
-by-name P Unreadable go other found none = none refl
+by-name P t go other found none = by-name-in P t go other found none
 
 pub by-line : (P : Begun → Type 0) (t : Token) (go : LineNumber → Begun) (other : Begun)
     → ((l : LineNumber) → lineOf t ≡ Names l → reads t ≡ true → P (go l)) → (lineOf t ≡ NoLine → P other) → P (onLine t go other)

@@ -7,6 +7,7 @@ pub mod Known
 pub mod Others
 pub mod Parts
 pub mod Printing
+pub mod Naming
 pub mod Readings
 pub mod Standing
 pub mod Views

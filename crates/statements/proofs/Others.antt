@@ -1,6 +1,6 @@
 -- What an arm of a `match` that stands for several cases tells of each of them.
 use mathlib.Core.Path.{_≡_, refl, sym, ap, _∙_}
-use mathlib.Core.Bool.{Bool, true, false}
+use mathlib.Core.Bool.{Bool, true, false, _||_}
 use mathlib.Core.List.{List, [], _∷_, map}
 use mathlib.Core.Logic.{inl, inr}
 use Prim.Native.Nat.{ℕ, zero, suc}
@@ -162,12 +162,18 @@ module _ {A : Type 0} (g : Word → A) (r : A) where
   of-words (w ∷ w′ ∷ l) e x (inl t) = same w x (cc) t
   of-words (w ∷ w′ ∷ l) e x (inr t) = of-words (w′ ∷ l) (cc) x t
 
--- all words but ELSE
+-- all words but ELSE and DATA
 abbrev otherWords : List Word
-otherWords = Let ∷ Print ∷ If ∷ Then ∷ Goto ∷ Gosub ∷ Return ∷ For ∷ To ∷ Step ∷ Next ∷ Line ∷ Input ∷ End ∷ Stop ∷ Rem ∷ While ∷ Wend ∷ Data ∷ Read ∷ Restore ∷ []
+otherWords = Let ∷ Print ∷ If ∷ Then ∷ Goto ∷ Gosub ∷ Return ∷ For ∷ To ∷ Step ∷ Next ∷ Line ∷ Input ∷ End ∷ Stop ∷ Rem ∷ While ∷ Wend ∷ Read ∷ Restore ∷ []
 
-pub no-else : (x : Word) → OneOf (map wordTag otherWords) (wordTag x) → isKeyword Else (Keyword x) ≡ false
-no-else x h = sym (of-words (λ w. isKeyword Else (Keyword w)) false otherWords refl x h)
+abbrev stays : Word → Bool
+stays w = isKeyword Else (Keyword w) || isKeyword Data (Keyword w)
+
+pub no-else : (x : Word) → OneOf (map wordTag otherWords) (wordTag x) → stays x ≡ false
+no-else x h = sym (of-words stays false otherWords refl x h)
+
+pub some-else : (x : Word) → OneOf (4 ∷ 19 ∷ []) (wordTag x) → stays x ≡ true
+some-else x h = sym (of-words stays true (Else ∷ Data ∷ []) refl x h)
 
 module _ (s : List ℕ) (x : Word) (t : Scanned) where
   -- GOTO and GOSUB
@@ -183,6 +189,6 @@ module _ (s : List ℕ) (x : Word) (t : Scanned) where
       of-words (λ w. begunAnswer (byWord s w t)) (formedRead t 0 true) (Else ∷ Return ∷ End ∷ Stop ∷ Rem ∷ Wend ∷ []) refl x h
 
   -- a word that begins no statement
-  pub no-word : OneOf (3 ∷ 9 ∷ 10 ∷ 13 ∷ 19 ∷ 20 ∷ 21 ∷ []) (wordTag x) → bad ≡ byWord s x t
+  pub no-word : OneOf (3 ∷ 9 ∷ 10 ∷ 13 ∷ []) (wordTag x) → bad ≡ byWord s x t
   no-word h =
-      of-words (λ w. byWord s w t) bad (Then ∷ To ∷ Step ∷ Input ∷ Data ∷ Read ∷ Restore ∷ []) refl x h
+      of-words (λ w. byWord s w t) bad (Then ∷ To ∷ Step ∷ Input ∷ []) refl x h

@@ -16,11 +16,13 @@ use Rattle.words.specs.declared.symbols.Word.{Word}
 use Rattle.words.specs.declared.symbols.Word.the-variants.{Let, Print, If, Then, Else, Goto, Gosub, Return, For, To, Step, Next, Line, Input, End, Stop, Rem, While, Wend, Data, Read, Restore}
 use Rattle.words.proofs.Choices.{by-test}
 use Rattle.scanner.specs.Tokens.{tokenAt}
+use Rattle.items.specs.Items as item
+use Rattle.items.specs.Items.{DataItems, itemsFrom}
 use Rattle.grammar.specs.Tests.{choose, isSymbol, isKeyword, endsStatement, onText}
-use Rattle.grammar.specs.Trees.{Formula, number, Variable, Item, Statement, empty, assign, print, ifThen, ifElse, goto, gosub, return, for, next, nextOf, while, wend, lineInput, end, stop, remark}
+use Rattle.grammar.specs.Trees.{Formula, number, Variable, Item, Statement, empty, assign, print, ifThen, ifElse, goto, gosub, return, for, next, nextOf, while, wend, lineInput, dataOf, read, restore, restoreTo, end, stop, remark}
 use Rattle.grammar.specs.Formulas as formulas
 use Rattle.grammar.specs.Formulas.{Reading, good, after, quotedBytes, enough, formulaOf}
-use Rattle.statements.specs.Statements.{Begun, bad, done, choice, onFormula, variableOf, assignAt, Items, noItems, items, itemsAt, printed, printAt, ifAt, forAt, targetAt, inputAt, ledByWord, ledBySign, ledByNumber, ledByToken, begunBy, begunAt}
+use Rattle.statements.specs.Statements.{Begun, bad, done, choice, onFormula, variableOf, assignAt, Items, noItems, items, itemsAt, printed, printAt, ifAt, forAt, targetAt, inputAt, held, dataAt, NameList, unlisted, listed, namesAt, filledBy, readAt, ledByWord, ledBySign, ledByNumber, ledByToken, begunBy, begunAt}
 use Rattle.grammar.specs.bridge.Answers.{lineOf}
 use Rattle.statements.specs.bridge.Answers.{isQuoted, itemsOf}
 use Rattle.grammar.specs.declared.tests.NamedLine.the-variants.{Names}
@@ -138,6 +140,24 @@ pub record Entered (s : List ℕ) (t : Scanned) (text : List ℕ) (v : Variable)
   pub input : isKeyword Input (after s t .token) ≡ true
   pub asks : Asked s (after s (after s t)) text v u
 
+-- DATA and its items, from where its word ends
+pub record Held (s : List ℕ) (t : Scanned) (l : List (List ℕ)) (u : Scanned) : Type 0 where
+  pub word : t .token ≡ Keyword Data
+  pub end : ℕ
+  pub lists : itemsFrom s (t .next .0) ≡ item.items l end
+  pub next : u ≡ tokenAt s (place end)
+
+-- READ and its variables
+pub record Filled (s : List ℕ) (t : Scanned) (vs : List Variable) (u : Scanned) : Type 0 where
+  pub word : t .token ≡ Keyword Read
+  pub names : namesAt (enough s) s (after s t) ≡ listed vs u
+
+-- RESTORE l
+pub record Restored (s : List ℕ) (t : Scanned) (l : LineNumber) (u : Scanned) : Type 0 where
+  pub word : t .token ≡ Keyword Restore
+  pub line : lineOf (after s t .token) ≡ Names l
+  pub next : u ≡ after s (after s t)
+
 -- THEN, or a GOTO with its line number after it
 pub data Way (s : List ℕ) (u : Scanned) : Type 0 where
   by-then : isKeyword Then (u .token) ≡ true → Way s u
@@ -166,6 +186,10 @@ module _ (s : List ℕ) (first : Bool) (t : Scanned) where
   Stands (while c) u = Repeated s t c u
   Stands wend u = Bare s t Wend u
   Stands (lineInput text v) u = Entered s t text v u
+  Stands (dataOf l) u = Held s t l u
+  Stands (read vs) u = Filled s t vs u
+  Stands restore u = Bare s t Restore u
+  Stands (restoreTo l) u = Restored s t l u
   Stands end u = Bare s t End u
   Stands stop u = Bare s t Stop u
   Stands remark u = Bare s t Rem u
@@ -253,6 +277,22 @@ module _ (s : List ℕ) (first : Bool) (t : Scanned) where
         target-seen (after s (after s x)) (quotedBytes s q) (rw n) (rw n) (λ _. e))
         (λ f. target-seen x [] (past-no-text s x f) (no-text s x f) (λ e. cc))
 
+  data-seen : t .token ≡ Keyword Data → S (dataAt s t)
+  unfolding dataAt
+  data-seen w = by-items (itemsFrom s (t .next .0)) (λ l p i. record { word = w; end = p; lists = i; next = refl })
+    where
+      by-items : (x : DataItems) → ((l : List (List ℕ)) (p : ℕ) → x ≡ item.items l p → Held s t l (tokenAt s (place p))) → S (held s x)
+      by-items item.bad h = tt
+      by-items (item.items l p) h = h l p refl
+
+  read-seen : t .token ≡ Keyword Read → S (readAt s (after s t))
+  unfolding readAt
+  read-seen w = by-names (namesAt (enough s) s (after s t)) (λ vs u i. record { word = w; names = i })
+    where
+      by-names : (x : NameList) → ((vs : List Variable) (u : Scanned) → x ≡ listed vs u → Filled s t vs u) → S (filledBy x)
+      by-names unlisted h = tt
+      by-names (listed vs u) h = h vs u refl
+
   -- ---- by the first token
 
   number-seen : isKeyword Goto (t .token) ≡ false → S (begunBy s (ledByNumber first t))
@@ -293,9 +333,9 @@ module _ (s : List ℕ) (first : Bool) (t : Scanned) where
   word-seen Rem w = bare w
   word-seen While w = if-formula S tt (formulaOf s (after s t)) _ λ c u i. record { word = w; condition = i }
   word-seen Wend w = bare w
-  word-seen Data w = tt
-  word-seen Read w = tt
-  word-seen Restore w = tt
+  word-seen Data w = data-seen w
+  word-seen Read w = read-seen w
+  word-seen Restore w = by-line S (after s t .token) _ _ (λ l n r. record { word = w; line = n; next = refl }) (λ n. bare w)
 
   mark-seen : (x : Sign) → t .token ≡ Symbol x → S (begunBy s (ledBySign s x t))
   mark-seen Open w = tt

@@ -1,5 +1,5 @@
 -- The ways that a statement can begin: what holds of each way holds of what begins so. A formula, the items of a PRINT, a FOR, a LINE
--- INPUT.
+-- INPUT, DATA, READ.
 use mathlib.Core.Path.{_≡_, refl}
 use mathlib.Core.Bool.{Bool, true, false}
 use mathlib.Core.List.{List, []}
@@ -8,11 +8,15 @@ use Rattle.words.specs.declared.symbols.Scanned.{Scanned}
 use Rattle.words.specs.declared.symbols.Sign.the-variants.{Semicolon, Equal}
 use Rattle.words.specs.declared.symbols.Word.the-variants.{Then, Goto, To, Step}
 use Rattle.words.proofs.Choices.{by-test}
+use Rattle.items.specs.Items as item
+use Rattle.items.specs.Items.{DataItems, itemsFrom}
+use Rattle.scanner.specs.Tokens.{tokenAt}
+use Rattle.words.specs.Places.{place}
 use Rattle.grammar.specs.Tests.{choose, isSymbol, isKeyword}
-use Rattle.grammar.specs.Trees.{Formula, number, Variable, Item, assign, print, for, while, lineInput}
+use Rattle.grammar.specs.Trees.{Formula, number, Variable, Item, assign, print, for, while, lineInput, dataOf, read}
 use Rattle.grammar.specs.Formulas as formulas
 use Rattle.grammar.specs.Formulas.{Reading, good, after, enough, formulaOf}
-use Rattle.statements.specs.Statements.{Begun, bad, done, choice, onFormula, variableOf, assignAt, Items, noItems, items, itemsAt, printed, printAt, ifAt, forAt, targetAt, inputAt}
+use Rattle.statements.specs.Statements.{Begun, bad, done, choice, onFormula, variableOf, assignAt, Items, noItems, items, itemsAt, printed, printAt, ifAt, forAt, targetAt, inputAt, held, dataAt, NameList, unlisted, listed, namesAt, filledBy, readAt}
 use Rattle.statements.specs.bridge.Answers.{itemsOf}
 use Rattle.statements.proofs.Findings.{by-name, by-line, by-text}
 
@@ -52,6 +56,23 @@ module _ (P : Begun → Type 0) (none : P bad) where
     pub by-repeat : ((c : Formula) (u : Scanned) → formulaOf s t ≡ good c u → P (done (while c) u))
         → P (onFormula (formulaOf s t) (λ c u. done (while c) u))
     by-repeat h = if-formula (formulaOf s t) _ h
+
+    pub by-data : ((l : List (List ℕ)) (end : ℕ) → itemsFrom s (t .next .0) ≡ item.items l end → P (done (dataOf l) (tokenAt s (place end))))
+        → P (dataAt s t)
+    unfolding dataAt
+    by-data h = go (itemsFrom s (t .next .0)) refl
+      where
+        go : (x : DataItems) → itemsFrom s (t .next .0) ≡ x → P (held s x)
+        go item.bad e = none
+        go (item.items l end) e = h l end e
+
+    pub by-read : ((vs : List Variable) (u : Scanned) → namesAt (enough s) s t ≡ listed vs u → P (done (read vs) u)) → P (readAt s t)
+    unfolding readAt
+    by-read h = go (namesAt (enough s) s t) refl
+      where
+        go : (x : NameList) → namesAt (enough s) s t ≡ x → P (filledBy x)
+        go unlisted e = none
+        go (listed vs u) e = h vs u e
 
     for-done : (v : Variable) → ((a b c : Formula) (u : Scanned) → P (done (for v a b c) u)) → P (forAt s v t)
     unfolding forAt

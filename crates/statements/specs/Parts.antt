@@ -3,7 +3,7 @@
 use mathlib.Core.Bool.{Bool, true, _&&_}
 use mathlib.Core.List.{List, [], _∷_, _++_}
 use Prim.Native.Nat.{ℕ, max}
-use Rattle.grammar.specs.Trees.{Formula, Variable, Item, comma, semicolon, shown, Statement, empty, assign, print, ifThen, ifElse, goto, gosub, return, for, next, nextOf, while, wend, lineInput, end, stop, remark, Part, last, more}
+use Rattle.grammar.specs.Trees.{Formula, Variable, Item, comma, semicolon, shown, Statement, empty, assign, print, ifThen, ifElse, goto, gosub, return, for, next, nextOf, while, wend, lineInput, dataOf, read, restore, restoreTo, end, stop, remark, Part, last, more}
 use Rattle.expressions.specs.Types.{isWhole, isSome, isOf, sortOf, depthOf}
 use Rattle.expressions.specs.declared.sorts.Sort.the-variants.{Whole, Text}
 use Rattle.grammar.specs.declared.tests.NamedLine.{NamedLine}
@@ -32,6 +32,10 @@ formulasOf (nextOf v) = []
 formulasOf (while c) = c ∷ []
 formulasOf wend = []
 formulasOf (lineInput t v) = []
+formulasOf (dataOf l) = []
+formulasOf (read vs) = []
+formulasOf restore = []
+formulasOf (restoreTo l) = []
 formulasOf end = []
 formulasOf stop = []
 formulasOf remark = []
@@ -63,6 +67,10 @@ rightlyTyped (nextOf v) = isNumber v
 rightlyTyped (while c) = isWhole (sortOf c)
 rightlyTyped wend = true
 rightlyTyped (lineInput t v) = isOf (v .kind) Text
+rightlyTyped (dataOf l) = true
+rightlyTyped (read vs) = true
+rightlyTyped restore = true
+rightlyTyped (restoreTo l) = true
 rightlyTyped end = true
 rightlyTyped stop = true
 rightlyTyped remark = true
@@ -83,6 +91,10 @@ namedLine (nextOf v) = NoLine
 namedLine (while c) = NoLine
 namedLine wend = NoLine
 namedLine (lineInput t v) = NoLine
+namedLine (dataOf l) = NoLine
+namedLine (read vs) = NoLine
+namedLine restore = NoLine
+namedLine (restoreTo l) = Names l
 namedLine end = NoLine
 namedLine stop = NoLine
 namedLine remark = NoLine
@@ -130,6 +142,10 @@ unfoldable mutual
   partsWithin (while c) = []
   partsWithin wend = []
   partsWithin (lineInput t v) = []
+  partsWithin (dataOf l) = []
+  partsWithin (read vs) = []
+  partsWithin restore = []
+  partsWithin (restoreTo l) = []
   partsWithin end = []
   partsWithin stop = []
   partsWithin remark = []

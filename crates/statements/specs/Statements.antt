@@ -59,7 +59,9 @@ use Rattle.words.specs.declared.symbols.Word.the-variants.{
 }
 use Rattle.scanner.specs.Tokens.{tokenAt}
 use Rattle.grammar.specs.Tests.{choose, isSymbol, isKeyword, endsStatement, endsLine, onName, onText, onLine}
-use Rattle.grammar.specs.Trees.{Formula, number, Variable, Item, comma, semicolon, shown, Statement, empty, assign, print, ifThen, ifElse, goto, gosub, return, for, next, nextOf, while, wend, lineInput, end, stop, remark, Part, last, more}
+use Rattle.grammar.specs.Trees.{Formula, number, Variable, Item, comma, semicolon, shown, Statement, empty, assign, print, ifThen, ifElse, goto, gosub, return, for, next, nextOf, while, wend, lineInput, dataOf, read, restore, restoreTo, end, stop, remark, Part, last, more}
+use Rattle.items.specs.Items as item
+use Rattle.items.specs.Items.{DataItems, itemsFrom}
 use Rattle.grammar.specs.Formulas as formulas
 use Rattle.grammar.specs.Formulas.{Reading, after, quotedBytes, enough, formulaOf}
 use Rattle.statements.specs.declared.leading.Lead.{Lead}
@@ -155,7 +157,41 @@ inputAt s t =
     (λ q. choose (isSymbol Semicolon (after s t .token)) (λ _. targetAt s (quotedBytes s q) (after s (after s t))) (λ _. bad))
     (targetAt s [] t)
 
--- a statement by the word that leads it, from the token after that word on; an empty one is followed by what stands there
+-- ---- DATA, READ and RESTORE
+
+-- DATA's items are read by bytes, from where its word ends
+abbrev pub held : List ℕ → DataItems → Begun
+held s item.bad = bad
+held s (item.items l p) = done (dataOf l) (tokenAt s (place p))
+
+unfoldable pub dataAt : List ℕ → Scanned → Begun
+dataAt s t = held s (itemsFrom s (t .next .0))
+
+-- READ takes variables parted by commas
+pub data NameList : Type 0 where
+  unlisted : NameList
+  listed : List Variable → Scanned → NameList
+
+abbrev pub withName : Variable → NameList → NameList
+withName v unlisted = unlisted
+withName v (listed vs t) = listed (v ∷ vs) t
+
+unfoldable pub namesAt : ℕ → List ℕ → Scanned → NameList
+namesAt zero s t = unlisted
+namesAt (suc n) s t =
+    onName (t .token)
+    (λ v. withName (variableOf s v) (choose (isSymbol Comma (after s t .token)) (λ _. namesAt n s (after s (after s t))) (λ _. listed [] (after s t))))
+    unlisted
+
+abbrev pub filledBy : NameList → Begun
+filledBy unlisted = bad
+filledBy (listed vs t) = done (read vs) t
+
+unfoldable pub readAt : List ℕ → Scanned → Begun
+readAt s t = filledBy (namesAt (enough s) s t)
+
+-- a statement by the word that leads it, from the token after that word on; an empty one is followed by what stands there, and DATA is
+-- read from its own word on
 abbrev pub byWord : List ℕ → Word → Scanned → Begun
 byWord s Let t = onName (t .token) (λ v. assignAt s (variableOf s v) (after s t)) bad
 byWord s Print t = printAt s t
@@ -176,15 +212,15 @@ byWord s Stop t = done stop t
 byWord s Rem t = done remark t
 byWord s While t = onFormula (formulaOf s t) (λ c u. done (while c) u)
 byWord s Wend t = done wend t
-byWord s Data t = bad
-byWord s Read t = bad
-byWord s Restore t = bad
+byWord s Data t = dataAt s t
+byWord s Read t = readAt s t
+byWord s Restore t = onLine (t .token) (λ l. done (restoreTo l) (after s t)) (done restore t)
 
 -- ---- how a statement is led: by its word, given or understood
 
--- before ELSE stands an empty statement
+-- before ELSE stands an empty statement; what follows DATA is no token
 abbrev pub ledByWord : List ℕ → Word → Scanned → Lead
-ledByWord s w t = choose (isKeyword Else (Keyword w)) (λ _. By Else t) (λ _. By w (after s t))
+ledByWord s w t = choose (isKeyword Else (Keyword w) || isKeyword Data (Keyword w)) (λ _. By w t) (λ _. By w (after s t))
 
 -- before a colon too; a question mark is PRINT
 abbrev pub ledBySign : List ℕ → Sign → Scanned → Lead

@@ -10,18 +10,18 @@ use words::Token;
 use words::Word;
 
 // By its word, given or understood, and from this token on it then reads; or by nothing that begins a statement. ELSE leads an empty
-// one, and the token is what follows that.
+// one, and the token is what follows that; DATA's is its own word, since no token follows it.
 pub enum Lead {
     By(Word, Scanned),
     Nothing,
 }
 
-// Before ELSE stands an empty statement.
+// Before ELSE stands an empty statement; what follows DATA is no token.
 fn led_by_word(line: &[u8], word: Word, ahead: Scanned) -> Lead
     ensures { λ r. ⌜ r ≡ ledByWord (now (line .entry)) word ahead ⌝ }
 {
     match word {
-        Word::Else => Lead::By(word, ahead),
+        Word::Else | Word::Data => Lead::By(word, ahead),
         _ => Lead::By(word, token_at(line, ahead.next)),
     }
 }

@@ -4,10 +4,10 @@ ghost use mathlib.Core.Bool.{true, _&&_};
 ghost use mathlib.Core.List.{List};
 ghost use Prim.Native.Nat.{ℕ};
 ghost use Rattle.grammar.specs.Tests.{choose, isSymbol, isKeyword, endsStatement, onName, onLine};
-ghost use Rattle.grammar.specs.Trees.{Formula, Variable, goto, next, nextOf, while};
+ghost use Rattle.grammar.specs.Trees.{Formula, Variable, goto, next, nextOf, restore, restoreTo, while};
 ghost use Rattle.grammar.specs.Formulas.{Reading, good, after, formulaOf};
 ghost use Rattle.expressions.specs.Types.{depthOf};
-ghost use Rattle.statements.specs.Statements.{bad, done, choice, onFormula, variableOf, assignAt, isSeparator, printAt, ifAt, stepAt, limitAt, forAt, targetAt, inputAt, byWord, begunBy, begunAt};
+ghost use Rattle.statements.specs.Statements.{bad, done, choice, onFormula, variableOf, assignAt, isSeparator, printAt, ifAt, stepAt, limitAt, forAt, targetAt, inputAt, dataAt, readAt, byWord, begunBy, begunAt};
 ghost use Rattle.expressions.specs.Types.{isWhole};
 ghost use Rattle.statements.specs.Parts.{isNumber};
 ghost use Rattle.expressions.specs.bridge.Answers.{cappedDepth};
@@ -26,6 +26,8 @@ use grammar::ends_statement;
 use grammar::is_keyword;
 use grammar::is_symbol;
 use grammar::line_of;
+use items::ItemRead;
+use items::item_at;
 use scanner::token_at;
 use words::Name;
 use words::Place;
@@ -419,7 +421,57 @@ fn target(line: &[u8], ahead: Scanned) -> StatementRead
     }
 }
 
-// A statement by the word that leads it, from the token after that word on.
+// DATA and its items, from its own word on.
+fn data(line: &[u8], word: Scanned) -> StatementRead
+    ensures { λ r. ⌜ r ≡ begunAnswer (dataAt (now (line .entry)) word) ⌝ }
+{
+    let mut at = word.next;
+    loop {
+        match item_at(line, at) {
+            ItemRead::Bad => return StatementRead::Bad,
+            ItemRead::Good(item) => {
+                let end = item.end;
+                if !item.more {
+                    return plain(token_at(line, end));
+                }
+                at = Place(end.0 + 1);
+            }
+        }
+    }
+}
+
+// READ v, .., from the first variable on.
+fn read(line: &[u8], ahead: Scanned) -> StatementRead
+    ensures { λ r. ⌜ r ≡ begunAnswer (readAt (now (line .entry)) ahead) ⌝ }
+{
+    let mut here = ahead;
+    loop {
+        let NameFound::Is(_) = name_at(here) else {
+            return StatementRead::Bad;
+        };
+        let next = token_after(line, here);
+        if !sign_stands(Sign::Comma, next) {
+            return plain(next);
+        }
+        here = token_after(line, next);
+    }
+}
+
+// RESTORE [n], from the line number on.
+fn restore(line: &[u8], ahead: Scanned) -> StatementRead
+    ensures { λ r. ⌜
+        r ≡ begunAnswer (onLine (ahead .token) (λ l. done (restoreTo l) (after (now (line .entry)) ahead)) (done restore ahead))
+        ⌝ }
+{
+    let token = ahead.token;
+    let names = line_of(token);
+    match names {
+        NamedLine::NoLine => plain(ahead),
+        NamedLine::Names(_) => jump(line, ahead),
+    }
+}
+
+// A statement by the word that leads it, from the token after that word on; DATA from its own.
 fn by_word(line: &[u8], word: Word, from: Scanned) -> StatementRead
     ensures { λ r. ⌜ r ≡ begunAnswer (byWord (now (line .entry)) word from) ⌝ }
 {
@@ -432,6 +484,9 @@ fn by_word(line: &[u8], word: Word, from: Scanned) -> StatementRead
         Word::Next => loop_end(line, from),
         Word::While => repeat_head(line, from),
         Word::Line => line_input(line, from),
+        Word::Data => data(line, from),
+        Word::Read => read(line, from),
+        Word::Restore => restore(line, from),
         Word::Else | Word::Return | Word::End | Word::Stop | Word::Rem | Word::Wend => plain(from),
         _ => StatementRead::Bad,
     }

@@ -11,12 +11,13 @@ use Rattle.words.specs.Places.{longestLine}
 use Rattle.scanner.specs.Tokens.{tokenAt}
 use Rattle.grammar.specs.Tests.{isKeyword}
 use Rattle.grammar.specs.Formulas.{after, formulaOf}
-use Rattle.statements.specs.Statements.{printAt, ifAt, byWord}
+use Rattle.statements.specs.Statements.{printAt, ifAt, readAt, byWord}
 use Rattle.turns.specs.bridge.Turns.{Formed}
 use Rattle.turns.specs.bridge.Doing.{Begins}
 use Rattle.statements.specs.Parts.{deepest}
-use Rattle.statements.proofs.Ways.{if-so, by-items, by-condition, by-repeat, by-input}
+use Rattle.statements.proofs.Ways.{if-so, by-items, by-condition, by-repeat, by-read, by-input}
 use Rattle.dialogue.specs.bridge.Showing.{Itemed}
+use Rattle.feeding.specs.bridge.Giving.{Listed}
 use Rattle.dialogue.specs.bridge.Asking.{Asks}
 
 module _ (s : List ℕ) (short : length s ≤ longestLine) (q : Place) {t : Scanned} (scanned : t ≡ tokenAt s q) where
@@ -35,6 +36,9 @@ module _ (s : List ℕ) (short : length s ≤ longestLine) (q : Place) {t : Scan
   while-formed =
       by-repeat (λ b. Begins b → Formed s t) (λ x. absurd x) s t
       (λ c u e h. let k = h .1 in record { short = short; scans = record { from = q; is = scanned }; reads = record { of = c; next = u; is = e; shallow = omega arith } })
+
+pub read-listed : (s : List ℕ) (t : Scanned) → Begins (readAt s t) → Listed s t
+read-listed s t = by-read (λ b. Begins b → Listed s t) (λ x. absurd x) s t (λ vs u e h. record { all = vs; end = u; is = e })
 
 module _ (s : List ℕ) (short : length s ≤ longestLine) (w : Scanned) where
   abbrev after-input : Scanned

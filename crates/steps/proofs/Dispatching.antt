@@ -1,6 +1,6 @@
 -- What a part's first statement does, by how it begins.
 use mathlib.Core.Path.{_≡_, refl, sym, ap, _∙_}
-use mathlib.Core.Bool.{Bool, true, false, false≢true}
+use mathlib.Core.Bool.{Bool, true, false, _||_, false≢true}
 use mathlib.Core.List.{List, _∷_, []}
 use Prim.Native.Nat.{ℕ}
 use types.Run.{OneOf, miss}
@@ -19,8 +19,8 @@ use Rattle.scanner.specs.Tokens.{tokenAt}
 use Rattle.grammar.specs.Tests.{isSymbol, isKeyword, endsStatement}
 use Rattle.grammar.specs.Trees as tree
 use Rattle.grammar.specs.Trees.{Part, last, more}
-use Rattle.grammar.specs.Formulas.{good, after, formulaOf}
-use Rattle.statements.specs.Statements.{Begun, bad, done, choice, items, printAt, ifAt, inputAt, byWord, ledBySign, ledByToken, leadOf, begunBy, begunAt, PartReading, goodPart, partOf}
+use Rattle.grammar.specs.Formulas.{good, after, enough, formulaOf}
+use Rattle.statements.specs.Statements.{Begun, bad, done, choice, items, printAt, ifAt, inputAt, listed, namesAt, readAt, byWord, ledBySign, ledByToken, leadOf, begunBy, begunAt, PartReading, goodPart, partOf}
 use Rattle.statements.specs.bridge.Answers.{itemsOf}
 use Rattle.statements.proofs.Parts.{partBy, unrolled}
 use Rattle.statements.proofs.Views.{Final, plain, thens, elses, more-view, final-view}
@@ -40,7 +40,7 @@ use Rattle.statements.proofs.Firsts.{true-part}
 use Rattle.repeating.specs.bridge.Repeating.{WhileStands}
 use Rattle.turns.specs.Steps.{partBegun, hereOf, doStatement}
 use Rattle.turns.specs.bridge.Doing.{Begins, Does}
-use Rattle.statements.proofs.Ways.{if-so, by-items, by-condition, by-repeat, by-input}
+use Rattle.statements.proofs.Ways.{if-so, by-items, by-condition, by-repeat, by-read, by-input}
 use Rattle.turns.proofs.Doing.{any-told, goes-turn}
 use Rattle.machine.proofs.Tokens.{wordTag}
 use Rattle.statements.specs.declared.leading.Lead.{Lead}
@@ -108,7 +108,7 @@ module _ (line : List ℕ) (first : Bool) where
   from-token : (token : Token) (q : Place) → FromLead line (ledByToken line first token (tokenAt line q))
   from-token EndOfLine q = record { place = q; is = refl }
   from-token (Keyword w) q =
-      by-test (isKeyword Else (Keyword w)) (λ e. rw e (record { place = q; is = refl })) (λ e. rw e (record { place = tokenAt line q .next; is = refl }))
+      by-test (isKeyword Else (Keyword w) || isKeyword Data (Keyword w)) (λ e. rw e (record { place = q; is = refl })) (λ e. rw e (record { place = tokenAt line q .next; is = refl }))
   from-token Not q = tt
   from-token (Infix op) q = tt
   from-token (Call f) q = tt
@@ -259,6 +259,12 @@ module _ (text line : List ℕ) (here : Place) (at : ℕ) (m : State) (found : F
       → D (byWord line Line t)
   input-does t h = if-so D tt (isKeyword Input (t .token)) _ (by-input D tt line (after line t) (λ prompt v u e p. any-told (h prompt v u p e)))
 
+  pub read-does : (t : Scanned)
+      → ((vs : List tree.Variable) (u : Scanned) → Positioned text (afterOf here u) → namesAt (enough line) line t ≡ listed vs u
+      → Turns text m input space room anyRecords (λ n. doStatement text at (tree.read vs) n (positionOf text (afterOf here u))) r space′ room′)
+      → D (readAt line t)
+  read-does t h = by-read D tt line t (λ vs u e p. any-told (h vs u p e))
+
   pub while-does : Standing text line here → {l : Lead} → l ≡ leadOf line true (tokenAt line (place at)) → {t : Scanned} → l ≡ By While t
       → Parted line at
       → ((c : tree.Formula) (u : Scanned) → WhileStands text line here (place at) t c u
@@ -272,7 +278,7 @@ module _ (text line : List ℕ) (here : Place) (at : ℕ) (m : State) (found : F
 -- ---- words that lead an empty statement or a remark, or none
 
 abbrev otherWords : List ℕ
-otherWords = 3 ∷ 4 ∷ 9 ∷ 10 ∷ 13 ∷ 16 ∷ 19 ∷ 20 ∷ 21 ∷ []
+otherWords = 3 ∷ 4 ∷ 9 ∷ 10 ∷ 13 ∷ 16 ∷ []
 
 module _ (text line : List ℕ) (here : Place) (at : ℕ) (m : State) (found : Found) (entry : Record) (input space room : List ℕ)
     (r : Turn) (sound : Sound m input space room) (t : Scanned) (e : r ≡ turnedTo m (next.On (afterOf here t))) where
@@ -297,6 +303,6 @@ module _ (text line : List ℕ) (here : Place) (at : ℕ) (m : State) (found : F
   other-does Rem h = λ p. rw e (goes-turn sound _ here t p)
   other-does While h = absurd (miss otherWords 17 tt h)
   other-does Wend h = absurd (miss otherWords 18 tt h)
-  other-does Data h = tt
-  other-does Read h = tt
-  other-does Restore h = tt
+  other-does Data h = absurd (miss otherWords 19 tt h)
+  other-does Read h = absurd (miss otherWords 20 tt h)
+  other-does Restore h = absurd (miss otherWords 21 tt h)

@@ -5,7 +5,7 @@ ghost use Rattle.grammar.specs.Trees.{Part};
 ghost use Rattle.scanner.specs.Tokens.{tokenAt};
 ghost use Rattle.statements.specs.Statements.{leadOf, goodPart, partOf};
 ghost use Rattle.statements.specs.Parts.{headOf, tailOf, placeOf};
-ghost use Rattle.machine.specs.bridge.Holding.{stateOf, linesAt, Parted, Sound};
+ghost use Rattle.machine.specs.bridge.Holding.{stateOf, linesAt, Parted, Fed, Sound};
 ghost use Rattle.machine.specs.bridge.Seeking.{wishOf, testOf};
 ghost use Rattle.machine.specs.bridge.Wanted.{Told};
 ghost use Rattle.rows.specs.bridge.Rows.{Tabled};
@@ -19,6 +19,9 @@ use control::jump;
 use control::next_loop;
 use dialogue::line_input;
 use dialogue::print;
+use feeding::pass;
+use feeding::read;
+use feeding::restore;
 use machine::Found;
 use machine::Machine;
 use machine::Next;
@@ -65,7 +68,7 @@ pub fn do_statement(
         × (Parted (now line) (at .0)
         × (Sound (stateOf machine (now names) (now words) (now labels) (now lengths)) (now input) (now space) (now room)
         × (FoundBelow (machine .depth) found
-        × ((lead ≡ leadOf (now line) true (tokenAt (now line) at)) × Tabled (now text) (now rows)))))
+        × ((lead ≡ leadOf (now line) true (tokenAt (now line) at)) × (Tabled (now text) (now rows) × Fed (now text) (machine .feed))))))
         ⌝ }
     ensures { λ r. ⌜
         ((p : Part) (end : Scanned) → partOf (now (line .entry)) true (at .0) ≡ goodPart p end
@@ -155,6 +158,20 @@ pub fn do_statement(
                 space,
                 room,
             ),
+            Word::Data => pass(line, here, lead, machine),
+            Word::Read => read(
+                text,
+                line,
+                here,
+                from,
+                machine,
+                names,
+                words,
+                labels,
+                lengths,
+                space,
+            ),
+            Word::Restore => restore(rows, line, here, from, machine),
             Word::End => turned_to(machine, Next::Ends),
             Word::Stop => turned_to(machine, Next::Stops),
             _ => goes_on(machine, here, from),

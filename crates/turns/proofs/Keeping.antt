@@ -35,6 +35,7 @@ same-tables {text} {rs} {m} h t used long vs e names more =
       outputRoom = h .outputRoom;
       left = h .left;
       taken = h .taken;
+      feeds = h .feeds;
       steps = h .steps;
       limit = h .limit ∙ sym long;
       placed = λ i l. record { back = h .placed i l .back; known = λ f. omega (arith, known i l f); paired = h .placed i l .paired };
@@ -76,6 +77,7 @@ same-noting h r =
       outputRoom = h .outputRoom;
       left = h .left;
       taken = h .taken;
+      feeds = h .feeds;
       steps = h .steps;
       limit = h .limit;
       placed = h .placed;

@@ -5,5 +5,6 @@ pub mod Keeping
 pub mod Leading
 pub mod Pushing
 pub mod Storing
+pub mod Making
 pub mod Wholes
 pub mod Working

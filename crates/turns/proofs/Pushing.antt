@@ -41,6 +41,7 @@ module _ {m : State} {input space room : List ℕ} where
         outputRoom = s .outputRoom;
         left = s .left;
         taken = s .taken;
+        feeds = s .feeds;
         steps = s .steps;
         limit = s .limit;
         placed = p;

@@ -4,6 +4,7 @@ use mathlib.Core.List.{List, [], _∷_}
 use Prim.Native.Nat.{ℕ, _+_, _-_}
 use lib.Dec.{ltb, leb, eqb}
 use lib.ListN.{length, drop}
+use Rattle.whole.specs.Digits.{numberItem}
 use Rattle.whole.specs.Texts as texts
 use Rattle.whole.specs.Whole.{applied}
 use Rattle.whole.specs.declared.arithmetic.Answer.{Answer}
@@ -13,6 +14,7 @@ use Rattle.whole.specs.declared.errors.Error.{Error}
 use Rattle.whole.specs.declared.errors.Error.the-variants.{
   NextWithoutFor,
   ReturnWithoutGosub,
+  OutOfData,
   OutOfMemory,
   UndefinedLine,
   TypeMismatch,
@@ -32,8 +34,9 @@ use Rattle.grammar.specs.Trees.{Formula, Variable, Item, Statement, Part}
 use Rattle.variables.specs.Strings.{Value, whole, text, Outcome, value, fault, make}
 use Rattle.variables.specs.Variables.{wordOf, setNumber, setString, numbersFull, stringsFull}
 use Rattle.operators.specs.Values.{valueOf}
-use Rattle.machine.specs.Machine.{Position, Record, loop, call, again, Machine, mostRecords, roomOf, withVariables, withRecords, withInput, noting, Printed, full, printed, write, commaBlanks, isCall, isLoop, isLoopOf, backOf, Search, missing, found, sought, below, passed, longestInputLine}
-use Rattle.machine.specs.Order.{Stand, Partner, none, some, past, nextFor, wendFor}
+use Rattle.machine.specs.Machine.{Position, Record, loop, call, again, Machine, mostRecords, roomOf, withVariables, withRecords, withInput, withItems, noting, Printed, full, printed, write, commaBlanks, isCall, isLoop, isLoopOf, backOf, Search, missing, found, sought, below, passed, longestInputLine}
+use Rattle.machine.specs.Order.{Stand, stands, Partner, none, some, past, nextFor, wendFor}
+use Rattle.machine.specs.Items.{itemsOf, itemsOfText}
 use Rattle.machine.specs.Repeats.{startOf, isWhile, isWhileOf}
 use Rattle.statements.specs.Parts.{Rest, nothing, part, headOf}
 
@@ -142,6 +145,10 @@ namesOther name (tree.nextOf v) = cond (isWholeKind (v .kind)) (not (alike (v .t
 namesOther name (tree.while c) = false
 namesOther name tree.wend = false
 namesOther name (tree.lineInput t v) = false
+namesOther name (tree.dataOf l) = false
+namesOther name (tree.read vs) = false
+namesOther name tree.restore = false
+namesOther name (tree.restoreTo l) = false
 namesOther name tree.end = false
 namesOther name tree.stop = false
 namesOther name tree.remark = false
@@ -248,6 +255,27 @@ abbrev pub inputLine : List ℕ → Machine → Variable → (Machine → Next) 
 inputLine [] m v go = fails InputPastEnd m
 inputLine (b ∷ s) m v go = lineTaken m v (takeLine (b ∷ s)) go
 
+-- ---- READ: items are taken one after another, left to right
+
+-- a number by one optional sign and digits only, else 5, out of range 6
+abbrev pub givenNumber : Answer → Telling → Machine → (Machine → Next) → Next
+givenNumber (Whole w) name m go = storeNumber m name w go
+givenNumber (Fault e) name m go = fails e m
+
+-- an item for a string makes one
+abbrev pub given : Kind → Telling → List ℕ → Machine → (Machine → Next) → Next
+given kind.Whole name b m go = givenNumber (numberItem b) name m go
+given kind.Text name b m go = worked m (make b (roomOf m)) (λ v n. storeString n name b go)
+
+-- past the last is 4
+abbrev pub nextItem : List (List ℕ) → Machine → (List ℕ → Machine → Next) → Next
+nextItem [] m go = fails OutOfData m
+nextItem (b ∷ l) m go = go b (withItems m l)
+
+unfoldable pub readItems : List Variable → Machine → (Machine → Next) → Next
+readItems [] m go = go m
+readItems (v ∷ vs) m go = nextItem (m .items) m (λ b n. given (v .kind) (v .telling) b n (λ o. readItems vs o go))
+
 -- ---- all statements
 
 -- a part of an IF is entered on the same line
@@ -281,6 +309,11 @@ doStatement program at (tree.while c) m after = whileBy (wendFor at (after .line
 doStatement program at tree.wend m after = turnedBack m (sought (isWhileOf (startOf (after .lines)) at) (m .records))
 doStatement program at (tree.lineInput t v) m after =
     written m t (λ n. inputLine (n .input) n v (λ o. goesOn o after))
+doStatement program at (tree.dataOf l) m after = goesOn m after
+doStatement program at (tree.read vs) m after = readItems vs m (λ n. goesOn n after)
+doStatement program at tree.restore m after = goesOn (withItems m (itemsOfText program)) after
+doStatement program at (tree.restoreTo l) m after =
+    toLine m (fromNumber (l .0) (linesOf program)) (λ ls. goesOn (withItems m (itemsOf (stands ls))) after)
 doStatement program at tree.end m after = ends m
 doStatement program at tree.stop m after = stops m
 doStatement program at tree.remark m after = goesOn m after

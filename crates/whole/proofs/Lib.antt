@@ -3,4 +3,5 @@ pub mod Numbers
 pub mod Sizes
 pub mod Theorems
 pub mod Reading
+pub mod Items
 pub mod Numerals

@@ -1,14 +1,16 @@
 -- Digits read to a value, and VAL.
-use mathlib.Core.Bool.{Bool, cond, _&&_}
+use mathlib.Core.Bool.{Bool, cond, _&&_, _||_}
 use mathlib.Core.List.{List, [], _∷_}
 use Prim.Native.Nat.{ℕ, _+_, _-_, _*_}
 use Prim.Native.Char.{code}
-use lib.Dec.{leb}
+use lib.Dec.{leb, ltb, eqb}
 use lib.IntN.{pos, negℤ}
 use lib.ListN.{length, drop}
 use Rattle.whole.specs.Bytes.{is, leading}
 use Rattle.whole.specs.Whole.{fit}
+use Rattle.whole.specs.declared.errors.Error.the-variants.{IllegalFunctionCall}
 use Rattle.whole.specs.declared.arithmetic.Answer.{Answer}
+use Rattle.whole.specs.declared.arithmetic.Answer.the-variants.{Fault}
 use Rattle.whole.specs.declared.digits.Magnitude.{Magnitude}
 use Rattle.whole.specs.declared.digits.Magnitude.the-variants.{Fits, TooLarge}
 use Rattle.whole.specs.declared.digits.Digits.{Digits}
@@ -55,3 +57,18 @@ signedValue (b ∷ s) =
 -- leading blanks, then that
 abbrev pub valOf : List ℕ → Answer
 valOf s = signedValue (drop (blanksOf s) s)
+
+-- ---- a number read from an item of DATA
+
+-- one sign, or none
+unfoldable pub signLength : List ℕ → ℕ
+signLength [] = 0
+signLength (b ∷ s) = cond (is "-" b || is "+" b) 1 0
+
+-- digits only, and at least one
+unfoldable pub digitsOnly : List ℕ → Bool
+digitsOnly s = ltb 0 (length s) && eqb (length (leadingDigits s)) (length s)
+
+-- one optional sign and digits only, else error 5; out of range 6; no blanks are skipped
+unfoldable pub numberItem : List ℕ → Answer
+numberItem s = cond (digitsOnly (drop (signLength s) s)) (signedValue s) (Fault IllegalFunctionCall)

@@ -5,6 +5,7 @@ use Rattle.whole.specs.declared.errors.Error.the-variants.{
   NextWithoutFor,
   Syntax,
   ReturnWithoutGosub,
+  OutOfData,
   IllegalFunctionCall,
   Overflow,
   OutOfMemory,
@@ -26,6 +27,7 @@ abbrev pub errorNumber : Error → ℕ
 errorNumber NextWithoutFor = 1
 errorNumber Syntax = 2
 errorNumber ReturnWithoutGosub = 3
+errorNumber OutOfData = 4
 errorNumber IllegalFunctionCall = 5
 errorNumber Overflow = 6
 errorNumber OutOfMemory = 7

@@ -6,8 +6,8 @@ use lib.IntN.{pos, negℤ}
 use Rattle.whole.specs.Bytes.{bytes, leading}
 use Rattle.whole.specs.Whole.{num, word, fit, applied, negated, magnitude}
 use Rattle.whole.specs.Texts.{places, trimmed, digitByte, numeral, signedNumeral, printedNumber, hexadecimal}
-use Rattle.whole.specs.Digits.{isDigit, valueFrom, signedValue, valOf}
-use Rattle.whole.specs.declared.errors.Error.the-variants.{Overflow, DivisionByZero}
+use Rattle.whole.specs.Digits.{isDigit, valueFrom, signedValue, valOf, signLength, digitsOnly, numberItem}
+use Rattle.whole.specs.declared.errors.Error.the-variants.{IllegalFunctionCall, Overflow, DivisionByZero}
 use Rattle.whole.specs.declared.arithmetic.Answer.{Answer}
 use Rattle.whole.specs.declared.arithmetic.Answer.the-variants.{Whole, Fault}
 use Rattle.whole.specs.declared.arithmetic.Operator.the-variants.{Multiply, Divide, Modulo, Add, Less, And}
@@ -83,3 +83,32 @@ values =
 pub values-hold : map (λ (e : Example Answer). e .asked) values ≡ map (λ (e : Example Answer). e .answered) values
 unfolding values fit bytes leading signedValue isDigit valueFrom
 values-hold = refl
+
+-- ---- numbers read from items of DATA
+
+pub items : List (Example Answer)
+items =
+    (numberItem (bytes "0099") gives Whole 99)
+    ∷ (numberItem (bytes "+5") gives Whole 5)
+    ∷ (numberItem (bytes "-0") gives Whole 0)
+    ∷ (numberItem (bytes "-32768") gives Whole 0x8000)
+    -- out of range
+    ∷ (numberItem (bytes "32768") gives Fault Overflow)
+    ∷ (numberItem (bytes "-32769") gives Fault Overflow)
+    ∷ (numberItem (bytes "99999999999999999999") gives Fault Overflow)
+    -- the empty item, a lone sign, two signs
+    ∷ (numberItem (bytes "") gives Fault IllegalFunctionCall)
+    ∷ (numberItem (bytes "+") gives Fault IllegalFunctionCall)
+    ∷ (numberItem (bytes "-") gives Fault IllegalFunctionCall)
+    ∷ (numberItem (bytes "+-1") gives Fault IllegalFunctionCall)
+    -- blanks are no digits, and a byte that is none tells before the range does
+    ∷ (numberItem (bytes " 1") gives Fault IllegalFunctionCall)
+    ∷ (numberItem (bytes "1 ") gives Fault IllegalFunctionCall)
+    ∷ (numberItem (bytes "1 2") gives Fault IllegalFunctionCall)
+    ∷ (numberItem (bytes "&H1F") gives Fault IllegalFunctionCall)
+    ∷ (numberItem (bytes "99999X") gives Fault IllegalFunctionCall)
+    ∷ []
+
+pub items-hold : map (λ (e : Example Answer). e .asked) items ≡ map (λ (e : Example Answer). e .answered) items
+unfolding items fit bytes leading signedValue isDigit valueFrom signLength digitsOnly numberItem
+items-hold = refl

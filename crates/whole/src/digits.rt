@@ -1,9 +1,9 @@
-// Digits read to a value, and VAL.
+// Digits read to a value, VAL, and the number of an item of DATA.
 ghost use mathlib.Core.Path.{_≡_};
 ghost use Prim.Native.Nat.{ℕ, _+_, _*_, _≤_};
 ghost use lib.ListN.{drop};
 ghost use lib.IntN.{pos, negℤ};
-ghost use Rattle.whole.specs.Digits.{isDigit, leadingValue, capped, digitsOf, blanksOf, valOf};
+ghost use Rattle.whole.specs.Digits.{isDigit, leadingValue, capped, digitsOf, blanksOf, valOf, signLength, digitsOnly, numberItem};
 ghost use Rattle.whole.specs.Whole.{fit};
 use crate::arithmetic::Answer;
 use crate::errors::Error;
@@ -132,4 +132,42 @@ pub fn val(bytes: &[u8]) -> Answer
         return from_zero(magnitude_from(bytes, start + 1));
     }
     from_zero(magnitude_from(bytes, start))
+}
+
+// The length of the sign that bytes begin with: one, or none.
+fn sign_length(bytes: &[u8]) -> usize
+    ensures { λ r. ⌜ r ≡ signLength (now (bytes .entry)) ⌝ }
+{
+    if bytes.len() == 0 {
+        return 0;
+    }
+    match bytes[0] {
+        b'-' => 1,
+        b'+' => 1,
+        _ => 0,
+    }
+}
+
+// Digits only from a place on, and at least one.
+fn digits_only(bytes: &[u8], start: usize) -> bool
+    requires { do ⌜ start ≤ (← ⟦bytes.len()⟧) ⌝ }
+    ensures { λ r. ⌜ r ≡ digitsOnly (drop start (now (bytes .entry))) ⌝ }
+{
+    if start == bytes.len() {
+        return false;
+    }
+    let digits = leading_digits(&bytes[start..]);
+    digits.count == bytes.len() - start
+}
+
+// An item of DATA read as a number: one optional sign and digits only.
+pub fn number_item(bytes: &[u8]) -> Answer
+    ensures { λ r. ⌜ r ≡ numberItem (now (bytes .entry)) ⌝ }
+{
+    let start = sign_length(bytes);
+    if !digits_only(bytes, start) {
+        return Answer::Fault(Error::IllegalFunctionCall);
+    }
+    // It begins with no blank, so VAL reads the same.
+    val(bytes)
 }

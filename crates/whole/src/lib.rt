@@ -17,6 +17,7 @@ pub use digits::Magnitude;
 pub use digits::is_digit;
 pub use digits::leading_blanks;
 pub use digits::leading_digits;
+pub use digits::number_item;
 pub use digits::val;
 pub use errors::Error;
 pub use errors::number_of;

@@ -4,7 +4,7 @@ use Prim.Native.Nat.{ℕ}
 use Rattle.words.specs.Spellings.{Spelt, _means_, meaning}
 use Rattle.words.specs.Classes.{capitalOf}
 use Rattle.words.specs.declared.vocabulary.WordFound.{WordFound}
-use Rattle.words.specs.declared.vocabulary.WordFound.the-variants.{Plain, Dollared, Remark, Free}
+use Rattle.words.specs.declared.vocabulary.WordFound.the-variants.{Plain, Dollared, Remark, Items, Free}
 use Rattle.whole.specs.declared.arithmetic.Operator.the-variants.{Modulo, And, Or, Xor, Eqv, Imp}
 use Rattle.words.specs.declared.symbols.Token.the-variants.{Keyword, Not, Infix, Call}
 use Rattle.words.specs.declared.symbols.Function.the-variants.{
@@ -43,7 +43,6 @@ use Rattle.words.specs.declared.symbols.Word.the-variants.{
   Stop,
   While,
   Wend,
-  Data,
   Read,
   Restore,
 }
@@ -72,7 +71,7 @@ statementWords =
     ∷ ("REM" means Remark)
     ∷ ("WHILE" means Plain (Keyword While))
     ∷ ("WEND" means Plain (Keyword Wend))
-    ∷ ("DATA" means Plain (Keyword Data))
+    ∷ ("DATA" means Items)
     ∷ ("READ" means Plain (Keyword Read))
     ∷ ("RESTORE" means Plain (Keyword Restore))
     ∷ []

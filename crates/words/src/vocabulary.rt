@@ -11,11 +11,12 @@ use crate::symbols::Token;
 use crate::symbols::Word;
 use whole::Operator;
 
-// What letters and digits spell: a reserved word, one that ends in `$`, REM, or no reserved word.
+// What letters and digits spell: a reserved word, one that ends in `$`, REM, DATA, or no reserved word.
 pub enum WordFound {
     Plain(Token),
     Dollared(Token),
     Remark,
+    Items,
     Free,
 }
 
@@ -152,7 +153,7 @@ fn unpack(number: u64) -> WordFound
         REM => return WordFound::Remark,
         WHILE => Word::While,
         WEND => Word::Wend,
-        DATA => Word::Data,
+        DATA => return WordFound::Items,
         READ => Word::Read,
         RESTORE => Word::Restore,
         _ => return formula_word(number),

@@ -9,7 +9,10 @@ use lib.ListN.{length, getD, take, drop}
 use Rattle.words.specs.Places.{place}
 use Rattle.words.specs.declared.places.Place.{Place}
 use Rattle.words.specs.declared.symbols.Scanned.{Scanned}
-use Rattle.loader.specs.Lines.{Line, linesFrom, linesOf, afterNumber}
+use Rattle.words.specs.declared.symbols.Sign.the-variants.{Colon}
+use Rattle.scanner.specs.Tokens.{tokenAt}
+use Rattle.grammar.specs.Tests.{isSymbol}
+use Rattle.loader.specs.Lines.{Line, linesFrom, linesOf, afterNumber, nextLine}
 use Rattle.grammar.specs.Trees.{Part}
 use Rattle.statements.specs.Statements.{PartReading, badPart, goodPart, partOf}
 use Rattle.variables.specs.Variables.{Variables}
@@ -19,10 +22,14 @@ use Rattle.variables.specs.declared.tables.Tables.{Tables}
 use Rattle.variables.specs.Strings.{longestSpace}
 use Rattle.machine.specs.Machine as spec
 use Rattle.machine.specs.Machine.{loop, call, again, mostRecords, columnAfter}
-use Rattle.machine.specs.Order.{Stand, some}
+use Rattle.items.specs.Items.{items, itemsFrom}
+use Rattle.reader.specs.bridge.Walking.{Onto}
+use Rattle.machine.specs.Items.{itemsOf}
+use Rattle.machine.specs.Order.{Stand, partsIn, placed, stands, some}
 use Rattle.machine.specs.Repeats.{startOf, wendOf}
 use Rattle.statements.specs.Parts.{Rest, nothing, part, placeOf, statementsOf, deepestIn}
 use Rattle.expressions.specs.Types.{deepestNesting}
+use Rattle.machine.specs.declared.state.Feed.{Feed}
 use Rattle.machine.specs.declared.state.Machine.{Machine}
 use Rattle.machine.specs.declared.state.Printer.{Printer}
 use Rattle.machine.specs.declared.positions.Position.{Position}
@@ -142,6 +149,62 @@ printedAs p long bytes =
     (record { ok = true; printer = record { column = columnAfter (p .column) bytes; written = p .written + length bytes } })
     (record { ok = false; printer = p })
 
+-- ---- the items of DATA that are left
+
+-- from a line on, and from a statement of a line on
+abbrev pub feedFrom : Place → Feed
+feedFrom line = record { line = line; at = place 0; inside = false }
+
+abbrev pub feedAt : Place → Place → Feed
+feedAt line at = record { line = line; at = at; inside = false }
+
+-- from a place of a line that begins at another on, the text has these statements
+pub record StandsFrom (text : List ℕ) (line at : ℕ) (xs : List Stand) : Type 0 where
+  pub begins : Begins text line
+  pub before : List Part
+  pub parts : List Part
+  pub whole : partsIn (linesAt text line) ≡ before ++ parts
+  pub onto : Onto (bodyOf (linesAt text line)) at parts
+  pub all : xs ≡ placed (linesAt text line) parts ++ stands (nextLine (linesAt text line))
+
+-- outside of a DATA statement: those of all lines from a place on, or of the statements from a place of a line on
+pub data Outside (text : List ℕ) (line at : ℕ) (l : List (List ℕ)) : Type 0 where
+  fromLine : at ≡ 0 → (before : List Line) → linesOf text ≡ before ++ linesAt text line → l ≡ itemsOf (stands (linesAt text line))
+      → Outside text line at l
+  fromStatement : (at ≡ 0 → ⊥) → (xs : List Stand) → StandsFrom text line at xs → l ≡ itemsOf xs → Outside text line at l
+
+-- where the first of some lines is over
+abbrev pub startAfter : List Line → ℕ
+startAfter [] = 0
+startAfter (l ∷ ls) = l .next
+
+-- where they go on after the token that ends a DATA statement: after a colon in its line, or at the next
+abbrev pub feedAfter : Place → Place → Scanned → Feed
+feedAfter line next t = cond (isSymbol Colon (t .token)) (feedAt line (t .next)) (feedFrom next)
+
+abbrev pub feedPast : List ℕ → Place → ℕ → Feed
+feedPast text line end =
+    feedAfter line (place (startAfter (linesAt text (line .0)))) (tokenAt (bodyOf (linesAt text (line .0))) (place end))
+
+-- inside of one: the items from a place of its line on, and those after it
+pub record Inside (text : List ℕ) (line at : ℕ) (l : List (List ℕ)) : Type 0 where
+  pub begins : Begins text line
+  pub within : at ≤ length (bodyOf (linesAt text line))
+  pub own : List (List ℕ)
+  pub end : ℕ
+  pub reads : itemsFrom (bodyOf (linesAt text line)) at ≡ items own end
+  pub others : List (List ℕ)
+  pub after : let f = feedPast text (place line) end in Outside text (f .line .0) (f .at .0) others
+  pub all : l ≡ own ++ others
+
+abbrev pub Feeds : List ℕ → Feed → List (List ℕ) → Type 0
+Feeds text f l = cond (f .inside) (Inside text (f .line .0) (f .at .0) l) (Outside text (f .line .0) (f .at .0) l)
+
+-- some are
+pub record Fed (text : List ℕ) (f : Feed) : Type 0 where
+  pub items : List (List ℕ)
+  pub feeds : Feeds text f items
+
 -- ---- the machine
 
 abbrev pub freshMachine : Machine
@@ -151,6 +214,7 @@ freshMachine = record {
   used = record { 0 = 0 };
   printer = record { column = 0; written = 0 };
   taken = place 0;
+  feed = feedFrom (place 0);
   steps = 0;
   depth = 0;
 }
@@ -161,6 +225,7 @@ pub record State : Type 0 where
   pub used : ℕ
   pub printer : Printer
   pub taken : ℕ
+  pub feed : Feed
   pub steps : ℕ
   pub depth : ℕ
 
@@ -171,6 +236,7 @@ stateOf m names words labels lengths = record {
   used = m .used .0;
   printer = m .printer;
   taken = m .taken .0;
+  feed = m .feed;
   steps = m .steps;
   depth = m .depth;
 }
@@ -222,6 +288,7 @@ pub record Same (text : List ℕ) (rs : List Record) (m : State) (input space ro
   pub outputRoom : n .outputRoom ≡ length room
   pub left : n .input ≡ drop (m .taken) input
   pub taken : n .taken ≡ m .taken
+  pub feeds : Feeds text (m .feed) (n .items)
   pub steps : n .steps ≡ m .steps
   pub limit : n .space ≡ length space
   pub placed : (i : ℕ) → i < m .depth → Placed text (m .tables .numbers .count) (getD rs i blankRecord)

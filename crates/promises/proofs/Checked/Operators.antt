@@ -6,9 +6,9 @@ use Prim.Native.Nat.{ℕ, _+_, _-_}
 use lib.Dec.{leb, ltb, eqb}
 use lib.IntN.{ℤ, pos, negsuc}
 use lib.Signed.{ltZ, leZ}
-use lib.ListN.{length}
+use lib.ListN.{length, drop}
 use Rattle.whole.specs.Bytes.{is}
-use Rattle.whole.specs.Digits.{signedValue, valOf}
+use Rattle.whole.specs.Digits.{signedValue, valOf, signLength, digitsOnly, numberItem}
 use Rattle.whole.specs.Texts.{signedNumeral, hexadecimal, longestString}
 use Rattle.whole.specs.Whole.{num, fit, say, unlessZero, applied, magnitude}
 use Rattle.whole.specs.declared.arithmetic.Answer.{Answer}
@@ -79,6 +79,11 @@ unfolding signedValue
 val-answers [] = fit-answers _
 val-answers (b ∷ s) =
     by-choice Answers (is "-" b) (fit-answers _) (by-choice Answers (is "+" b) (fit-answers _) (fit-answers _))
+
+-- an item read as a number
+pub number-answers : (s : List ℕ) → Answers (numberItem s)
+unfolding numberItem
+number-answers s = by-choice Answers (digitsOnly (drop (signLength s) s)) (val-answers s) refl
 
 -- ---- outcomes
 

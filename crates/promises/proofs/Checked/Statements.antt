@@ -6,6 +6,7 @@ use Prim.Native.Nat.{ℕ, _+_}
 use borrow.Author.Tests.{not-false}
 use lib.Dec.{ltb, leb, eqb}
 use lib.ListN.{length}
+use Rattle.whole.specs.Digits.{numberItem}
 use Rattle.whole.specs.Whole.{applied}
 use Rattle.whole.specs.declared.arithmetic.Answer.{Answer}
 use Rattle.whole.specs.declared.arithmetic.Answer.the-variants as answer
@@ -26,14 +27,14 @@ use Rattle.checker.specs.Check.{present}
 use Rattle.variables.specs.Strings.{Value, whole, text, Outcome, value, fault, make}
 use Rattle.variables.specs.Variables.{wordOf, numbersFull, stringsFull}
 use Rattle.operators.specs.Values.{valueOf}
-use Rattle.machine.specs.Machine.{Position, Record, loop, call, again, Machine, mostRecords, roomOf, noting, write, commaBlanks, isCall, isLoop, isLoopOf, Search, missing, found, sought, passed, longestInputLine}
+use Rattle.machine.specs.Machine.{Position, Record, loop, call, again, Machine, mostRecords, roomOf, withItems, noting, write, commaBlanks, isCall, isLoop, isLoopOf, Search, missing, found, sought, passed, longestInputLine}
 use Rattle.machine.specs.Order.{Stand, later, past, Bracket, Partner, none, some, partner, pairsBy, nextFor, wendFor}
 use Rattle.machine.specs.Repeats.{startOf, isWhile, isWhileOf}
 use Rattle.order.proofs.Laws.{later-throughout, later-lines, StandThroughout, partner-one}
-use Rattle.turns.specs.Steps.{Next, goesOn, enters, ends, stops, fails, worked, workedWhole, storeNumber, storeString, assigned, written, printItems, toLine, pushed, returned, cleared, begun, turned, nextOn, takeLine, filled, inputLine, isWholeKind, doStatement, namesOther, skipped, partBegun, hereOf, repeated, whileBy, turnedBack}
+use Rattle.turns.specs.Steps.{Next, goesOn, enters, ends, stops, fails, worked, workedWhole, storeNumber, storeString, assigned, written, printItems, toLine, pushed, returned, cleared, begun, turned, nextOn, takeLine, filled, inputLine, givenNumber, given, nextItem, readItems, isWholeKind, doStatement, namesOther, skipped, partBegun, hereOf, repeated, whileBy, turnedBack}
 use Rattle.promises.proofs.Records as records
 use Rattle.promises.proofs.Records.{sought-each, below-each}
-use Rattle.promises.proofs.Checked.Operators.{by-choice, Allowed, Answers, applied-answers, Fits, make-fits}
+use Rattle.promises.proofs.Checked.Operators.{by-choice, Allowed, Answers, applied-answers, number-answers, Fits, make-fits}
 use Rattle.promises.proofs.Checked.Formulas.{formula-fits}
 use Rattle.promises.proofs.Checked.Lines.{Checked, AllChecked, PartChecked, parts-apart, part-apart, lines-throughout, LinesChecked, RestChecked, PositionChecked, RecordChecked, RecordsChecked}
 use Rattle.promises.proofs.Loops.{looped}
@@ -241,6 +242,26 @@ module _ (all : List Line) where
       (worked-text _ (make (t .bytes) _) _ (make-fits (t .bytes) _) r
       (λ c n q. filled-checked (v .kind) (v .telling) (t .bytes) n go e q k))
 
+  -- ---- READ
+
+  given-checked : (k : Kind) (name : Telling) (b : List ℕ) (m : Machine) (go : Machine → Next) → MachineChecked m → Continues go
+      → NextChecked (given k name b m go)
+  given-checked kind.Whole name b m go r k = by-number (numberItem b) (number-answers b)
+    where
+      by-number : (a : Answer) → Answers a → NextChecked (givenNumber a name m go)
+      by-number (answer.Whole w) h = number-stored m name w go r k
+      by-number (answer.Fault e) h = h
+  given-checked kind.Text name b m go r k = worked-text m (make b _) _ (make-fits b _) r (λ c n q. string-stored n name b go q k)
+
+  read-checked : (vs : List Variable) (m : Machine) (go : Machine → Next) → MachineChecked m → Continues go → NextChecked (readItems vs m go)
+  unfolding readItems
+  read-checked [] m go r k = k m r
+  read-checked (v ∷ vs) m go r k = by-items (m .items) (λ n q. read-checked vs n go q k)
+    where
+      by-items : (l : List (List ℕ)) → Continues (λ n. readItems vs n go) → NextChecked (nextItem l m (λ b n. given (v .kind) (v .telling) b n (λ o. readItems vs o go)))
+      by-items [] h = refl
+      by-items (b ∷ l) h = given-checked (v .kind) (v .telling) b (withItems m l) _ r h
+
 -- ---- all statements
 
 -- a variable of the kind that a FOR or NEXT wants
@@ -292,6 +313,11 @@ module _ (program : List ℕ) (lines : LinesChecked (linesOf program) (linesOf p
       back-checked all m (sought test (m .records)) (sought-each (RecordChecked all) test (m .records) r)
   statement-checked at (tree.lineInput t v) m after c i r p =
       written-checked all m t _ r (λ n s. input-checked all (n .input) n v _ (c .typed) s (goes-on all after p))
+  statement-checked at (tree.dataOf l) m after c i r p = (r, p)
+  statement-checked at (tree.read vs) m after c i r p = read-checked all vs m _ r (goes-on all after p)
+  statement-checked at tree.restore m after c i r p = (r, p)
+  statement-checked at (tree.restoreTo l) m after c i r p =
+      line-found all (l .0) all m _ (not-false _ (c .named)) lines (λ from h. (r, p))
   statement-checked at tree.end m after c i r p = tt
   statement-checked at tree.stop m after c i r p = tt
   statement-checked at tree.remark m after c i r p = (r, p)

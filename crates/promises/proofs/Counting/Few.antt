@@ -6,7 +6,7 @@ use native.Mathlib.Omega.{arith}
 use lib.ListN.{length, length-append}
 use Rattle.loader.specs.Lines.{Line}
 use Rattle.grammar.specs.Trees as tree
-use Rattle.grammar.specs.Trees.{Formula, Arguments, Item, Statement}
+use Rattle.grammar.specs.Trees.{Formula, Arguments, Variable, Item, Statement}
 use Rattle.grammar.specs.Functions.{wants}
 use Rattle.grammar.specs.Formulas.{countOf}
 use Rattle.grammar.specs.declared.wanting.Want.{Want}
@@ -17,7 +17,7 @@ use Rattle.operators.specs.Values.{taken, valuesOf}
 use Rattle.machine.specs.Machine.{Machine}
 use Rattle.runner.specs.Run.{Standing, at, turn}
 use Rattle.promises.specs.StringSpace as asks
-use Rattle.promises.specs.StringSpace.{Ask, textsIn, Asks, AsksAmong, PrintAsks, StatementAsks, Begins}
+use Rattle.promises.specs.StringSpace.{Ask, textsIn, Asks, AsksAmong, PrintAsks, ReadAsks, StatementAsks, Begins}
 use Rattle.promises.specs.Unfinished.{stringsHeld, allStrings, mostUnfinished}
 use Rattle.promises.specs.Requests.{atOnce}
 use Rattle.promises.proofs.Waiting.Needs.{waitBefore, needs, needsOf, left-strings, values-good}
@@ -85,17 +85,22 @@ items-few (tree.shown f ∷ is) m k (asks.afterItem {n = n} e w d) g = items-few
 items-few (tree.comma ∷ is) m k (asks.afterComma {n = n} w d) g = items-few is n k d g
 items-few (tree.semicolon ∷ is) m k (asks.afterSemicolon d) g = items-few is m k d g
 
-statement-few : (lines : List Line) (place : ℕ) (x : Statement) (m : Machine) (k : Ask) → StatementAsks lines place x m k
+read-few : (vs : List Variable) (m o : Machine) (k : Ask) → ReadAsks vs m o k → atOnce k ≤ mostUnfinished
+read-few (v ∷ vs) m o k (asks.thisVariable q e) = omega arith
+read-few (v ∷ vs) m o k (asks.afterVariable {n = n} e g d) = read-few vs n o k d
+
+statement-few : (lines : List Line) (place : ℕ) (x : Statement) (m o : Machine) (k : Ask) → StatementAsks lines place x m o k
     → Each Fine (formulasOf x) → atOnce k ≤ mostUnfinished
-statement-few lines place (tree.assign v f) m k (asks.assigned d) g = fine-few m _ k (g .0) d
-statement-few lines place (tree.print is) m k (asks.printing d) g = items-few is m k d g
-statement-few lines place (tree.ifThen c p) m k (asks.tested d) g = fine-few m _ k (g .0) d
-statement-few lines place (tree.ifElse c p q) m k (asks.chosen d) g = fine-few m _ k (g .0) d
-statement-few lines place (tree.for v from to by) m k (asks.started t d) g = fine-few m _ k (g .0) d
-statement-few lines place (tree.for v from to by) m k (asks.limited t e d) g = fine-few m _ k (g .1 .0) d
-statement-few lines place (tree.for v from to by) m k (asks.stepped t e c d) g = fine-few m _ k (g .1 .1 .0) d
-statement-few lines place (tree.while c) m k (asks.repeated e d) g = fine-few m _ k (g .0) d
-statement-few lines place (tree.lineInput t v) m k (asks.input w e s) g = omega arith
+statement-few lines place (tree.assign v f) m o k (asks.assigned d) g = fine-few m _ k (g .0) d
+statement-few lines place (tree.print is) m o k (asks.printing d) g = items-few is m k d g
+statement-few lines place (tree.ifThen c p) m o k (asks.tested d) g = fine-few m _ k (g .0) d
+statement-few lines place (tree.ifElse c p q) m o k (asks.chosen d) g = fine-few m _ k (g .0) d
+statement-few lines place (tree.for v from to by) m o k (asks.started t d) g = fine-few m _ k (g .0) d
+statement-few lines place (tree.for v from to by) m o k (asks.limited t e d) g = fine-few m _ k (g .1 .0) d
+statement-few lines place (tree.for v from to by) m o k (asks.stepped t e c d) g = fine-few m _ k (g .1 .1 .0) d
+statement-few lines place (tree.while c) m o k (asks.repeated e d) g = fine-few m _ k (g .0) d
+statement-few lines place (tree.lineInput t v) m o k (asks.input w e s) g = omega arith
+statement-few lines place (tree.read vs) m o k (asks.reading d) g = read-few vs m o k d
 
 -- ---- a statement that a run begins
 
@@ -105,6 +110,6 @@ begun-fine program (suc n) (at m lines p) ls q x k asks.first h = head-fine p (h
 begun-fine program (suc n) (at m lines p) ls q x k (asks.later d) h =
     begun-fine program n (turn program m lines p) ls q x k d (turn-fine program m lines p (h .0) (h .1))
 
-pub begun-few : (program : List ℕ) (n : ℕ) (s : Standing) (ls : List Line) (q : ℕ) (x : Statement) (m : Machine) (k : Ask)
-    → Begins program n s ls q x m → StandingFine s → StatementAsks ls q x m k → atOnce k ≤ mostUnfinished
-begun-few program n s ls q x m k b h d = statement-few ls q x m k d (begun-fine program n s ls q x m b h)
+pub begun-few : (program : List ℕ) (n : ℕ) (s : Standing) (ls : List Line) (q : ℕ) (x : Statement) (m o : Machine) (k : Ask)
+    → Begins program n s ls q x m → StandingFine s → StatementAsks ls q x m o k → atOnce k ≤ mostUnfinished
+begun-few program n s ls q x m o k b h d = statement-few ls q x m o k d (begun-fine program n s ls q x m b h)

@@ -13,14 +13,15 @@ use Rattle.grammar.specs.Trees.{Formula, Variable, Item, Statement}
 use Rattle.variables.specs.Strings.{make}
 use Rattle.variables.specs.Variables.{stringBytes}
 use Rattle.operators.specs.Values.{valueOf}
-use Rattle.machine.specs.Machine.{Position, Machine, roomOf, withInput, noting, commaBlanks, sought, longestInputLine}
+use Rattle.machine.specs.Machine.{Position, Machine, roomOf, withInput, withItems, noting, commaBlanks, sought, longestInputLine}
 use Rattle.machine.specs.Repeats.{startOf, isWhile}
-use Rattle.turns.specs.Steps.{Next, shownValue, printItems, takeLine, inputLine, branch, lineOver, doStatement, hereOf}
+use Rattle.turns.specs.Steps.{Next, shownValue, printItems, takeLine, inputLine, readItems, branch, lineOver, doStatement, hereOf}
 use Rattle.promises.specs.Unfinished.{LiveIsExact}
 use Rattle.promises.specs.StringSpace as asks
-use Rattle.promises.specs.StringSpace.{Ask, bytesIn, FormulaAsks, PrintAsks, StatementAsks}
-use Rattle.promises.specs.Requests.{atOnce}
-use Rattle.promises.proofs.Limits.Keeping.{Leaves, Keeps, written-keeps, begun-keeps, tested-keeps, whole-keeps, items-keep}
+use Rattle.promises.specs.StringSpace.{Ask, bytesIn, FormulaAsks, PrintAsks, ReadAsks, StatementAsks}
+use Rattle.promises.specs.Requests.{atOnce, Fits}
+use Rattle.promises.proofs.Limits.Keeping.{Leaves, Keeps, string-keeps, written-keeps, begun-keeps, tested-keeps, whole-keeps, items-keep, read-keeps}
+use Rattle.promises.proofs.Fourteen.Statements.{gave-space}
 use Rattle.promises.proofs.Counting.Rising.{highestOf, value-rises}
 use Rattle.promises.proofs.Counting.Formulas.{make-counts, formula-counts}
 use Rattle.promises.proofs.Counting.Noting.{write-same, FitsIn, fits-later, unnoted, worked-notes, whole-notes, assigned-notes, filled-notes}
@@ -77,34 +78,49 @@ module _ (exact : LiveIsExact) where
       (worked-notes (λ n. 1 ≤ n) taken (make (line .bytes) (roomOf taken)) _ (omega (arith, c))
       (λ y room f q. filled-notes (λ n. 1 ≤ n) (v .kind) (v .telling) (line .bytes) (noting taken room) go q next))
 
-  pub statement-counts : (program : List ℕ) (place : ℕ) (s : Statement) (m : Machine) (after : Position) (k : Ask)
-      → StatementAsks (after .lines) place s m k → FitsIn m k → Leaves (P k) (doStatement program place s m after)
+  -- a READ's items
+  read-counts : (vs : List Variable) (m : Machine) (go : Machine → Next) (o : Machine) (k : Ask) → ReadAsks vs m o k
+      → Fits (m .space) (stringBytes (o .variables .strings)) k → ((n : Machine) → P k n → Leaves (P k) (go n)) → Leaves (P k) (readItems vs m go)
+  unfolding readItems bytesIn
+  read-counts (v ∷ vs) m go o k (asks.thisVariable {b = b} {l = l} q e) h next =
+      let c = make-counts b (roomOf (withItems m l)) (omega (arith, h)) in
+      rw (e, q)
+      (worked-notes (λ n. 1 ≤ n) (withItems m l) (make b (roomOf (withItems m l))) _ (omega (arith, c))
+      (λ y room f r. string-keeps (P k) (kept k .changes) (noting (withItems m l) room) (v .telling) b (λ p. readItems vs p go) r (λ full. r)
+      (λ n t. read-keeps (P k) (kept k) vs n go t next)))
+  read-counts (v ∷ vs) m go o k (asks.afterVariable {n = n} {b = b} {l = l} e g d) h next =
+      let s = gave-space v b (withItems m l) n g in
+      rw (e, g (λ p. readItems vs p go)) (read-counts vs n go o k d (rw s h) next)
+
+  pub statement-counts : (program : List ℕ) (place : ℕ) (s : Statement) (m : Machine) (after : Position) (o : Machine) (k : Ask)
+      → StatementAsks (after .lines) place s m o k → Fits (m .space) (stringBytes (o .variables .strings)) k → Leaves (P k) (doStatement program place s m after)
   unfolding bytesIn
-  statement-counts program place (tree.assign v f) m after k (asks.assigned d) h =
+  statement-counts program place (tree.assign v f) m after o k (asks.assigned d) h =
       worked-notes (counts k) m (valueOf f (m .variables) (roomOf m)) _ (counted f m k d h)
       (λ x room e q. assigned-notes (counts k) (v .kind) (v .telling) x (noting m room) _ q (λ n r. r))
-  statement-counts program place (tree.print is) m after k (asks.printing d) h = items-count false is m _ k d h (λ n q. q)
-  statement-counts program place (tree.ifThen c p) m after k (asks.tested d) h =
+  statement-counts program place (tree.print is) m after o k (asks.printing d) h = items-count false is m _ k d h (λ n q. q)
+  statement-counts program place (tree.ifThen c p) m after o k (asks.tested d) h =
       whole-notes (counts k) c m (λ w n. cond (eqb w 0) (lineOver n (after .lines)) (branch n (after .lines) p)) (counted c m k d h)
       (λ w room e q. by-test (eqb w 0) (λ t. rw t q) (λ t. rw t q))
-  statement-counts program place (tree.ifElse c p q) m after k (asks.chosen d) h = whole-notes (counts k) c m _ (counted c m k d h) (λ w room e r. r)
-  statement-counts program place (tree.for v from to by) m after k (asks.started t d) h =
+  statement-counts program place (tree.ifElse c p q) m after o k (asks.chosen d) h = whole-notes (counts k) c m _ (counted c m k d h) (λ w room e r. r)
+  statement-counts program place (tree.for v from to by) m after o k (asks.started t d) h =
       rw t
       (whole-notes (counts k) from m _ (counted from m k d h) (λ a room e q.
       whole-keeps (P k) (kept k) to (noting m room) _ q (λ b o r.
       whole-keeps (P k) (kept k) by o _ r (λ s x y. begun-keeps (P k) (kept k .changes) (v .telling) place after a b s x y))))
-  statement-counts program place (tree.for v from to by) m after k (asks.limited {a = a} {room = room} t e d) h =
+  statement-counts program place (tree.for v from to by) m after o k (asks.limited {a = a} {room = room} t e d) h =
       rw (t, e)
       (whole-notes (counts k) to (noting m room) _ (counted to (noting m room) k d h) (λ b next f q.
       whole-keeps (P k) (kept k) by (noting m next) _ q (λ s x y. begun-keeps (P k) (kept k .changes) (v .telling) place after a b s x y)))
-  statement-counts program place (tree.for v from to by) m after k (asks.stepped {a = a} {b = b} {next = next} t e c d) h =
+  statement-counts program place (tree.for v from to by) m after o k (asks.stepped {a = a} {b = b} {next = next} t e c d) h =
       rw (t, e, c)
       (whole-notes (counts k) by (noting m next) _ (counted by (noting m next) k d h) (λ s last f q.
       begun-keeps (P k) (kept k .changes) (v .telling) place after a b s (noting m last) q))
-  statement-counts program place (tree.while c) m after k (asks.repeated {w = w} e d) h =
+  statement-counts program place (tree.while c) m after o k (asks.repeated {w = w} e d) h =
       rw e
       (whole-notes (counts k) c m _ (counted c m k d h) (λ v room f q.
       tested-keeps (P k) (kept k .changes) (noting m room) (sought (isWhile (startOf (after .lines)) place) (m .records)) v w (hereOf place c after) after q))
-  statement-counts program place (tree.lineInput t v) m after k (asks.input {n = n} {b = b} {s = s} w e short) h =
+  statement-counts program place (tree.lineInput t v) m after o k (asks.input {n = n} {b = b} {s = s} w e short) h =
       let x = fits-later {m = m} {n = n} k (write-same m t n w) h in
       rw w (input-counts (n .input) n v _ b s e short (omega (arith, x)) (λ o q. q))
+  statement-counts program place (tree.read vs) m after o k (asks.reading d) h = read-counts vs m _ o k d h (λ n q. q)

@@ -62,6 +62,7 @@ module _ (Q : ℕ → Type 0) where
     records = λ m rs p. p;
     prints = λ m bytes h p. p;
     takes = λ m left h p. p;
+    feeds = λ m l p. p;
   }
 
   pub worked-notes : (m : Machine) (o : Outcome) (go : Value → Machine → Next) → Q (highestOf o)

@@ -12,7 +12,8 @@ use Rattle.loader.specs.declared.loading.Loaded.the-variants.{Fine}
 use Rattle.grammar.specs.Trees.{Statement, Part}
 use Rattle.variables.specs.Strings.{longestSpace}
 use Rattle.variables.specs.Variables.{stringBytes}
-use Rattle.machine.specs.Machine.{Position, Machine, Lent, fresh, withStep}
+use Rattle.machine.specs.Items.{fresh}
+use Rattle.machine.specs.Machine.{Position, Machine, Lent, withStep}
 use Rattle.statements.specs.Parts.{headOf, tailOf, placeOf}
 use Rattle.turns.specs.Steps.{doStatement}
 use Rattle.runner.specs.Run.{lineNumberOf, Standing, finished, at, entering, turn, running, runOf}
@@ -38,14 +39,14 @@ module _ (program : List ℕ) where
 
   -- ---- a request that is granted is counted to the end of the run
 
-  running-counts : (n : ℕ) (s : Standing) (ls : List Line) (q : ℕ) (x : Statement) (m : Machine) (k : Ask) → Begins program n s ls q x m
-      → StatementAsks ls q x m k → Fits (m .space) (stringBytes (m .variables .strings)) k → atOnce k ≤ running n program s .machine .highest
+  running-counts : (n : ℕ) (s : Standing) (ls : List Line) (q : ℕ) (x : Statement) (m y : Machine) (k : Ask) → Begins program n s ls q x m
+      → StatementAsks ls q x m y k → Fits (m .space) (stringBytes (y .variables .strings)) k → atOnce k ≤ running n program s .machine .highest
   unfolding running
-  running-counts (suc n) (at o lines p) ls q x m k asks.first d h =
+  running-counts (suc n) (at o lines p) ls q x m y k asks.first d h =
       running-keeps (AtLeast (atOnce k)) (least-kept (atOnce k)) (λ o p. p) n program (turn program o lines p)
       (following-stands (AtLeast (atOnce k)) (lineNumberOf lines) (doStatement program (placeOf p) (headOf p) (withStep o) (afterOf lines p))
-      (statement-counts live-is-exact program (placeOf p) (headOf p) (withStep o) (afterOf lines p) k d h))
-  running-counts (suc n) (at o lines p) ls q x m k (asks.later b) d h = running-counts n (turn program o lines p) ls q x m k b d h
+      (statement-counts live-is-exact program (placeOf p) (headOf p) (withStep o) (afterOf lines p) y k d h))
+  running-counts (suc n) (at o lines p) ls q x m y k (asks.later b) d h = running-counts n (turn program o lines p) ls q x m y k b d h
 
   -- ---- what a run notes is the count of a request that it was granted
 
@@ -64,9 +65,10 @@ module _ (program : List ℕ) where
       statement : Statement
       machine : Machine
       begins : Begins program n s from place statement machine
+      asking : Machine
       ask : Ask
-      asks : StatementAsks from place statement machine ask
-      fits : Fits space (stringBytes (machine .variables .strings)) ask
+      asks : StatementAsks from place statement machine asking ask
+      fits : Fits space (stringBytes (asking .variables .strings)) ask
       counted : atOnce ask ≡ count
 
     counted-now : (n : ℕ) (m : Machine) (lines : List Line) (p : Part) → m .space ≡ space
@@ -78,6 +80,7 @@ module _ (program : List ℕ) where
           statement = headOf p;
           machine = withStep m;
           begins = asks.first;
+          asking = y .asking;
           ask = y .ask;
           asks = y .asks;
           fits = rw h at (y .fits);
@@ -92,6 +95,7 @@ module _ (program : List ℕ) where
           statement = y .statement;
           machine = y .machine;
           begins = asks.later (y .begins);
+          asking = y .asking;
           ask = y .ask;
           asks = y .asks;
           fits = y .fits;
@@ -118,22 +122,22 @@ module _ (program : List ℕ) where
 
 module _ (text input : List ℕ) (lent : Lent) (budget : ℕ) where
   abbrev start : Standing
-  start = entering (fresh input lent) (linesOf text)
+  start = entering (fresh text input lent) (linesOf text)
 
   start-space : Stands (λ m. m .space ≡ lent .space) start
-  start-space = entering-stands (λ m. m .space ≡ lent .space) (fresh input lent) (linesOf text) refl
+  start-space = entering-stands (λ m. m .space ≡ lent .space) (fresh text input lent) (linesOf text) refl
 
   counted-granted : (q : Request text input lent budget) → Granted q → atOnce (q .ask) ≤ runOf text input lent budget .machine .highest
   unfolding runOf
   counted-granted q h =
       let same = begun-space text (lent .space) budget start (q .from) (q .place) (q .statement) (q .machine) (q .begins) start-space in
       rw (le-ltb longestSpace (lent .space) (q .small), q .loads)
-      (running-counts text budget start (q .from) (q .place) (q .statement) (q .machine) (q .ask) (q .begins) (q .asks) (rw same h))
+      (running-counts text budget start (q .from) (q .place) (q .statement) (q .machine) (q .asking) (q .ask) (q .begins) (q .asks) (rw same h))
 
   reached-by : lent .space ≤ longestSpace → loadOf text ≡ Fine
       → {h : ℕ} → Raised (Counted text (lent .space) budget start) (highestAt text start) h → Reached text input lent budget h
   reached-by small loads (inl e) =
-      requests.never (e ∙ stands-highest text (λ h. h ≡ 0) start (entering-stands (λ m. m .highest ≡ 0) (fresh input lent) (linesOf text) refl))
+      requests.never (e ∙ stands-highest text (λ h. h ≡ 0) start (entering-stands (λ m. m .highest ≡ 0) (fresh text input lent) (linesOf text) refl))
   reached-by small loads (inr y) =
       requests.granted
       (record {
@@ -144,6 +148,7 @@ module _ (text input : List ℕ) (lent : Lent) (budget : ℕ) where
         statement = y .statement;
         machine = y .machine;
         begins = y .begins;
+        asking = y .asking;
         ask = y .ask;
         asks = y .asks;
       })
@@ -163,8 +168,8 @@ highest-is-counted text input lent budget =
 
 pub few-requested : fewRequested
 few-requested text input lent budget q =
-    let h = begun-few text budget (entering (fresh input lent) (linesOf text)) (q .from) (q .place) (q .statement) (q .machine) (q .ask) (q .begins)
-    (entering-fine (fresh input lent) (linesOf text) (fresh-sound input lent)) (q .asks) in
+    let h = begun-few text budget (entering (fresh text input lent) (linesOf text)) (q .from) (q .place) (q .statement) (q .machine) (q .asking) (q .ask) (q .begins)
+    (entering-fine (fresh text input lent) (linesOf text) (fresh-sound text input lent)) (q .asks) in
     record { allowed = omega (arith, h); most = h }
 
 pub most-is-requested : mostIsRequested

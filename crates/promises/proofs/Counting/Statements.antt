@@ -8,21 +8,26 @@ use native.Mathlib.Omega.{arith}
 use borrow.Author.Tests.{ltb-false}
 use lib.Dec.{ltb, eqb}
 use lib.ListN.{length}
+use Rattle.whole.specs.Digits.{numberItem}
+use Rattle.whole.specs.declared.arithmetic.Answer.{Answer}
+use Rattle.whole.specs.declared.arithmetic.Answer.the-variants.{Whole, Fault}
+use Rattle.words.specs.declared.names.Kind.{Kind}
+use Rattle.words.specs.declared.names.Kind.the-variants as kind
 use Rattle.words.proofs.Choices.{by-test}
 use Rattle.loader.specs.Lines.{Line, linesOf, fromNumber}
 use Rattle.grammar.specs.Trees as tree
 use Rattle.grammar.specs.Trees.{Formula, Variable, Item, Statement}
 use Rattle.variables.specs.Strings.{make}
-use Rattle.variables.specs.Variables.{stringBytes}
+use Rattle.variables.specs.Variables.{stringBytes, numbersFull, stringsFull}
 use Rattle.operators.specs.Values.{valueOf}
-use Rattle.machine.specs.Machine.{Position, call, Machine, roomOf, withInput, noting, commaBlanks, isCall, isLoop, isLoopOf, sought, longestInputLine}
+use Rattle.machine.specs.Machine.{Position, call, Machine, roomOf, withInput, withItems, noting, commaBlanks, isCall, isLoop, isLoopOf, sought, longestInputLine}
 use Rattle.machine.specs.Order.{Partner, none, some, wendFor}
 use Rattle.machine.specs.Repeats.{startOf, isWhile, isWhileOf}
-use Rattle.turns.specs.Steps.{Next, enters, shownValue, printItems, takeLine, inputLine, isWholeKind, branch, lineOver, doStatement, hereOf, whileBy}
+use Rattle.turns.specs.Steps.{Next, enters, withNumber, withString, shownValue, printItems, takeLine, inputLine, givenNumber, given, nextItem, readItems, isWholeKind, branch, lineOver, doStatement, hereOf, whileBy}
 use Rattle.promises.specs.Unfinished.{LiveIsExact}
 use Rattle.promises.specs.StringSpace as asks
-use Rattle.promises.specs.StringSpace.{Ask, bytesIn, FormulaAsks, PrintAsks, StatementAsks}
-use Rattle.promises.specs.Requests.{atOnce}
+use Rattle.promises.specs.StringSpace.{Ask, bytesIn, FormulaAsks, PrintAsks, Gave, ReadAsks, StatementAsks}
+use Rattle.promises.specs.Requests.{atOnce, Fits}
 use Rattle.promises.proofs.Limits.Keeping.{line-keeps, pushed-keeps, returned-keeps, begun-keeps, tested-keeps, back-keeps, next-keeps}
 use Rattle.promises.proofs.Counting.Rising.{highestOf}
 use Rattle.promises.proofs.Counting.Raising.{Raised, raised-on, raised-as, make-raised}
@@ -72,11 +77,51 @@ module _ (exact : LiveIsExact) (X : ℕ → Type 0) (first : ℕ) where
       (raised-on X q (make-raised X (line .bytes) (roomOf taken) (λ h. give b s refl (ltb-false _ _ t) h)))
       (λ y room f r. filled-notes Q (v .kind) (v .telling) (line .bytes) (noting taken room) go r next)))
 
+  -- a READ's items
+  module _ (space : ℕ) where
+    given-raises : (v : Variable) (b : List ℕ) (m : Machine) (go : Machine → Next) → m .space ≡ space
+        → (v .kind ≡ kind.Text → stringBytes (m .variables .strings) + length b ≤ space → X 1)
+        → Q (m .highest) → ((n : Machine) → Gave v b m n → n .space ≡ space → Q (n .highest) → Notes Q (go n)) → Notes Q (given (v .kind) (v .telling) b m go)
+    given-raises v b m go s give q next = by-kind (v .kind) refl
+      where
+        by-number : (a : Answer) → numberItem b ≡ a → v .kind ≡ kind.Whole → Notes Q (givenNumber a (v .telling) m go)
+        by-number (Whole w) e t =
+            by-test (numbersFull (m .variables .numbers) (v .telling)) (λ f. rw f q)
+            (λ f. rw f (next (withNumber m (v .telling) w) (λ g. rw (t, e, f)) s q))
+        by-number (Fault x) e t = q
+
+        by-kind : (k : Kind) → v .kind ≡ k → Notes Q (given k (v .telling) b m go)
+        by-kind kind.Whole t = by-number (numberItem b) refl t
+        by-kind kind.Text t =
+            worked-notes Q m (make b (roomOf m)) _ (raised-on X q (make-raised X b (roomOf m) (λ h. give t (rw s at h))))
+            (λ y room e r.
+            by-test (stringsFull (m .variables .strings) (v .telling)) (λ f. rw f r)
+            (λ f. rw f (next (withString (noting m room) (v .telling) b) (λ g. rw (t, e, f)) s r)))
+
+    read-raises : (vs : List Variable) (m : Machine) (go : Machine → Next) → m .space ≡ space
+        → ((n : Machine) (k : Ask) → ReadAsks vs m n k → Fits space (stringBytes (n .variables .strings)) k → X (atOnce k))
+        → Q (m .highest) → ((n : Machine) → Q (n .highest) → Notes Q (go n)) → Notes Q (readItems vs m go)
+    unfolding readItems bytesIn
+    read-raises [] m go s give q next = next m q
+    read-raises (v ∷ vs) m go s give q next =
+        by-items (m .items) refl (λ n t more r. read-raises vs n go t more r next)
+      where
+        by-items : (l : List (List ℕ)) → m .items ≡ l
+            → ((n : Machine) → n .space ≡ space → ((o : Machine) (k : Ask) → ReadAsks vs n o k → Fits space (stringBytes (o .variables .strings)) k → X (atOnce k))
+            → Q (n .highest) → Notes Q (readItems vs n go))
+            → Notes Q (nextItem l m (λ b n. given (v .kind) (v .telling) b n (λ o. readItems vs o go)))
+        by-items [] e more = q
+        by-items (b ∷ l) e more =
+            given-raises v b (withItems m l) _ s
+            (λ t x. give m (record { unfinished = []; bytes = b }) (asks.thisVariable t e) (omega (arith, x))) q
+            (λ n g t r. more n t (λ o k d x. give o k (asks.afterVariable e g d) x) r)
+
 -- a request of a statement that fits, and how many strings are unfinished with it
 pub record AskedOf (lines : List Line) (place : ℕ) (s : Statement) (m : Machine) (count : ℕ) : Type 0 where
+  pub asking : Machine
   pub ask : Ask
-  pub asks : StatementAsks lines place s m ask
-  pub fits : FitsIn m ask
+  pub asks : StatementAsks lines place s m asking ask
+  pub fits : Fits (m .space) (stringBytes (asking .variables .strings)) ask
   pub counted : atOnce ask ≡ count
 
 module _ (exact : LiveIsExact) (program : List ℕ) (place : ℕ) (m : Machine) (after : Position) where
@@ -92,7 +137,7 @@ module _ (exact : LiveIsExact) (program : List ℕ) (place : ℕ) (m : Machine) 
       let s = tree.while c in
       whole-notes (R s) c m _
       (told exact (AskedOf (after .lines) place s m) (m .highest) c m
-      (λ k d x. record { ask = k; asks = asks.repeated e d; fits = x; counted = refl }) (inl refl))
+      (λ k d x. record { asking = m; ask = k; asks = asks.repeated e d; fits = x; counted = refl }) (inl refl))
       (λ v room f q. tested-keeps (Same s) (unnoted (R s)) (noting m room) (sought (isWhile (startOf (after .lines)) place) (m .records)) v w (hereOf place c after) after q)
 
   pub statement-raises : (s : Statement) → Notes (R s) (doStatement program place s m after)
@@ -102,22 +147,22 @@ module _ (exact : LiveIsExact) (program : List ℕ) (place : ℕ) (m : Machine) 
       let s = tree.assign v f in
       worked-notes (R s) m (valueOf f (m .variables) (roomOf m)) _
       (told exact (AskedOf (after .lines) place s m) (m .highest) f m
-      (λ k d x. record { ask = k; asks = asks.assigned d; fits = x; counted = refl }) (inl refl))
+      (λ k d x. record { asking = m; ask = k; asks = asks.assigned d; fits = x; counted = refl }) (inl refl))
       (λ x room e q. assigned-notes (R s) (v .kind) (v .telling) x (noting m room) _ q (λ n r. r))
   statement-raises (tree.print is) =
       items-raise exact (AskedOf (after .lines) place (tree.print is) m) (m .highest) false is m _
-      (λ k d x. record { ask = k; asks = asks.printing d; fits = x; counted = refl }) (inl refl) (λ n q. q)
+      (λ k d x. record { asking = m; ask = k; asks = asks.printing d; fits = x; counted = refl }) (inl refl) (λ n q. q)
   statement-raises (tree.ifThen c p) =
       let s = tree.ifThen c p in
       whole-notes (R s) c m (λ w n. cond (eqb w 0) (lineOver n (after .lines)) (branch n (after .lines) p))
       (told exact (AskedOf (after .lines) place s m) (m .highest) c m
-      (λ k d x. record { ask = k; asks = asks.tested d; fits = x; counted = refl }) (inl refl))
+      (λ k d x. record { asking = m; ask = k; asks = asks.tested d; fits = x; counted = refl }) (inl refl))
       (λ w room e q. by-test (eqb w 0) (λ t. rw t q) (λ t. rw t q))
   statement-raises (tree.ifElse c p o) =
       let s = tree.ifElse c p o in
       whole-notes (R s) c m _
       (told exact (AskedOf (after .lines) place s m) (m .highest) c m
-      (λ k d x. record { ask = k; asks = asks.chosen d; fits = x; counted = refl }) (inl refl)) (λ w room e q. q)
+      (λ k d x. record { asking = m; ask = k; asks = asks.chosen d; fits = x; counted = refl }) (inl refl)) (λ w room e q. q)
   statement-raises (tree.goto l) =
       line-keeps (Same (tree.goto l)) (unnoted (R (tree.goto l))) m (fromNumber (l .0) (linesOf program)) _ (inl refl) (λ ls. inl refl)
   statement-raises (tree.gosub l) =
@@ -131,13 +176,13 @@ module _ (exact : LiveIsExact) (program : List ℕ) (place : ℕ) (m : Machine) 
       (λ t. rw t
       (whole-notes (R s) from m _
       (told exact (AskedOf (after .lines) place s m) (m .highest) from m
-      (λ k d x. record { ask = k; asks = asks.started t d; fits = x; counted = refl }) (inl refl)) (λ a room e q.
+      (λ k d x. record { asking = m; ask = k; asks = asks.started t d; fits = x; counted = refl }) (inl refl)) (λ a room e q.
       whole-notes (R s) to (noting m room) _
       (told exact (AskedOf (after .lines) place s m) (m .highest) to (noting m room)
-      (λ k d x. record { ask = k; asks = asks.limited t e d; fits = x; counted = refl }) q) (λ b next d q′.
+      (λ k d x. record { asking = m; ask = k; asks = asks.limited t e d; fits = x; counted = refl }) q) (λ b next d q′.
       whole-notes (R s) by (noting m next) _
       (told exact (AskedOf (after .lines) place s m) (m .highest) by (noting m next)
-      (λ k c x. record { ask = k; asks = asks.stepped t e d c; fits = x; counted = refl }) q′) (λ w last c q″.
+      (λ k c x. record { asking = m; ask = k; asks = asks.stepped t e d c; fits = x; counted = refl }) q′) (λ w last c q″.
       begun-keeps (Same s) (unnoted (R s)) (v .telling) place after a b w (noting m last) q″)))))
       (λ t. rw t (inl refl))
   statement-raises tree.next = next-keeps (Same tree.next) (unnoted (R tree.next)) m (sought isLoop (m .records)) after (inl refl)
@@ -155,8 +200,15 @@ module _ (exact : LiveIsExact) (program : List ℕ) (place : ℕ) (m : Machine) 
       input-raises exact (AskedOf (after .lines) place s m) (m .highest) (n .input) n v _
       (λ b given e short x.
       let k : Ask = record { unfinished = []; bytes = takeLine (b ∷ given) .bytes } in
-      record { ask = k; asks = asks.input w e short; fits = fits-earlier k (write-same m t n w) (omega (arith, x)); counted = refl })
+      record { asking = m; ask = k; asks = asks.input w e short; fits = fits-earlier k (write-same m t n w) (omega (arith, x)); counted = refl })
       q (λ o r. r))
+  statement-raises (tree.dataOf l) = inl refl
+  statement-raises (tree.read vs) =
+      read-raises exact (AskedOf (after .lines) place (tree.read vs) m) (m .highest) (m .space) vs m _ refl
+      (λ n k d x. record { asking = n; ask = k; asks = asks.reading d; fits = x; counted = refl }) (inl refl) (λ n q. q)
+  statement-raises tree.restore = inl refl
+  statement-raises (tree.restoreTo l) =
+      line-keeps (Same (tree.restoreTo l)) (unnoted (R (tree.restoreTo l))) m (fromNumber (l .0) (linesOf program)) _ (inl refl) (λ ls. inl refl)
   statement-raises tree.end = inl refl
   statement-raises tree.stop = inl refl
   statement-raises tree.remark = inl refl

@@ -10,7 +10,7 @@ use lib.IntN.{ℤ, pos, negsuc, _+ℤ_, _-ℤ_, _*ℤ_, negℤ, natAbs}
 use lib.Signed.{ltZ, leZ, quotZ, remZ}
 use lib.ListN.{length, take, drop, getD, replicate}
 use Rattle.whole.specs.Bytes.{is, blank}
-use Rattle.whole.specs.Digits.{leadingValue, signedValue, valOf}
+use Rattle.whole.specs.Digits.{leadingValue, signedValue, valOf, signLength, digitsOnly, numberItem}
 use Rattle.whole.specs.Texts.{signedNumeral, hexadecimal, longestString}
 use Rattle.whole.specs.Whole.{num, fit, unlessZero, say, applied, negated, magnitude, signum}
 use Rattle.whole.specs.declared.arithmetic.Answer.{Answer}
@@ -85,6 +85,11 @@ signed-spares [] = fit-spares (pos 0)
 signed-spares (b ∷ s) =
     cond-spares (is "-" b) (fit (negℤ (pos (leadingValue s)))) _ (fit-spares (negℤ (pos (leadingValue s))))
     (cond-spares (is "+" b) (fit (pos (leadingValue s))) _ (fit-spares (pos (leadingValue s))) (fit-spares (pos (leadingValue (b ∷ s)))))
+
+pub number-spares : (s : List ℕ) → Spares (numberItem s)
+unfolding numberItem
+number-spares s =
+    cond-spares (digitsOnly (drop (signLength s) s)) (signedValue s) (Fault IllegalFunctionCall) (signed-spares s) (λ x. never (cc))
 
 -- ---- a function of some arguments: its result is a text, in any room; or it is no text; or an argument is out of range
 

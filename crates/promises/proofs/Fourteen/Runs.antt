@@ -11,7 +11,8 @@ use Rattle.grammar.specs.Trees.{Statement, Part}
 use Rattle.reader.specs.Lines.{Judgement, unreadable, tooDeep, holds, judgement}
 use Rattle.statements.specs.Parts.{Rest, nothing, part, headOf, tailOf, placeOf}
 use Rattle.variables.specs.Variables.{stringBytes}
-use Rattle.machine.specs.Machine.{Position, Machine, Lent, fresh, withStep}
+use Rattle.machine.specs.Items.{fresh}
+use Rattle.machine.specs.Machine.{Position, Machine, Lent, withStep}
 use Rattle.variables.specs.Strings.{longestSpace}
 use Rattle.turns.specs.Steps.{Next, goesOn, enters, ends, stops, fails, doStatement}
 use Rattle.runner.specs.Run.{Ran, endsWith, lineNumberOf, judgedLine, enter, Standing, finished, at, byEntered, entering, onward, following, turn, running, runOf}
@@ -54,6 +55,7 @@ space-kept space = record {
     records = λ m rs p. p;
     prints = λ m bytes h p. p;
     takes = λ m left h p. p;
+    feeds = λ m l p. p;
   };
   notes = λ m room h p. p;
   strings = λ m name f b room e full p. p;
@@ -80,9 +82,10 @@ module _ (exact : LiveIsExact) (program : List ℕ) (space : ℕ) where
     statement : Statement
     machine : Machine
     begins : Begins program n s from place statement machine
+    asking : Machine
     ask : Ask
-    asks : StatementAsks from place statement machine ask
-    exceeds : Exceeds space (stringBytes (machine .variables .strings)) ask
+    asks : StatementAsks from place statement machine asking ask
+    exceeds : Exceeds space (stringBytes (asking .variables .strings)) ask
 
   asked-later : {n : ℕ} {m : Machine} {lines : List Line} {p : Part} {l : LineNumber} → Asked n (turn program m lines p) l → Asked (suc n) (at m lines p) l
   asked-later a =
@@ -93,6 +96,7 @@ module _ (exact : LiveIsExact) (program : List ℕ) (space : ℕ) where
         statement = a .statement;
         machine = a .machine;
         begins = asks.later (a .begins);
+        asking = a .asking;
         ask = a .ask;
         asks = a .asks;
         exceeds = a .exceeds;
@@ -108,6 +112,7 @@ module _ (exact : LiveIsExact) (program : List ℕ) (space : ℕ) where
         statement = headOf p;
         machine = withStep m;
         begins = asks.first;
+        asking = o .asking;
         ask = o .ask;
         asks = o .asks;
         exceeds = rw h at (o .exceeds);
@@ -159,17 +164,17 @@ module _ (exact : LiveIsExact) (program : List ℕ) (space : ℕ) where
 
 module _ (exact : LiveIsExact) (text input : List ℕ) (lent : Lent) (budget : ℕ) where
   abbrev start : Standing
-  start = entering (fresh input lent) (linesOf text)
+  start = entering (fresh text input lent) (linesOf text)
 
   start-space : Stands (λ m. m .space ≡ lent .space) start
-  start-space = entering-stands (λ m. m .space ≡ lent .space) (fresh input lent) (linesOf text) refl
+  start-space = entering-stands (λ m. m .space ≡ lent .space) (fresh text input lent) (linesOf text) refl
 
   asked-view : RunView text input lent budget → (l : LineNumber) → runOf text input lent budget .ending ≡ Failed OutOfStringSpace l
       → AsksTooMuch text input lent budget l
   asked-view (long h e) l f = let g = rw e at f in never (cc)
   asked-view (unloaded r p h k e) l f = let g = rw e at f in never (cc)
   asked-view (runs h k e) l f =
-      let a = running-asked exact text (lent .space) budget start l start-space (entering-unfailed (fresh input lent) (linesOf text)) (rw e at f) in
+      let a = running-asked exact text (lent .space) budget start l start-space (entering-unfailed (fresh text input lent) (linesOf text)) (rw e at f) in
       record {
         small = h;
         loads = k;
@@ -179,6 +184,7 @@ module _ (exact : LiveIsExact) (text input : List ℕ) (lent : Lent) (budget : �
         statement = a .statement;
         machine = a .machine;
         begins = a .begins;
+        asking = a .asking;
         ask = a .ask;
         asks = a .asks;
         exceeds = a .exceeds;
@@ -190,7 +196,7 @@ module _ (exact : LiveIsExact) (text input : List ℕ) (lent : Lent) (budget : �
       let same = begun-space text (lent .space) budget start (a .from) (a .place) (a .statement) (a .machine) (a .begins) start-space in
       rw (le-ltb longestSpace (lent .space) (a .small), a .loads, ← (a .numbered))
       (running-fails exact text (lent .space) budget start (a .from) (a .place) (a .statement) (a .machine) (a .begins)
-      (λ rest. statement-fails exact text (a .place) (a .statement) (a .machine) (record { lines = a .from; rest = rest }) (a .ask) (a .asks) (rw same (a .exceeds))))
+      (λ rest. statement-fails exact text (a .place) (a .statement) (a .machine) (record { lines = a .from; rest = rest }) (a .asking) (a .ask) (a .asks) (rw same (a .exceeds))))
 
   pub fourteen-exactly : (l : LineNumber)
       → (runOf text input lent budget .ending ≡ Failed OutOfStringSpace l) ↔ AsksTooMuch text input lent budget l

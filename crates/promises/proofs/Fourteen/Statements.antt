@@ -1,5 +1,5 @@
 -- A run ends in 14 exactly when a statement of it asks for more than the space holds besides what is live.
-use mathlib.Core.Path.{_≡_, refl, ap}
+use mathlib.Core.Path.{_≡_, refl, ap, _∙_}
 use mathlib.Core.Bool.{Bool, true, false, cond}
 use mathlib.Core.List.{List, [], _∷_, _++_}
 use Prim.Native.Nat.{ℕ, _+_, _-_, _≤_, _<_}
@@ -7,6 +7,7 @@ use native.Mathlib.Omega.{arith}
 use borrow.Author.Tests.{ltb-false, le-ltb}
 use lib.Dec.{ltb, leb, eqb}
 use lib.ListN.{length}
+use Rattle.whole.specs.Digits.{numberItem}
 use Rattle.whole.specs.Whole.{applied}
 use Rattle.whole.specs.declared.arithmetic.Answer.{Answer}
 use Rattle.whole.specs.declared.arithmetic.Answer.the-variants.{Whole, Fault}
@@ -22,16 +23,16 @@ use Rattle.grammar.specs.Trees.{Formula, Variable, Item, Statement}
 use Rattle.variables.specs.Strings.{Value, whole, text, Room, Outcome, value, fault, make}
 use Rattle.variables.specs.Variables.{Variables, wordOf, stringBytes, numbersFull, stringsFull}
 use Rattle.operators.specs.Values.{valueOf}
-use Rattle.machine.specs.Machine.{Position, Record, loop, call, again, Machine, mostRecords, roomOf, withRecords, withOutput, withInput, noting, columnAfter, Printed, full, printed, write, commaBlanks, isCall, isLoop, isLoopOf, Search, missing, found, sought, passed, longestInputLine}
+use Rattle.machine.specs.Machine.{Position, Record, loop, call, again, Machine, mostRecords, roomOf, withRecords, withOutput, withInput, withItems, noting, columnAfter, Printed, full, printed, write, commaBlanks, isCall, isLoop, isLoopOf, Search, missing, found, sought, passed, longestInputLine}
 use Rattle.machine.specs.Order.{Stand, Partner, none, some, nextFor, wendFor}
 use Rattle.machine.specs.Repeats.{startOf, isWhile, isWhileOf}
 use Rattle.statements.specs.Parts.{headOf}
-use Rattle.turns.specs.Steps.{Next, goesOn, enters, ends, stops, fails, worked, wholeOnly, workedWhole, withNumber, withString, storeNumber, storeString, assigned, written, shownValue, printItems, toLine, pushed, returned, cleared, begun, turned, nextOn, Taken, takeLine, filled, lineTaken, inputLine, isWholeKind, branch, lineOver, doStatement, namesOther, skipped, hereOf, repeated, tested, whileBy, turnedBack}
+use Rattle.turns.specs.Steps.{Next, goesOn, enters, ends, stops, fails, worked, wholeOnly, workedWhole, withNumber, withString, storeNumber, storeString, assigned, written, shownValue, printItems, toLine, pushed, returned, cleared, begun, turned, nextOn, Taken, takeLine, filled, lineTaken, inputLine, givenNumber, given, nextItem, readItems, isWholeKind, branch, lineOver, doStatement, namesOther, skipped, hereOf, repeated, tested, whileBy, turnedBack}
 use Rattle.promises.specs.Unfinished.{LiveIsExact}
 use Rattle.promises.specs.StringSpace as asks
-use Rattle.promises.specs.StringSpace.{Ask, bytesIn, Exceeds, FormulaAsks, PrintAsks, StatementAsks}
+use Rattle.promises.specs.StringSpace.{Ask, bytesIn, Exceeds, FormulaAsks, PrintAsks, Gave, ReadAsks, StatementAsks}
 use Rattle.whole.proofs.Never.{never}
-use Rattle.promises.proofs.Fourteen.Rooms.{Spares, applied-spares}
+use Rattle.promises.proofs.Fourteen.Rooms.{Spares, applied-spares, number-spares}
 use Rattle.promises.proofs.Fourteen.Formulas.{make-over, make-refused, formula-over, formula-fails}
 use Rattle.promises.proofs.Loops.{looped}
 
@@ -190,13 +191,39 @@ module _ (X : Type 0) where
   input-tells [] m v go over h = λ t. never (cc)
   input-tells (b ∷ s) m v go over h = taken-tells m v (takeLine (b ∷ s)) go (over b s refl) h
 
+-- what a statement leaves has so much space
+abbrev SpaceIs : ℕ → Next → Type 0
+SpaceIs s (goesOn m p) = m .space ≡ s
+SpaceIs s (enters m lines) = m .space ≡ s
+SpaceIs s (ends m) = m .space ≡ s
+SpaceIs s (stops m) = m .space ≡ s
+SpaceIs s (fails e m) = m .space ≡ s
+
+module _ (m : Machine) (name : Telling) (b : List ℕ) where
+  number-space : (a : Answer) → SpaceIs (m .space) (givenNumber a name m ends)
+  number-space (Whole w) = by-test (numbersFull (m .variables .numbers) name) (λ t. rw t refl) (λ t. rw t refl)
+  number-space (Fault e) = refl
+
+  made-space : (o : Outcome) → SpaceIs (m .space) (worked m o (λ x n. storeString n name b ends))
+  made-space (value y room) = by-test (stringsFull (m .variables .strings) name) (λ t. rw t refl) (λ t. rw t refl)
+  made-space (fault e room) = refl
+
+  given-space : (k : Kind) → SpaceIs (m .space) (given k name b m ends)
+  given-space kind.Whole = number-space (numberItem b)
+  given-space kind.Text = made-space (make b (roomOf m))
+
+-- setting a variable leaves the space
+pub gave-space : (v : Variable) (b : List ℕ) (m n : Machine) → Gave v b m n → n .space ≡ m .space
+gave-space v b m n g = rw (g ends) at (given-space m (v .telling) b (v .kind))
+
 -- ---- statements
 
 module _ (exact : LiveIsExact) where
   pub record StatementOver (lines : List Line) (at : ℕ) (s : Statement) (m : Machine) : Type 0 where
+    pub asking : Machine
     pub ask : Ask
-    pub asks : StatementAsks lines at s m ask
-    pub exceeds : Over m ask
+    pub asks : StatementAsks lines at s m asking ask
+    pub exceeds : Exceeds (m .space) (stringBytes (asking .variables .strings)) ask
 
   -- of a formula that it works out
   formula-tells : {X : Type 0} (f : Formula) (m : Machine) → ((k : Ask) → FormulaAsks f m k → Over m k → X)
@@ -224,8 +251,49 @@ module _ (exact : LiveIsExact) where
   while-tells at c m after none e = λ t. never (cc)
   while-tells at c m after (some w) e =
       whole-tells (StatementOver (after .lines) at (tree.while c) m) c m _
-      (formula-tells c m (λ k d x. record { ask = k; asks = asks.repeated e d; exceeds = x }))
+      (formula-tells c m (λ k d x. record { asking = m; ask = k; asks = asks.repeated e d; exceeds = x }))
       (λ v room f. tested-tells _ (noting m room) (sought (isWhile (startOf (after .lines)) at) (m .records)) v w (hereOf at c after) after)
+
+  -- a READ's items are given one by one
+  module _ (X : Type 0) (space : ℕ) where
+    given-tells : (v : Variable) (b : List ℕ) (m : Machine) (go : Machine → Next) → m .space ≡ space
+        → (v .kind ≡ kind.Text → space < stringBytes (m .variables .strings) + length b → X)
+        → ((n : Machine) → Gave v b m n → n .space ≡ space → Tells X (go n)) → Tells X (given (v .kind) (v .telling) b m go)
+    given-tells v b m go s over h = by-kind (v .kind) refl
+      where
+        by-number : (a : Answer) → numberItem b ≡ a → Spares a → v .kind ≡ kind.Whole → Tells X (givenNumber a (v .telling) m go)
+        by-number (Whole w) e p q =
+            by-test (numbersFull (m .variables .numbers) (v .telling)) (λ t. rw t (λ x. never (cc)))
+            (λ t. rw t (h (withNumber m (v .telling) w) (λ g. rw (q, e, t)) s))
+        by-number (Fault x) e p q = λ t. absurd (p t)
+
+        by-made : (o : Outcome) → make b (roomOf m) ≡ o → v .kind ≡ kind.Text → Tells X (worked m o (λ x n. storeString n (v .telling) b go))
+        by-made (value y room) e q =
+            by-test (stringsFull (m .variables .strings) (v .telling)) (λ t. rw t (λ x. never (cc)))
+            (λ t. rw t (h (withString (noting m room) (v .telling) b) (λ g. rw (q, e, t)) s))
+        by-made (fault x room) e q = λ t. over q (rw s at (make-over b (roomOf m) (e ∙ ap (λ y. fault y room) t)))
+
+        by-kind : (k : Kind) → v .kind ≡ k → Tells X (given k (v .telling) b m go)
+        by-kind kind.Whole q = by-number (numberItem b) refl (number-spares b) q
+        by-kind kind.Text q = by-made (make b (roomOf m)) refl q
+
+    read-tells : (vs : List Variable) (m : Machine) (go : Machine → Next) → m .space ≡ space
+        → ((n : Machine) (k : Ask) → ReadAsks vs m n k → Exceeds space (stringBytes (n .variables .strings)) k → X)
+        → ((n : Machine) → Tells X (go n)) → Tells X (readItems vs m go)
+    unfolding readItems bytesIn
+    read-tells [] m go s over h = h m
+    read-tells (v ∷ vs) m go s over h =
+        by-items (m .items) refl (λ n t more. read-tells vs n go t more h)
+      where
+        by-items : (l : List (List ℕ)) → m .items ≡ l
+            → ((n : Machine) → n .space ≡ space → ((o : Machine) (k : Ask) → ReadAsks vs n o k → Exceeds space (stringBytes (o .variables .strings)) k → X)
+            → Tells X (readItems vs n go))
+            → Tells X (nextItem l m (λ b n. given (v .kind) (v .telling) b n (λ o. readItems vs o go)))
+        by-items [] e r = λ t. never (cc)
+        by-items (b ∷ l) e r =
+            given-tells v b (withItems m l) _ s
+            (λ q x. over m (record { unfinished = []; bytes = b }) (asks.thisVariable q e) (omega (arith, x)))
+            (λ n g t. r n t (λ o k d x. over o k (asks.afterVariable e g d) x))
 
   pub statement-tells : (program : List ℕ) (at : ℕ) (s : Statement) (m : Machine) (after : Position)
       → Tells (StatementOver (after .lines) at s m) (doStatement program at s m after)
@@ -233,17 +301,17 @@ module _ (exact : LiveIsExact) where
   statement-tells program at tree.empty m after = tt
   statement-tells program at (tree.assign v f) m after =
       worked-tells (StatementOver (after .lines) at (tree.assign v f) m) m (valueOf f (m .variables) (roomOf m)) _
-      (formula-tells f m (λ k d x. record { ask = k; asks = asks.assigned d; exceeds = x }))
+      (formula-tells f m (λ k d x. record { asking = m; ask = k; asks = asks.assigned d; exceeds = x }))
       (λ x room e. assigned-tells _ (v .kind) (v .telling) x (noting m room) _ (λ n. tt))
   statement-tells program at (tree.print is) m after =
-      items-tell (StatementOver (after .lines) at (tree.print is) m) false is m _ (λ k d x. record { ask = k; asks = asks.printing d; exceeds = x }) (λ n. tt)
+      items-tell (StatementOver (after .lines) at (tree.print is) m) false is m _ (λ k d x. record { asking = m; ask = k; asks = asks.printing d; exceeds = x }) (λ n. tt)
   statement-tells program at (tree.ifThen c p) m after =
       whole-tells (StatementOver (after .lines) at (tree.ifThen c p) m) c m (λ w n. cond (eqb w 0) (lineOver n (after .lines)) (branch n (after .lines) p))
-      (formula-tells c m (λ k d x. record { ask = k; asks = asks.tested d; exceeds = x }))
+      (formula-tells c m (λ k d x. record { asking = m; ask = k; asks = asks.tested d; exceeds = x }))
       (λ w room e. by-test (eqb w 0) (λ t. rw t tt) (λ t. rw t tt))
   statement-tells program at (tree.ifElse c p q) m after =
       whole-tells (StatementOver (after .lines) at (tree.ifElse c p q) m) c m _
-      (formula-tells c m (λ k d x. record { ask = k; asks = asks.chosen d; exceeds = x })) (λ w room e. tt)
+      (formula-tells c m (λ k d x. record { asking = m; ask = k; asks = asks.chosen d; exceeds = x })) (λ w room e. tt)
   statement-tells program at (tree.goto l) m after = line-tells _ m (fromNumber (l .0) (linesOf program)) _ (λ ls. tt)
   statement-tells program at (tree.gosub l) m after =
       line-tells _ m (fromNumber (l .0) (linesOf program)) _ (λ ls. pushed-tells _ m (call after) (λ n. enters n ls) (λ n. tt))
@@ -252,11 +320,11 @@ module _ (exact : LiveIsExact) where
       by-test (isWholeKind (v .kind))
       (λ t. rw t
       (whole-tells (StatementOver (after .lines) at (tree.for v from to by) m) from m _
-      (formula-tells from m (λ k d x. record { ask = k; asks = asks.started t d; exceeds = x })) (λ a room e.
+      (formula-tells from m (λ k d x. record { asking = m; ask = k; asks = asks.started t d; exceeds = x })) (λ a room e.
       whole-tells (StatementOver (after .lines) at (tree.for v from to by) m) to (noting m room) _
-      (formula-tells to (noting m room) (λ k d x. record { ask = k; asks = asks.limited t e d; exceeds = x })) (λ b next d.
+      (formula-tells to (noting m room) (λ k d x. record { asking = m; ask = k; asks = asks.limited t e d; exceeds = x })) (λ b next d.
       whole-tells (StatementOver (after .lines) at (tree.for v from to by) m) by (noting m next) _
-      (formula-tells by (noting m next) (λ k c x. record { ask = k; asks = asks.stepped t e d c; exceeds = x })) (λ s last c.
+      (formula-tells by (noting m next) (λ k c x. record { asking = m; ask = k; asks = asks.stepped t e d c; exceeds = x })) (λ s last c.
       begun-tells (StatementOver (after .lines) at (tree.for v from to by) m) (v .telling) at after a b s (noting m last))))))
       (λ t. rw t (λ x. never (cc)))
   statement-tells program at tree.next m after = next-tells _ m (sought isLoop (m .records)) after
@@ -270,8 +338,14 @@ module _ (exact : LiveIsExact) where
       input-tells _ (n .input) n v _
       (λ b s e short x.
       let k : Ask = record { unfinished = []; bytes = takeLine (b ∷ s) .bytes } in
-      record { ask = k; asks = asks.input w e short; exceeds = over-before k (write-same m t n w) (omega (arith, x)) })
+      record { asking = m; ask = k; asks = asks.input w e short; exceeds = over-before k (write-same m t n w) (omega (arith, x)) })
       (λ o. tt))
+  statement-tells program at (tree.dataOf l) m after = tt
+  statement-tells program at (tree.read vs) m after =
+      read-tells (StatementOver (after .lines) at (tree.read vs) m) (m .space) vs m _ refl
+      (λ n k d x. record { asking = n; ask = k; asks = asks.reading d; exceeds = x }) (λ n. tt)
+  statement-tells program at tree.restore m after = tt
+  statement-tells program at (tree.restoreTo l) m after = line-tells _ m (fromNumber (l .0) (linesOf program)) _ (λ ls. tt)
   statement-tells program at tree.end m after = tt
   statement-tells program at tree.stop m after = tt
   statement-tells program at tree.remark m after = tt
@@ -297,23 +371,35 @@ module _ (exact : LiveIsExact) where
       let y = items-fail false is n go k d (over-after {m = noting m room} k (write-same (noting m room) (shownValue v) n w) h) in
       (y .0, rw (e, w) (y .1))
 
-  pub statement-fails : (program : List ℕ) (at : ℕ) (s : Statement) (m : Machine) (after : Position) (k : Ask) → StatementAsks (after .lines) at s m k → Over m k
-      → StatementFails program at s m after
+  read-fails : (vs : List Variable) (m : Machine) (go : Machine → Next) (n : Machine) (k : Ask) → ReadAsks vs m n k
+      → Exceeds (m .space) (stringBytes (n .variables .strings)) k → (o : Machine) × (readItems vs m go ≡ fails OutOfStringSpace o)
+  unfolding readItems bytesIn
+  read-fails (v ∷ vs) m go n k (asks.thisVariable {b = b} {l = l} q e) h =
+      let r = make-refused b (roomOf (withItems m l)) (omega (arith, h)) in
+      (noting (withItems m l) (roomOf (withItems m l)), rw (e, q, r))
+  read-fails (v ∷ vs) m go n k (asks.afterVariable {n = o} {b = b} {l = l} e g d) h =
+      let s = gave-space v b (withItems m l) o g in
+      let y = read-fails vs o go n k d (rw s h) in
+      (y .0, rw e (g (λ p. readItems vs p go) ∙ y .1))
+
+  pub statement-fails : (program : List ℕ) (at : ℕ) (s : Statement) (m : Machine) (after : Position) (n : Machine) (k : Ask) → StatementAsks (after .lines) at s m n k
+      → Exceeds (m .space) (stringBytes (n .variables .strings)) k → StatementFails program at s m after
   unfolding bytesIn
-  statement-fails program at (tree.assign v f) m after k (asks.assigned d) h = let y = formula-refused f m k d h in (noting m (y .0), rw (y .1))
-  statement-fails program at (tree.print is) m after k (asks.printing d) h = items-fail false is m _ k d h
-  statement-fails program at (tree.ifThen c p) m after k (asks.tested d) h = let y = formula-refused c m k d h in (noting m (y .0), rw (y .1))
-  statement-fails program at (tree.ifElse c p q) m after k (asks.chosen d) h = let y = formula-refused c m k d h in (noting m (y .0), rw (y .1))
-  statement-fails program at (tree.for v from to by) m after k (asks.started t d) h =
+  statement-fails program at (tree.assign v f) m after o k (asks.assigned d) h = let y = formula-refused f m k d h in (noting m (y .0), rw (y .1))
+  statement-fails program at (tree.print is) m after o k (asks.printing d) h = items-fail false is m _ k d h
+  statement-fails program at (tree.ifThen c p) m after o k (asks.tested d) h = let y = formula-refused c m k d h in (noting m (y .0), rw (y .1))
+  statement-fails program at (tree.ifElse c p q) m after o k (asks.chosen d) h = let y = formula-refused c m k d h in (noting m (y .0), rw (y .1))
+  statement-fails program at (tree.for v from to by) m after o k (asks.started t d) h =
       let y = formula-refused from m k d h in (noting m (y .0), rw (t, y .1))
-  statement-fails program at (tree.for v from to by) m after k (asks.limited {room = room} t e d) h =
+  statement-fails program at (tree.for v from to by) m after o k (asks.limited {room = room} t e d) h =
       let y = formula-refused to (noting m room) k d h in (noting m (y .0), rw (t, e, y .1))
-  statement-fails program at (tree.for v from to by) m after k (asks.stepped {next = next} t e c d) h =
+  statement-fails program at (tree.for v from to by) m after o k (asks.stepped {next = next} t e c d) h =
       let y = formula-refused by (noting m next) k d h in (noting m (y .0), rw (t, e, c, y .1))
-  statement-fails program at (tree.while c) m after k (asks.repeated e d) h = let y = formula-refused c m k d h in (noting m (y .0), rw (e, y .1))
-  statement-fails program at (tree.lineInput t v) m after k (asks.input {n = n} {b = b} {s = s} w e short) h =
+  statement-fails program at (tree.while c) m after o k (asks.repeated e d) h = let y = formula-refused c m k d h in (noting m (y .0), rw (e, y .1))
+  statement-fails program at (tree.lineInput t v) m after o k (asks.input {n = n} {b = b} {s = s} w e short) h =
       let line = takeLine (b ∷ s) in
       let taken = withInput n (line .left) (n .taken + (length (n .input) - length (line .left))) in
       let x = over-after {m = m} {n = n} (record { unfinished = []; bytes = line .bytes }) (write-same m t n w) h in
       let refused = make-refused (line .bytes) (roomOf taken) (omega (arith, x)) in
       (noting taken (roomOf taken), rw (w, e, le-ltb longestInputLine (length (line .bytes)) short, refused))
+  statement-fails program at (tree.read vs) m after o k (asks.reading d) h = read-fails vs m _ o k d h

@@ -22,7 +22,8 @@ use Rattle.variables.specs.Strings as string
 use Rattle.variables.specs.Strings.{Room, value, longestSpace}
 use Rattle.variables.specs.Variables.{stringBytes}
 use Rattle.operators.specs.Values.{valueOf}
-use Rattle.machine.specs.Machine.{Machine, Lent, fresh, roomOf, withStep}
+use Rattle.machine.specs.Items.{fresh}
+use Rattle.machine.specs.Machine.{Machine, Lent, roomOf, withStep}
 use Rattle.statements.specs.Parts.{placeOf}
 use Rattle.statements.specs.Parts.{Rest, nothing, part, headOf, tailOf}
 use Rattle.turns.specs.Steps.{Next, goesOn, enters, ends, stops, fails, doStatement}
@@ -77,12 +78,12 @@ running-keeps P k step (suc n) program (at m lines p) h =
 -- ---- a whole run: it is refused, or it is the turns from the first line on
 
 pub data RunView (text input : List ℕ) (lent : Lent) (budget : ℕ) : Type 0 where
-  long : longestSpace < lent .space → runOf text input lent budget ≡ endsWith (Refused SpaceTooLong (place 0)) (fresh input lent)
+  long : longestSpace < lent .space → runOf text input lent budget ≡ endsWith (Refused SpaceTooLong (place 0)) (fresh text input lent)
       → RunView text input lent budget
   unloaded : (r : Refusal) (p : Place) → lent .space ≤ longestSpace → loadOf text ≡ loaded.Refused r p
-      → runOf text input lent budget ≡ endsWith (Refused r p) (fresh input lent) → RunView text input lent budget
+      → runOf text input lent budget ≡ endsWith (Refused r p) (fresh text input lent) → RunView text input lent budget
   runs : lent .space ≤ longestSpace → loadOf text ≡ loaded.Fine
-      → runOf text input lent budget ≡ running budget text (entering (fresh input lent) (linesOf text))
+      → runOf text input lent budget ≡ running budget text (entering (fresh text input lent) (linesOf text))
       → RunView text input lent budget
 
 pub run-view : (text input : List ℕ) (lent : Lent) (budget : ℕ) → RunView text input lent budget
@@ -95,18 +96,18 @@ run-view text input lent budget =
     loads (loaded.Refused r p) e t = unloaded r p (ltb-false _ _ t) e (rw (t, e))
 
 run-from : (P : Machine → Type 0) (text input : List ℕ) (lent : Lent) (budget : ℕ) → RunView text input lent budget
-    → P (fresh input lent) → P (running budget text (entering (fresh input lent) (linesOf text)) .machine)
+    → P (fresh text input lent) → P (running budget text (entering (fresh text input lent) (linesOf text)) .machine)
     → P (runOf text input lent budget .machine)
 run-from P text input lent budget (long h e) p q = rw e p
 run-from P text input lent budget (unloaded r l h f e) p q = rw e p
 run-from P text input lent budget (runs h f e) p q = rw e q
 
 pub run-keeps : (P : Machine → Type 0) → Keeps P → ((m : Machine) → P m → P (withStep m))
-    → (text input : List ℕ) (lent : Lent) (budget : ℕ) → P (fresh input lent) → P (runOf text input lent budget .machine)
+    → (text input : List ℕ) (lent : Lent) (budget : ℕ) → P (fresh text input lent) → P (runOf text input lent budget .machine)
 run-keeps P k step text input lent budget p =
     run-from P text input lent budget (run-view text input lent budget) p
-    (running-keeps P k step budget text (entering (fresh input lent) (linesOf text))
-    (entering-stands P (fresh input lent) (linesOf text) p))
+    (running-keeps P k step budget text (entering (fresh text input lent) (linesOf text))
+    (entering-stands P (fresh text input lent) (linesOf text) p))
 
 -- ---- steps
 
@@ -117,6 +118,7 @@ steps-kept n = record {
     records = λ m rs p. p;
     prints = λ m bytes h p. p;
     takes = λ m left h p. p;
+    feeds = λ m l p. p;
   };
   notes = λ m room h p. p;
   strings = λ m name f b room e full p. p;
@@ -135,8 +137,8 @@ running-steps (suc n) program (at m lines p) k h =
 pub steps-within : (text input : List ℕ) (lent : Lent) (budget : ℕ) → runOf text input lent budget .machine .steps ≤ budget
 steps-within text input lent budget =
     run-from (λ m. m .steps ≤ budget) text input lent budget (run-view text input lent budget) (omega arith)
-    (let h = running-steps budget text (entering (fresh input lent) (linesOf text)) 0
-    (entering-stands (λ m. m .steps ≡ 0) (fresh input lent) (linesOf text) refl) in omega arith)
+    (let h = running-steps budget text (entering (fresh text input lent) (linesOf text)) 0
+    (entering-stands (λ m. m .steps ≡ 0) (fresh text input lent) (linesOf text) refl) in omega arith)
 
 -- ---- output
 
@@ -151,6 +153,7 @@ output-kept room = record {
     records = λ m rs p. record { lent = p .lent; within = p .within };
     prints = λ m bytes h p. record { lent = p .lent; within = omega (arith, length-append (m .output) bytes) };
     takes = λ m left h p. record { lent = p .lent; within = p .within };
+    feeds = λ m l p. record { lent = p .lent; within = p .within };
   };
   notes = λ m r h p. record { lent = p .lent; within = p .within };
   strings = λ m name f b r e full p. record { lent = p .lent; within = p .within };
@@ -171,6 +174,7 @@ input-kept n = record {
     records = λ m rs p. p;
     prints = λ m bytes h p. p;
     takes = λ m left h p. omega arith;
+    feeds = λ m l p. omega arith;
   };
   notes = λ m room h p. p;
   strings = λ m name f b room e full p. p;
@@ -202,6 +206,7 @@ module _ (exact : LiveIsExact) where
       records = λ m rs p. record { lent = p .lent; within = p .within };
       prints = λ m bytes h p. record { lent = p .lent; within = p .within };
       takes = λ m left h p. record { lent = p .lent; within = p .within };
+      feeds = λ m l p. record { lent = p .lent; within = p .within };
     };
     notes = λ m r h p. record { lent = p .lent; within = p .within };
     strings = λ m name f b r e full p.

@@ -7,6 +7,7 @@ use native.Mathlib.Omega.{arith}
 use borrow.Author.Tests.{ltb-false}
 use lib.Dec.{ltb, leb, eqb}
 use lib.ListN.{length, length-drop}
+use Rattle.whole.specs.Digits.{numberItem}
 use Rattle.whole.specs.Whole.{applied}
 use Rattle.whole.specs.declared.arithmetic.Answer.{Answer}
 use Rattle.whole.specs.declared.arithmetic.Answer.the-variants.{Whole, Fault}
@@ -21,11 +22,11 @@ use Rattle.grammar.specs.Trees.{Formula, Variable, Item, Statement}
 use Rattle.variables.specs.Strings.{Value, whole, text, Room, Outcome, value, fault, make}
 use Rattle.variables.specs.Variables.{Variables, wordOf, numbersFull, stringsFull}
 use Rattle.operators.specs.Values.{valueOf}
-use Rattle.machine.specs.Machine.{Position, Record, loop, call, again, Machine, mostRecords, roomOf, withRecords, withOutput, withInput, noting, columnAfter, write, commaBlanks, isCall, isLoop, isLoopOf, Search, missing, found, sought, below, passed, longestInputLine}
+use Rattle.machine.specs.Machine.{Position, Record, loop, call, again, Machine, mostRecords, roomOf, withRecords, withOutput, withInput, withItems, noting, columnAfter, write, commaBlanks, isCall, isLoop, isLoopOf, Search, missing, found, sought, below, passed, longestInputLine}
 use Rattle.machine.specs.Order.{Stand, Partner, none, some, nextFor, wendFor}
 use Rattle.machine.specs.Repeats.{startOf, isWhile, isWhileOf}
 use Rattle.statements.specs.Parts.{headOf}
-use Rattle.turns.specs.Steps.{Next, goesOn, enters, ends, stops, fails, worked, wholeOnly, workedWhole, withNumber, withString, storeNumber, storeString, assigned, written, shownValue, printItems, toLine, pushed, returned, cleared, begun, turned, nextOn, Taken, firstLine, takeLine, filled, lineTaken, inputLine, isWholeKind, branch, lineOver, doStatement, namesOther, skipped, hereOf, repeated, tested, whileBy, turnedBack}
+use Rattle.turns.specs.Steps.{Next, goesOn, enters, ends, stops, fails, worked, wholeOnly, workedWhole, withNumber, withString, storeNumber, storeString, assigned, written, shownValue, printItems, toLine, pushed, returned, cleared, begun, turned, nextOn, Taken, firstLine, takeLine, filled, lineTaken, inputLine, isWholeKind, branch, lineOver, doStatement, namesOther, skipped, hereOf, repeated, tested, whileBy, turnedBack, givenNumber, given, nextItem, readItems}
 use Rattle.whole.proofs.Never.{never}
 use Rattle.promises.proofs.Counting.Rising.{highestOf, make-rises, value-rises}
 use Rattle.promises.proofs.Loops.{looped}
@@ -46,6 +47,7 @@ pub record Changes (P : Machine → Type 0) : Type 0 where
       → P m → P (withOutput m (m .output ++ bytes) (columnAfter (m .column) bytes))
   pub takes : (m : Machine) (left : List ℕ) → length left ≤ length (m .input)
       → P m → P (withInput m left (m .taken + (length (m .input) - length left)))
+  pub feeds : (m : Machine) (l : List (List ℕ)) → P m → P (withItems m l)
 
 -- and those that come of working out: the most unfinished strings are noted, never fewer, and a finished string is handed over
 pub record Keeps (P : Machine → Type 0) : Type 0 where
@@ -209,6 +211,28 @@ module _ (P : Machine → Type 0) (k : Keeps P) where
   input-keeps [] m v go e p h = p
   input-keeps (b ∷ s) m v go e p h = taken-keeps m v (takeLine (b ∷ s)) go (rw e (left-less (b ∷ s))) p h
 
+  -- ---- READ
+
+  pub given-keeps : (sort : Kind) (name : Telling) (b : List ℕ) (m : Machine) (go : Machine → Next) → P m → ((n : Machine) → P n → Leaves P (go n))
+      → Leaves P (given sort name b m go)
+  given-keeps kind.Whole name b m go p h = by-number (numberItem b)
+    where
+      by-number : (a : Answer) → Leaves P (givenNumber a name m go)
+      by-number (Whole w) = number-keeps P (k .changes) m name w go p h
+      by-number (Fault e) = p
+  given-keeps kind.Text name b m go p h =
+      worked-keeps m (make b (roomOf m)) _ (make-rises b (roomOf m)) p (λ v room e q.
+      string-keeps P (k .changes) (noting m room) name b go q (λ full. k .strings m name (tree.text b) b room (made-text b (m .variables) (roomOf m) v room e) full p) h)
+
+  pub read-keeps : (vs : List Variable) (m : Machine) (go : Machine → Next) → P m → ((n : Machine) → P n → Leaves P (go n)) → Leaves P (readItems vs m go)
+  unfolding readItems
+  read-keeps [] m go p h = h m p
+  read-keeps (v ∷ vs) m go p h = by-items (m .items) (λ n q. read-keeps vs n go q h)
+    where
+      by-items : (l : List (List ℕ)) → ((n : Machine) → P n → Leaves P (readItems vs n go)) → Leaves P (nextItem l m (λ b n. given (v .kind) (v .telling) b n (λ o. readItems vs o go)))
+      by-items [] r = p
+      by-items (b ∷ l) r = given-keeps (v .kind) (v .telling) b (withItems m l) _ (k .changes .feeds m l p) r
+
   -- ---- WHILE
 
   while-keeps : (s : Partner) (at : ℕ) (c : Formula) (m : Machine) (after : Position) → P m → Leaves P (whileBy s at c m after)
@@ -243,6 +267,11 @@ module _ (P : Machine → Type 0) (k : Keeps P) where
   statement-keeps program at tree.wend m after p =
       back-keeps P (k .changes) m (sought (isWhileOf (startOf (after .lines)) at) (m .records)) p
   statement-keeps program at (tree.lineInput t v) m after p = written-keeps P (k .changes) m t _ p (λ n q. input-keeps (n .input) n v _ refl q (λ o r. r))
+  statement-keeps program at (tree.dataOf l) m after p = p
+  statement-keeps program at (tree.read vs) m after p = read-keeps vs m _ p (λ n q. q)
+  statement-keeps program at tree.restore m after p = k .changes .feeds m _ p
+  statement-keeps program at (tree.restoreTo l) m after p =
+      line-keeps P (k .changes) m (fromNumber (l .0) (linesOf program)) _ p (λ ls. k .changes .feeds m _ p)
   statement-keeps program at tree.end m after p = p
   statement-keeps program at tree.stop m after p = p
   statement-keeps program at tree.remark m after p = p

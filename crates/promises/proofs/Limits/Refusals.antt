@@ -14,7 +14,8 @@ use Rattle.loader.specs.Refusals.{refusalNumber}
 use Rattle.loader.specs.declared.loading.Loaded.the-variants as loaded
 use Rattle.loader.specs.declared.refusals.Refusal.{Refusal}
 use Rattle.loader.specs.declared.refusals.Refusal.the-variants.{SpaceTooLong}
-use Rattle.machine.specs.Machine.{Machine, Lent, fresh, withStep}
+use Rattle.machine.specs.Items.{fresh}
+use Rattle.machine.specs.Machine.{Machine, Lent, withStep}
 use Rattle.statements.specs.Parts.{placeOf}
 use Rattle.statements.specs.Parts.{Rest, nothing, part, headOf, tailOf}
 use Rattle.turns.specs.Steps.{Next, goesOn, enters, ends, stops, fails, doStatement}
@@ -93,11 +94,11 @@ module _ (text input : List ℕ) (lent : Lent) (budget : ℕ) where
   refused-view (runs h l e) r p o =
       absurd
       (not-begun r p
-      (running-begun budget text (entering (fresh input lent) (linesOf text)) (entering-begun (fresh input lent) (linesOf text)))
+      (running-begun budget text (entering (fresh text input lent) (linesOf text)) (entering-begun (fresh text input lent) (linesOf text)))
       (rw e at o))
 
   for-view : (r : Refusal) (p : Place) → RefusedFor text lent r p
-      → runOf text input lent budget ≡ endsWith (Refused r p) (fresh input lent)
+      → runOf text input lent budget ≡ endsWith (Refused r p) (fresh text input lent)
   unfolding runOf
   for-view r p (longSpace h) = rw (lt-ltb longestSpace (lent .space) h)
   for-view r p (notLoaded h l) = rw (le-ltb longestSpace (lent .space) h, l)
@@ -107,7 +108,7 @@ module _ (text input : List ℕ) (lent : Lent) (budget : ℕ) where
 
   -- a refused run is not begun
   pub refused-fresh : (r : Refusal) (p : Place) → runOf text input lent budget .ending ≡ Refused r p
-      → runOf text input lent budget ≡ endsWith (Refused r p) (fresh input lent)
+      → runOf text input lent budget ≡ endsWith (Refused r p) (fresh text input lent)
   refused-fresh r p h = for-view r p (refused-exactly r p .0 h)
 
   -- the same by number and place

@@ -96,6 +96,7 @@ countable-kept = record {
     records = λ m rs p. record { numbers = p .numbers; strings = p .strings };
     prints = λ m bytes h p. record { numbers = p .numbers; strings = p .strings };
     takes = λ m left h p. record { numbers = p .numbers; strings = p .strings };
+    feeds = λ m l p. record { numbers = p .numbers; strings = p .strings };
   };
   notes = λ m room h p. record { numbers = p .numbers; strings = p .strings };
   strings = λ m name f b room e full p.

@@ -8,7 +8,8 @@ use Rattle.words.specs.declared.places.Place.{Place}
 use Rattle.loader.specs.Lines.{linesOf}
 use Rattle.loader.specs.declared.refusals.Refusal.{Refusal}
 use Rattle.variables.specs.Strings.{longestSpace}
-use Rattle.machine.specs.Machine.{Lent, fresh}
+use Rattle.machine.specs.Items.{fresh}
+use Rattle.machine.specs.Machine.{Lent}
 use Rattle.runner.specs.Run.{entering, isRefused, runOf}
 use Rattle.runner.specs.declared.running.Outcome.the-variants.{Refused}
 use Rattle.runner.specs.declared.running.Ran.{Ran}
@@ -28,7 +29,7 @@ module _ (text input : List ℕ) (lent : Lent) (budget : ℕ) where
   refused-view (long h e) r p o = same-refusal (rw e at o) (spaceTooLong h)
   refused-view (unloaded s q h l e) r p o = same-refusal (rw e at o) (byText h (refused-row text s q l))
   refused-view (runs h l e) r p o =
-      let b = running-begun budget text (entering (fresh input lent) (linesOf text)) (entering-begun (fresh input lent) (linesOf text)) in
+      let b = running-begun budget text (entering (fresh text input lent) (linesOf text)) (entering-begun (fresh text input lent) (linesOf text)) in
       absurd (false≢true (sym b ∙ ap isRefused (rw e at o)))
 
   view-refused : (r : Refusal) (p : Place) → RunRefused text lent r p → runOf text input lent budget .ending ≡ Refused r p

@@ -7,6 +7,9 @@ use Rattle.promises.proofs.Unique.{same, pair}
 pub passed : Unique machine.passed.Kinds.ps machine.passed.Kinds.r machine.passed.Reads.Pre machine.passed.Reads.Post
 passed κs a p z z′ ws ws′ e e′ = (same e e′, refl)
 
+pub feed-from-line : Unique machine.state.Feed.from_line.Kinds.ps machine.state.Feed.from_line.Kinds.r machine.state.Feed.from_line.Reads.Pre machine.state.Feed.from_line.Reads.Post
+feed-from-line κs a p z z′ ws ws′ e e′ = (same e e′, refl)
+
 pub machine-fresh : Unique machine.state.Machine.fresh.Kinds.ps machine.state.Machine.fresh.Kinds.r machine.state.Machine.fresh.Reads.Pre machine.state.Machine.fresh.Reads.Post
 machine-fresh κs a p z z′ ws ws′ e e′ = (same e e′, refl)
 

@@ -18,6 +18,7 @@ machineFrom s = record {
   used = record { 0 = s .used };
   printer = s .printer;
   taken = record { 0 = s .taken };
+  feed = s .feed;
   steps = s .steps;
   depth = s .depth;
 }

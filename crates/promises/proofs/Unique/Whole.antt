@@ -54,3 +54,6 @@ hex-text κs a p z z′ ws ws′ e e′ = (same e e′, refl)
 
 pub decimal-text : Unique whole.decimal_text.Kinds.ps whole.decimal_text.Kinds.r whole.decimal_text.Reads.Pre whole.decimal_text.Reads.Post
 decimal-text κs a p z z′ ws ws′ e e′ = (same e e′, refl)
+
+pub number-item : Unique whole.number_item.Kinds.ps whole.number_item.Kinds.r whole.number_item.Reads.Pre whole.number_item.Reads.Post
+number-item κs a p z z′ ws ws′ e e′ = (same e e′, refl)

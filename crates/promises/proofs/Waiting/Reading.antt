@@ -13,7 +13,7 @@ use Rattle.words.specs.declared.symbols.Word.the-variants.{Else, Step}
 use Rattle.words.proofs.Choices.{by-test}
 use Rattle.scanner.specs.Tokens.{tokenAt}
 use Rattle.grammar.specs.Tests.{isSymbol, isKeyword, endsStatement, endsLine}
-use Rattle.grammar.specs.Trees.{Formula, number, Item, comma, semicolon, shown, Statement, empty, assign, print, ifThen, ifElse, goto, gosub, return, for, next, nextOf, while, wend, lineInput, end, stop, remark, Part, last, more}
+use Rattle.grammar.specs.Trees.{Formula, number, Item, comma, semicolon, shown, Statement, empty, assign, print, ifThen, ifElse, goto, gosub, return, for, next, nextOf, while, wend, lineInput, dataOf, read, restore, restoreTo, end, stop, remark, Part, last, more}
 use Rattle.grammar.specs.Formulas as formulas
 use Rattle.grammar.specs.Formulas.{Reading, good, after, enough, formulaOf}
 use Rattle.statements.specs.Statements.{Begun, bad, done, choice, Items, noItems, items, withItem, isSeparator, afterShown, itemsAt, begunAt, PartReading, badPart, goodPart, mappedPart, following, branched, partAt, whole, readLine}
@@ -117,6 +117,10 @@ module _ (s : List ℕ) (first : Bool) (t : Scanned) where
   statement-level (while c) u h = (formula-level s _ (h .condition), tt)
   statement-level wend u h = tt
   statement-level (lineInput text v) u h = tt
+  statement-level (dataOf l) u h = tt
+  statement-level (read vs) u h = tt
+  statement-level restore u h = tt
+  statement-level (restoreTo l) u h = tt
   statement-level end u h = tt
   statement-level stop u h = tt
   statement-level remark u h = tt

@@ -12,7 +12,8 @@ use Rattle.loader.specs.declared.loading.Loaded.{Loaded}
 use Rattle.loader.specs.declared.loading.Loaded.the-variants as loaded
 use Rattle.grammar.specs.Trees.{Part, last, more}
 use Rattle.statements.specs.Parts.{formulasOf, headOf, tailOf, Rest, nothing, part, partsOf, partsWithin, heads, placeOf}
-use Rattle.machine.specs.Machine.{Position, Machine, Lent, fresh, withStep}
+use Rattle.machine.specs.Items.{fresh}
+use Rattle.machine.specs.Machine.{Position, Machine, Lent, withStep}
 use Rattle.turns.specs.Steps.{Next, goesOn, enters, ends, stops, fails, doStatement}
 use Rattle.runner.specs.Run.{Ran, lineNumberOf, Entered, over, faulty, opened, enter, Standing, finished, at, byEntered, entering, onward, following, turn, running, ifLoaded, runOf}
 use Rattle.runner.specs.Examples.{lending, nested, nested-highest}
@@ -65,8 +66,8 @@ running-few (suc n) program (finished r) h = h
 running-few (suc n) program (at m lines p) h =
     running-few n program (turn program m lines p) (turn-fine program m lines p (h .0) (h .1))
 
-pub fresh-sound : (input : List ℕ) (lent : Lent) → Sound (fresh input lent)
-fresh-sound input lent = record { few = omega arith; held = tt }
+pub fresh-sound : (text input : List ℕ) (lent : Lent) → Sound (fresh text input lent)
+fresh-sound text input lent = record { few = omega arith; held = tt }
 
 loaded-few : (x : Loaded) (m : Machine) (go : Unit {0} → Ran) → m .highest ≤ mostUnfinished → go tt .machine .highest ≤ mostUnfinished
     → ifLoaded x m go .machine .highest ≤ mostUnfinished
@@ -76,8 +77,8 @@ loaded-few (loaded.Refused refusal p) m go h k = h
 run-few : (text input : List ℕ) (lent : Lent) (budget : ℕ) → runOf text input lent budget .machine .highest ≤ mostUnfinished
 unfolding runOf
 run-few text input lent budget =
-    let m = fresh input lent in
-    let s = fresh-sound input lent in
+    let m = fresh text input lent in
+    let s = fresh-sound text input lent in
     by-test (ltb longestSpace (lent .space)) (λ e. rw e (s .few)) λ e. rw e
     (loaded-few (loadOf text) m _ (s .few) (running-few budget text (entering m (linesOf text)) (entering-fine m (linesOf text) s)))
 

@@ -6,6 +6,7 @@ use Prim.Native.Nat.{ℕ, _+_, _-_, _≤_}
 use native.Mathlib.Omega.{arith}
 use lib.Dec.{ltb, leb, eqb}
 use lib.ListN.{length}
+use Rattle.whole.specs.Digits.{numberItem}
 use Rattle.whole.specs.Whole.{applied}
 use Rattle.whole.specs.declared.arithmetic.Answer.{Answer}
 use Rattle.whole.specs.declared.arithmetic.Answer.the-variants.{Whole, Fault}
@@ -22,11 +23,11 @@ use Rattle.statements.specs.Parts.{itemFormulas, formulasOf, headOf, tailOf, Re
 use Rattle.variables.specs.Strings.{Value, whole, text, Room, Outcome, value, fault, make}
 use Rattle.variables.specs.Variables.{wordOf, numbersFull, stringsFull}
 use Rattle.operators.specs.Values.{valueOf}
-use Rattle.machine.specs.Machine.{Position, Record, loop, call, again, Machine, mostRecords, roomOf, withInput, noting, write, commaBlanks, Search, missing, found, sought, passed, isCall, isLoop, isLoopOf, backOf, longestInputLine}
+use Rattle.machine.specs.Machine.{Position, Record, loop, call, again, Machine, mostRecords, roomOf, withInput, withItems, noting, write, commaBlanks, Search, missing, found, sought, passed, isCall, isLoop, isLoopOf, backOf, longestInputLine}
 use Rattle.machine.specs.Order.{Stand, later, Bracket, Partner, none, some, partner, pairsBy, nextFor, wendFor}
 use Rattle.machine.specs.Repeats.{startOf, isWhile, isWhileOf}
 use Rattle.order.proofs.Laws.{later-throughout, StandThroughout, partner-one}
-use Rattle.turns.specs.Steps.{Next, goesOn, enters, ends, stops, fails, worked, wholeOnly, workedWhole, withNumber, assigned, written, shownValue, printItems, toLine, pushed, returned, turned, nextOn, takeLine, filled, inputLine, isWholeKind, doStatement, cleared, begun, namesOther, skipped, partBegun, hereOf, repeated, tested, whileBy, turnedBack}
+use Rattle.turns.specs.Steps.{Next, goesOn, enters, ends, stops, fails, worked, wholeOnly, workedWhole, withNumber, withString, assigned, written, shownValue, printItems, toLine, pushed, returned, turned, nextOn, takeLine, filled, inputLine, givenNumber, given, nextItem, readItems, isWholeKind, doStatement, cleared, begun, namesOther, skipped, partBegun, hereOf, repeated, tested, whileBy, turnedBack}
 use Rattle.promises.specs.Unfinished.{mostUnfinished}
 use Rattle.promises.proofs.Records as records
 use Rattle.promises.proofs.Records.{sought-each, below-each}
@@ -225,6 +226,29 @@ input-sound (b ∷ rest) m v after s h =
     (make-good mostUnfinished (t .bytes) (roomOf n) (s .few) (omega arith))
     (λ x o u. filled-sound (v .kind) (v .telling) (t .bytes) after u h))
 
+-- ---- READ
+
+given-sound : (k : Kind) (name : Telling) (b : List ℕ) (m : Machine) (go : Machine → Next) → Sound m → ((n : Machine) → Sound n → NextFine (go n))
+    → NextFine (given k name b m go)
+given-sound kind.Whole name b m go s h = by-number (numberItem b)
+  where
+    by-number : (a : Answer) → NextFine (givenNumber a name m go)
+    by-number (Whole w) = either-fine (numbersFull (m .variables .numbers) name) _ _ s (h (withNumber m name w) (record { few = s .few; held = s .held }))
+    by-number (Fault e) = s
+given-sound kind.Text name b m go s h =
+    worked-sound (make b (roomOf m)) _ s (make-good mostUnfinished b (roomOf m) (s .few) (omega arith))
+    (λ x o u. either-fine (stringsFull (o .variables .strings) name) _ _ u (h (withString o name b) (record { few = u .few; held = u .held })))
+
+read-sound : (vs : List Variable) (m : Machine) (go : Machine → Next) → Sound m → ((n : Machine) → Sound n → NextFine (go n)) → NextFine (readItems vs m go)
+unfolding readItems
+read-sound [] m go s h = h m s
+read-sound (v ∷ vs) m go s h = by-items (m .items) (λ n t. read-sound vs n go t h)
+  where
+    by-items : (l : List (List ℕ)) → ((n : Machine) → Sound n → NextFine (readItems vs n go)) → NextFine (nextItem l m (λ b n. given (v .kind) (v .telling) b n (λ o. readItems vs o go)))
+    by-items [] r = s
+    by-items (b ∷ l) r =
+        given-sound (v .kind) (v .telling) b (withItems m l) _ (record { few = s .few; held = s .held }) r
+
 -- ---- all statements
 
 pub statement-sound : (program : List ℕ) (at : ℕ) (x : Statement) (m : Machine) (after : Position) → Each Fine (formulasOf x)
@@ -263,6 +287,11 @@ statement-sound program at tree.wend m after g p s a =
     back-sound (sought test (m .records)) s (sought-each RecordFine test (m .records) (s .held))
 statement-sound program at (tree.lineInput t v) m after g p s a =
     written-sound m t _ s (λ n i. input-sound (n .input) n v after i a)
+statement-sound program at (tree.dataOf l) m after g p s a = (s, a)
+statement-sound program at (tree.read vs) m after g p s a = read-sound vs m _ s (λ n t. (t, a))
+statement-sound program at tree.restore m after g p s a = (record { few = s .few; held = s .held }, a)
+statement-sound program at (tree.restoreTo l) m after g p s a =
+    line-sound (fromNumber (l .0) (linesOf program)) _ s (λ ls. (record { few = s .few; held = s .held }, a))
 statement-sound program at tree.end m after g p s a = s
 statement-sound program at tree.stop m after g p s a = s
 statement-sound program at tree.remark m after g p s a = (s, a)

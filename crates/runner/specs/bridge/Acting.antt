@@ -13,7 +13,7 @@ use Rattle.rows.specs.bridge.Rows.{countOf, spanIn, Tabled}
 use Rattle.rows.specs.declared.cells.Row.{Row}
 use Rattle.machine.specs.Machine.{mostRecords}
 use Rattle.machine.specs.Machine as spec
-use Rattle.machine.specs.bridge.Holding.{linesAt, blankRecord, State, Sound, Same}
+use Rattle.machine.specs.bridge.Holding.{linesAt, blankRecord, Fed, State, Sound, Same}
 use Rattle.machine.specs.bridge.Seeking.{Seeks}
 use Rattle.machine.specs.bridge.Wanted.{isSought, foundIn, entryAt}
 use Rattle.machine.specs.declared.positions.Next.the-variants as next
@@ -93,13 +93,14 @@ pub record LooksUp (sought : Sought) (depth : ℕ) (rs : List Record) (lookup : 
 -- the machine that it begins with
 abbrev pub stepped : State → State
 stepped m =
-    record { tables = m .tables; used = m .used; printer = m .printer; taken = m .taken; steps = m .steps + 1; depth = m .depth }
+    record { tables = m .tables; used = m .used; printer = m .printer; taken = m .taken; feed = m .feed; steps = m .steps + 1; depth = m .depth }
 
 -- what it needs
-pub record Ready (m : State) (lookup : Lookup) (input space room : List ℕ) : Type 0 where
+pub record Ready (text : List ℕ) (m : State) (lookup : Lookup) (input space room : List ℕ) : Type 0 where
   pub below : FoundBelow (m .depth) (lookup .found)
   pub sound : Sound m input space room
   pub few : m .steps < 4294967295
+  pub fed : Fed text (m .feed)
 
 -- where it leads: the definition's turn was made
 pub record Went (text rows : List ℕ) (rs : List Record) (m : State) (input space room : List ℕ) (r : Acted) (s : run.Standing) : Type 0 where

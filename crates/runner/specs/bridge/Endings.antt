@@ -15,6 +15,7 @@ use Rattle.loader.specs.declared.refusals.Refusal.the-variants.{SpaceTooLong}
 use Rattle.rows.specs.bridge.Rows.{spanIn}
 use Rattle.variables.specs.Strings.{longestSpace}
 use Rattle.variables.specs.declared.tables.Tables.{Tables}
+use Rattle.machine.specs.Items.{fresh}
 use Rattle.machine.specs.Machine as spec
 use Rattle.machine.specs.bridge.Holding.{State}
 use Rattle.machine.specs.declared.state.Machine.{Machine}
@@ -34,7 +35,7 @@ use Rattle.runner.specs.declared.standing.Standing.the-variants as stand
 
 -- the run of a text that loads
 abbrev pub runIn : List ℕ → List ℕ → spec.Lent → ℕ → run.Ran
-runIn text input lent budget = running budget text (entering (spec.fresh input lent) (linesOf text))
+runIn text input lent budget = running budget text (entering (fresh text input lent) (linesOf text))
 
 -- where no step is made any more: the run is over, or out of steps
 abbrev pub outcomeOf : List ℕ → Standing → Outcome

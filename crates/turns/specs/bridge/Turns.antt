@@ -27,6 +27,7 @@ use Rattle.variables.specs.declared.values.Worked.{Worked}
 use Rattle.machine.specs.Machine as spec
 use Rattle.machine.specs.Order.{Stand, past}
 use Rattle.machine.specs.bridge.Holding.{linesAt, bodyOf, Begins, Positioned, positionOf, blankRecord, State, stateOf, variablesOf, Sound, Same}
+use Rattle.machine.specs.declared.state.Feed.{Feed}
 use Rattle.machine.specs.declared.state.Machine.{Machine}
 use Rattle.machine.specs.declared.state.Printer.{Printer}
 use Rattle.machine.specs.declared.positions.Position.{Position}
@@ -147,19 +148,23 @@ FoundBelow depth found.None = Unit {0}
 
 abbrev pub withTables : State → Tables → ℕ → State
 withTables m t used =
-    record { tables = t; used = used; printer = m .printer; taken = m .taken; steps = m .steps; depth = m .depth }
+    record { tables = t; used = used; printer = m .printer; taken = m .taken; feed = m .feed; steps = m .steps; depth = m .depth }
 
 abbrev pub withPrinter : State → Printer → State
 withPrinter m p =
-    record { tables = m .tables; used = m .used; printer = p; taken = m .taken; steps = m .steps; depth = m .depth }
+    record { tables = m .tables; used = m .used; printer = p; taken = m .taken; feed = m .feed; steps = m .steps; depth = m .depth }
 
 abbrev pub withTaken : State → ℕ → State
 withTaken m n =
-    record { tables = m .tables; used = m .used; printer = m .printer; taken = n; steps = m .steps; depth = m .depth }
+    record { tables = m .tables; used = m .used; printer = m .printer; taken = n; feed = m .feed; steps = m .steps; depth = m .depth }
+
+abbrev pub withFeed : State → Feed → State
+withFeed m f =
+    record { tables = m .tables; used = m .used; printer = m .printer; taken = m .taken; feed = f; steps = m .steps; depth = m .depth }
 
 abbrev pub withDepth : State → ℕ → State
 withDepth m d =
-    record { tables = m .tables; used = m .used; printer = m .printer; taken = m .taken; steps = m .steps; depth = d }
+    record { tables = m .tables; used = m .used; printer = m .printer; taken = m .taken; feed = m .feed; steps = m .steps; depth = d }
 
 -- a variable is set, at an entry, or there is no room for it
 pub record Storage : Type 0 where

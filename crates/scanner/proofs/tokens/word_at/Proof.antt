@@ -1,5 +1,5 @@
 -- The run is looked up, where it is no single letter, with the mark after it; each arm is a clause of `marked`.
-use mathlib.Core.Path.{_≡_}
+use mathlib.Core.Path.{_≡_, ap, _∙_}
 use mathlib.Core.List.{List}
 use Prim.Native.Nat.{ℕ, _+_, _-_, _≤_}
 use native.Mathlib.Omega.{arith}
@@ -7,7 +7,9 @@ use borrow.Author.Needs.{needs}
 use lib.ListN.{length, drop}
 use Rattle.words.proofs.Runs.{run-within}
 use Rattle.scanner.specs.Runs.{passes}
-use Rattle.scanner.specs.Tokens.{wordToken, marked}
+use Rattle.words.specs.declared.symbols.Token.the-variants.{Keyword}
+use Rattle.words.specs.declared.symbols.Word.the-variants.{Data}
+use Rattle.scanner.specs.Tokens.{_upto_, wordToken, marked}
 use Rattle.scanner.specs.declared.runs.Run.the-variants.{Word}
 use Rattle.scanner.proofs.Beginnings.{word-here, name-here}
 use Rattle.scanner.proofs.tokens.word_at.Statement.{statement}
@@ -61,8 +63,11 @@ word-at-spec =
     (λ c. search needs)
     (λ c κs. search needs)
     (λ c. search needs)
+    (λ c κs. search needs)
+    (λ c. search needs)
     (λ c κs. let r = c .before .before .before .before .before .before in (omega (arith, after r), omega (arith, within r)))
     (λ c. let w = c .before .before .before .before in rw (read w, c .before .before .found .given .1) (c .plain .ensures _ _ (after (w .before .before .before .before))))
     (λ c. let w = c .before .before .before .before in rw (read w, c .before .before .found2 .given .1) (c .dollared .ensures _ _ (after (w .before .before .before .before))))
     (λ c. rw (read (c .before .before .before), c .before .enum-told .given .1) (c .up-to .ensures))
-    (λ c. let w = c .before .before .before in rw (read w, c .before .enum-told2 .given .1) (c .named2 .ensures _ 0 (after (w .before .before .before .before)))))
+    (λ c. let w = c .before .before .before in rw (read w, c .before .enum-told2 .given .1) (c .up-to2 .ensures ∙ ap (λ n. Keyword Data upto n) (after (w .before .before .before .before))))
+    (λ c. let w = c .before .before .before in rw (read w, c .before .enum-told3 .given .1) (c .named2 .ensures _ 0 (after (w .before .before .before .before)))))

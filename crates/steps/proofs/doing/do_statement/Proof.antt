@@ -1,13 +1,14 @@
 -- Each arm does what the definition does of the statements that its word leads.
-use mathlib.Core.Path.{refl}
+use mathlib.Core.Path.{refl, ap}
 use borrow.Author.Needs.{needs}
 use Rattle.rows.proofs.Ordering.{ordered}
+use Rattle.statements.specs.declared.leading.Lead.the-variants.{By}
 use Rattle.machine.specs.bridge.Holding.{stateOf, positionOf}
 use Rattle.turns.specs.bridge.Turns.{turnOf, afterOf}
 use Rattle.machine.proofs.Standing.{begins-at}
 use Rattle.turns.proofs.Doing.{ends-turn, stops-turn}
-use Rattle.steps.proofs.Beginning.{print-itemed, if-formed, while-formed, input-asks}
-use Rattle.steps.proofs.Dispatching.{lead-begins, lead-from, lead-reads, lead-does, print-does, if-does, while-does, input-does, other-does}
+use Rattle.steps.proofs.Beginning.{print-itemed, if-formed, while-formed, read-listed, input-asks}
+use Rattle.steps.proofs.Dispatching.{lead-begins, lead-from, lead-reads, lead-does, print-does, if-does, read-does, while-does, input-does, other-does}
 use Rattle.steps.proofs.doing.do_statement.Statement.{statement}
 use Rattle.steps.proofs.doing.do_statement.Tie as tie
 
@@ -47,6 +48,11 @@ line-input-requires c κs =
       (record { all = s .all; within = s .within }, (k .pre .1 .1 .0) .fitting),
     )
 
+read-requires : tie.Need-read-requires
+read-requires c κs =
+    let t = c .before .before .before .before .before .before .before .before in let k = t .before .before .before .before .before .before .before in let a = k .args in
+    (read-listed (a .line .now) (t .lead .given .0 .1 .0) (rw (c .before .before .before .before .before .enum-told13 .given .1) at (lead-begins (a .line .now) (a .at .0) (k .pre .1 .1 .1 .1 .0) (t .lead .given .1) (k .pre .1 .0))), (record { loads = k .pre .0 .loads; fed = k .pre .1 .1 .1 .1 .1 .1 }, (k .pre .1 .1 .0) .settled))
+
 returns : tie.Need-returns
 returns c =
     let t = c .before .before .before .before .before .before .before .before .before .before .before in let k = t .before .before .before .before .before .before .before in let a = k .args in
@@ -69,13 +75,13 @@ returns-4 : tie.Need-returns-4
 returns-4 c =
     let t = c .before .before .before .before in let k = t .before .before .before .before .before .before .before in let a = k .args in
     lead-does (a .text .now) (a .line .now) (a .here) (a .at .0) (stateOf (a .machine) (a .names .now) (a .words .now) (a .labels .now) (a .lengths .now)) (a .found) (a .entry) (a .input .now) (a .space .now) (a .room .now) (turnOf (c .jump .result) (a .names .now) (a .words .now) (a .labels .now) (a .lengths .now)) (a .space .now) (a .room .now) (k .pre .0) (k .pre .1 .1 .1 .1 .0) (t .lead .given .1) (k .pre .1 .0)
-    (rw (c .before .enum-told4 .given .1) (c .jump .ensures (a .text .now) (a .line .now) (a .input .now) (a .space .now) (a .room .now) (a .names .now) (a .words .now) (a .labels .now) (a .lengths .now) (a .here) (a .at .0) (a .found) (a .entry) (k .pre .1 .1 .1 .1 .1) (k .pre .1 .1 .0)))
+    (rw (c .before .enum-told4 .given .1) (c .jump .ensures (a .text .now) (a .line .now) (a .input .now) (a .space .now) (a .room .now) (a .names .now) (a .words .now) (a .labels .now) (a .lengths .now) (a .here) (a .at .0) (a .found) (a .entry) (k .pre .1 .1 .1 .1 .1 .0) (k .pre .1 .1 .0)))
 
 returns-5 : tie.Need-returns-5
 returns-5 c =
     let t = c .before .before .before .before in let k = t .before .before .before .before .before .before .before in let a = k .args in
     lead-does (a .text .now) (a .line .now) (a .here) (a .at .0) (stateOf (a .machine) (a .names .now) (a .words .now) (a .labels .now) (a .lengths .now)) (a .found) (a .entry) (a .input .now) (a .space .now) (a .room .now) (turnOf (c .call .result) (a .names .now) (a .words .now) (a .labels .now) (a .lengths .now)) (a .space .now) (a .room .now) (k .pre .0) (k .pre .1 .1 .1 .1 .0) (t .lead .given .1) (k .pre .1 .0)
-    (rw (c .before .enum-told5 .given .1) (c .call .ensures (a .text .now) (a .input .now) (a .space .now) (a .room .now) (a .names .now) (a .words .now) (a .labels .now) (a .lengths .now) (a .at .0) (a .found) (a .entry) (k .pre .1 .1 .1 .1 .1) (k .pre .1 .1 .0)))
+    (rw (c .before .enum-told5 .given .1) (c .call .ensures (a .text .now) (a .input .now) (a .space .now) (a .room .now) (a .names .now) (a .words .now) (a .labels .now) (a .lengths .now) (a .at .0) (a .found) (a .entry) (k .pre .1 .1 .1 .1 .1 .0) (k .pre .1 .1 .0)))
 
 returns-6 : tie.Need-returns-6
 returns-6 c =
@@ -116,25 +122,44 @@ returns-11 c =
 returns-12 : tie.Need-returns-12
 returns-12 c =
     let t = c .before .before .before .before in let k = t .before .before .before .before .before .before .before in let a = k .args in
-    lead-does (a .text .now) (a .line .now) (a .here) (a .at .0) (stateOf (a .machine) (a .names .now) (a .words .now) (a .labels .now) (a .lengths .now)) (a .found) (a .entry) (a .input .now) (a .space .now) (a .room .now) (turnOf (c .turned-to .result) (a .names .now) (a .words .now) (a .labels .now) (a .lengths .now)) (a .space .now) (a .room .now) (k .pre .0) (k .pre .1 .1 .1 .1 .0) (t .lead .given .1) (k .pre .1 .0)
-    (rw (c .before .enum-told12 .given .1, c .turned-to .ensures) (λ p. ends-turn (k .pre .1 .1 .0) _))
+    let w = ap (λ x. By x (t .lead .given .0 .1 .0)) (c .before .enum-told12 .given .1) in
+    lead-does (a .text .now) (a .line .now) (a .here) (a .at .0) (stateOf (a .machine) (a .names .now) (a .words .now) (a .labels .now) (a .lengths .now)) (a .found) (a .entry) (a .input .now) (a .space .now) (a .room .now) (turnOf (c .pass .result) (a .names .now) (a .words .now) (a .labels .now) (a .lengths .now)) (a .space .now) (a .room .now) (k .pre .0) (k .pre .1 .1 .1 .1 .0) (t .lead .given .1) (k .pre .1 .0)
+    (rw (c .before .enum-told12 .given .1) (c .pass .ensures (a .text .now) (a .input .now) (a .space .now) (a .room .now) (a .names .now) (a .words .now) (a .labels .now) (a .lengths .now) (a .at .0) (a .found) (a .entry) (t .lead .given .0 .1 .0) w (k .pre .1 .1 .0)))
 
 returns-13 : tie.Need-returns-13
 returns-13 c =
-    let t = c .before .before .before .before in let k = t .before .before .before .before .before .before .before in let a = k .args in
-    lead-does (a .text .now) (a .line .now) (a .here) (a .at .0) (stateOf (a .machine) (a .names .now) (a .words .now) (a .labels .now) (a .lengths .now)) (a .found) (a .entry) (a .input .now) (a .space .now) (a .room .now) (turnOf (c .turned-to2 .result) (a .names .now) (a .words .now) (a .labels .now) (a .lengths .now)) (a .space .now) (a .room .now) (k .pre .0) (k .pre .1 .1 .1 .1 .0) (t .lead .given .1) (k .pre .1 .0)
-    (rw (c .before .enum-told13 .given .1, c .turned-to2 .ensures) (λ p. stops-turn (k .pre .1 .1 .0) _))
+    let t = c .before .before .before .before .before .before .before .before .before .before .before in let k = t .before .before .before .before .before .before .before in let a = k .args in
+    lead-does (a .text .now) (a .line .now) (a .here) (a .at .0) (stateOf (a .machine) (a .names .now) (a .words .now) (a .labels .now) (a .lengths .now)) (a .found) (a .entry) (a .input .now) (a .space .now) (a .room .now) _ _ _ (k .pre .0) (k .pre .1 .1 .1 .1 .0) (t .lead .given .1) (k .pre .1 .0)
+    (rw (c .before .before .before .before .before .before .before .before .enum-told13 .given .1) (read-does (a .text .now) (a .line .now) (a .here) (a .at .0) (stateOf (a .machine) (a .names .now) (a .words .now) (a .labels .now) (a .lengths .now)) (a .found) (a .entry) (a .input .now) (a .space .now) (a .room .now) _ _ _ (t .lead .given .0 .1 .0) (λ vs u p e. c .before .before .read .ensures (a .input .now) (a .room .now) (a .at .0) vs u (k .pre .1 .1 .0) p e)))
 
 returns-14 : tie.Need-returns-14
 returns-14 c =
-    let t = c .before .before .before in let k = t .before .before .before .before .before .before .before in let a = k .args in
-    lead-does (a .text .now) (a .line .now) (a .here) (a .at .0) (stateOf (a .machine) (a .names .now) (a .words .now) (a .labels .now) (a .lengths .now)) (a .found) (a .entry) (a .input .now) (a .space .now) (a .room .now) (turnOf (c .goes-on .result) (a .names .now) (a .words .now) (a .labels .now) (a .lengths .now)) (a .space .now) (a .room .now) (k .pre .0) (k .pre .1 .1 .1 .1 .0) (t .lead .given .1) (k .pre .1 .0)
-    (other-does (a .text .now) (a .line .now) (a .here) (a .at .0) (stateOf (a .machine) (a .names .now) (a .words .now) (a .labels .now) (a .lengths .now)) (a .found) (a .entry) (a .input .now) (a .space .now) (a .room .now) (turnOf (c .goes-on .result) (a .names .now) (a .words .now) (a .labels .now) (a .lengths .now)) (k .pre .1 .1 .0) (t .lead .given .0 .1 .0) (rw (c .goes-on .ensures) refl) (t .lead .given .0 .0) (c .before .match2 .keys14))
+    let t = c .before .before .before .before in let k = t .before .before .before .before .before .before .before in let a = k .args in
+    lead-does (a .text .now) (a .line .now) (a .here) (a .at .0) (stateOf (a .machine) (a .names .now) (a .words .now) (a .labels .now) (a .lengths .now)) (a .found) (a .entry) (a .input .now) (a .space .now) (a .room .now) (turnOf (c .restore .result) (a .names .now) (a .words .now) (a .labels .now) (a .lengths .now)) (a .space .now) (a .room .now) (k .pre .0) (k .pre .1 .1 .1 .1 .0) (t .lead .given .1) (k .pre .1 .0)
+    (rw (c .before .enum-told14 .given .1) (c .restore .ensures (a .text .now) (a .input .now) (a .space .now) (a .room .now) (a .names .now) (a .words .now) (a .labels .now) (a .lengths .now) (a .at .0) (a .found) (a .entry) (k .pre .1 .1 .1 .1 .1 .0) (k .pre .1 .1 .0)))
 
 returns-15 : tie.Need-returns-15
 returns-15 c =
+    let t = c .before .before .before .before in let k = t .before .before .before .before .before .before .before in let a = k .args in
+    lead-does (a .text .now) (a .line .now) (a .here) (a .at .0) (stateOf (a .machine) (a .names .now) (a .words .now) (a .labels .now) (a .lengths .now)) (a .found) (a .entry) (a .input .now) (a .space .now) (a .room .now) (turnOf (c .turned-to .result) (a .names .now) (a .words .now) (a .labels .now) (a .lengths .now)) (a .space .now) (a .room .now) (k .pre .0) (k .pre .1 .1 .1 .1 .0) (t .lead .given .1) (k .pre .1 .0)
+    (rw (c .before .enum-told15 .given .1, c .turned-to .ensures) (λ p. ends-turn (k .pre .1 .1 .0) _))
+
+returns-16 : tie.Need-returns-16
+returns-16 c =
+    let t = c .before .before .before .before in let k = t .before .before .before .before .before .before .before in let a = k .args in
+    lead-does (a .text .now) (a .line .now) (a .here) (a .at .0) (stateOf (a .machine) (a .names .now) (a .words .now) (a .labels .now) (a .lengths .now)) (a .found) (a .entry) (a .input .now) (a .space .now) (a .room .now) (turnOf (c .turned-to2 .result) (a .names .now) (a .words .now) (a .labels .now) (a .lengths .now)) (a .space .now) (a .room .now) (k .pre .0) (k .pre .1 .1 .1 .1 .0) (t .lead .given .1) (k .pre .1 .0)
+    (rw (c .before .enum-told16 .given .1, c .turned-to2 .ensures) (λ p. stops-turn (k .pre .1 .1 .0) _))
+
+returns-17 : tie.Need-returns-17
+returns-17 c =
+    let t = c .before .before .before in let k = t .before .before .before .before .before .before .before in let a = k .args in
+    lead-does (a .text .now) (a .line .now) (a .here) (a .at .0) (stateOf (a .machine) (a .names .now) (a .words .now) (a .labels .now) (a .lengths .now)) (a .found) (a .entry) (a .input .now) (a .space .now) (a .room .now) (turnOf (c .goes-on .result) (a .names .now) (a .words .now) (a .labels .now) (a .lengths .now)) (a .space .now) (a .room .now) (k .pre .0) (k .pre .1 .1 .1 .1 .0) (t .lead .given .1) (k .pre .1 .0)
+    (other-does (a .text .now) (a .line .now) (a .here) (a .at .0) (stateOf (a .machine) (a .names .now) (a .words .now) (a .labels .now) (a .lengths .now)) (a .found) (a .entry) (a .input .now) (a .space .now) (a .room .now) (turnOf (c .goes-on .result) (a .names .now) (a .words .now) (a .labels .now) (a .lengths .now)) (k .pre .1 .1 .0) (t .lead .given .0 .1 .0) (rw (c .goes-on .ensures) refl) (t .lead .given .0 .0) (c .before .match2 .keys17))
+
+returns-18 : tie.Need-returns-18
+returns-18 c =
     let k = c .before .before .before .before .before .before .before .before in let a = k .args in
-    lead-reads (a .line .now) (a .at .0) (k .pre .1 .1 .1 .1 .0) (c .before .enum-told14 .given .1) (k .pre .1 .0)
+    lead-reads (a .line .now) (a .at .0) (k .pre .1 .1 .1 .1 .0) (c .before .enum-told17 .given .1) (k .pre .1 .0)
 
 pub do-statement-spec : {M : Type 1} → statement M
 do-statement-spec =
@@ -148,9 +173,9 @@ do-statement-spec =
     (λ c. search needs)
     choose-requires
     (λ c. search needs)
-    (λ c κs. ordered (c .before .before .before .before .before .before .before .before .before .before .pre .1 .1 .1 .1 .1))
+    (λ c κs. ordered (c .before .before .before .before .before .before .before .before .before .before .pre .1 .1 .1 .1 .1 .0))
     (λ c. search needs)
-    (λ c κs. ordered (c .before .before .before .before .before .before .before .before .before .before .pre .1 .1 .1 .1 .1))
+    (λ c κs. ordered (c .before .before .before .before .before .before .before .before .before .before .pre .1 .1 .1 .1 .1 .0))
     (λ c. search needs)
     (λ c κs. search needs)
     (λ c. search needs)
@@ -164,6 +189,12 @@ do-statement-spec =
     (λ c. search needs)
     (λ c κs. search needs)
     line-input-requires
+    (λ c. search needs)
+    (λ c κs. search needs)
+    (λ c. search needs)
+    read-requires
+    (λ c. search needs)
+    (λ c κs. ordered (c .before .before .before .before .before .before .before .before .before .before .pre .1 .1 .1 .1 .1 .0))
     (λ c. search needs)
     (λ c κs. search needs)
     (λ c. search needs)
@@ -191,6 +222,10 @@ do-statement-spec =
     (λ c. search needs)
     returns-11
     returns-12
+    (λ c. search needs)
     returns-13
     returns-14
-    returns-15)
+    returns-15
+    returns-16
+    returns-17
+    returns-18)

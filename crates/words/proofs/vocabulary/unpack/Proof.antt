@@ -13,6 +13,7 @@ unpack-spec =
     tie.close
     (tie.spec
     (λ c. rw (c .match .keys17))
+    (λ c. rw (c .match .keys20))
     (λ c κs. search needs)
     (λ c. rw (none-packed _ statementWords formulaWords (c .before .match .rest)) (c .formula-word .ensures))
     (λ c. rw (c .match .keys1))
@@ -33,6 +34,5 @@ unpack-spec =
     (λ c. rw (c .match .keys16))
     (λ c. rw (c .match .keys18))
     (λ c. rw (c .match .keys19))
-    (λ c. rw (c .match .keys20))
     (λ c. rw (c .match .keys21))
     (λ c. rw (c .match .keys22)))

@@ -1,0 +1,5 @@
+pub mod Cursor
+pub mod Stepping
+pub mod Lines
+pub mod Giving
+pub mod Filling

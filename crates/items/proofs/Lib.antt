@@ -1,0 +1,4 @@
+pub mod Cutting
+pub mod Inside
+pub mod Listing
+pub mod After

@@ -1,0 +1,11 @@
+10 REM soak times by malt, from a table
+20 LINE INPUT "MALT: ";M$
+30 RESTORE 100
+40 READ N$,S,R
+50 IF N$="" THEN PRINT "NO SUCH MALT": STOP
+60 IF N$<>M$ THEN 40
+70 PRINT N$;": SOAK";S;"MIN, REST";R
+80 END
+100 DATA Pale, 30, 10
+110 DATA Wheat, 25, 12, "Rye, crushed", 40, 15
+120 DATA , 0, 0
