@@ -68,15 +68,18 @@ enum {
 
 /* Runs a recipe on an input, for at most `budget` statements.
  *
- * Read: text, input. Changed: space, room, tables and answer. Whatever they held before the run does not matter to it.
+ * Read: text, input, index. Changed: space, room, tables and answer. Whatever they held before the run does not matter to it.
  * - answer: always, all seven words.
  * - space: the string space. After a run that was not refused it holds the string variables' bytes, joined in order of first assignment,
  *   and zeros after them.
  * - room: for the output. Its first answer[QUERNHEM_WRITTEN] bytes are the output, and the others are as they were.
  * - tables: after a run that was not refused, the variables of this run.
+ * - index: QUERNHEM_INDEX words of quernhem_index, or none: length 0. The run tests whether they are the index of this text, and goes by
+ *   their lines then; whatever they hold and however many there are, it answers the same.
  * A refused run leaves space, room and tables as they were, to the last byte. */
 void quernhem_run(const uint8_t *text, size_t text_len, const uint8_t *input, size_t input_len,
                   uint8_t *space, size_t space_len, uint8_t *room, size_t room_len,
+                  const uint16_t *index, size_t index_len,
                   uint32_t budget, uint8_t *tables, uint64_t *answer);
 
 /* ---- Checking a recipe ----------------------------------------------------------------------------------------------------------- */
@@ -85,13 +88,34 @@ void quernhem_run(const uint8_t *text, size_t text_len, const uint8_t *input, si
 #define QUERNHEM_VERDICT 4
 enum {
     QUERNHEM_FAULTY,         /* 0: passed; 1: refused */
-    QUERNHEM_VERDICT_NUMBER, /* 100 to 105, or the error 2, 16, 13 or 8; of a buffer to receive in 110 */
+    QUERNHEM_VERDICT_NUMBER, /* 100 to 105, or the error 2, 16, 13 or 8; of an index 109; of a buffer to receive in 110 */
     QUERNHEM_VERDICT_LINE,   /* of an error */
     QUERNHEM_VERDICT_PLACE   /* of 100 to 105 */
 };
 
 /* Checks a recipe before it ever runs. Read: text. Changed: verdict, all four words. */
 void quernhem_check(const uint8_t *text, size_t text_len, uint64_t *verdict);
+
+/* ---- Who names a line ------------------------------------------------------------------------------------------------------------- */
+
+/* The index beside a text: so many words. It tells where each line starts, and which lines name a line after GOTO, GOSUB, THEN, ELSE or
+ * RESTORE, each once. */
+#define QUERNHEM_INDEX 5122
+
+/* The most lines that name a line: no text has more lines. */
+#define QUERNHEM_CALLERS 512
+
+/* Makes the index of a text. Read: text. Changed: verdict, all four words (0; or 1, number, 0, place), and index where it is 0. A text that
+ * does not load is refused as in loading; one with more than 1,024 pairs of named and naming line with 109, place 0. */
+void quernhem_index(const uint8_t *text, size_t text_len, uint16_t *index, uint64_t *verdict);
+
+/* Where a line starts, by the index alone. Changed: found: 0 and 0 where it is missing, or 1 and the place of its first byte. Any words are
+ * answered, as the lines of a text would be: the first of those with the number. */
+void quernhem_line(const uint16_t *index, uint16_t number, uint64_t *found);
+
+/* Which lines name a line, by the index alone. Changed: count, and so many words at the front of callers: their numbers, rising. A line that
+ * does not exist can have some. Any words are answered; of those that no call made too, at most QUERNHEM_CALLERS are told. */
+void quernhem_callers(const uint16_t *index, uint16_t number, uint16_t *callers, uint64_t *count);
 
 /* ---- Receiving a recipe over a serial line --------------------------------------------------------------------------------------- */
 
@@ -169,6 +193,7 @@ enum {
     QUERNHEM_FOREIGN_BYTE = 104,
     QUERNHEM_TOO_MANY_LINES = 105,
     QUERNHEM_SPACE_TOO_LONG = 106, /* of a run */
+    QUERNHEM_TOO_MANY_PAIRS = 109, /* of an index */
     QUERNHEM_NO_ROOM = 110,        /* of a buffer to receive in */
     QUERNHEM_NO_VARIABLE = 111     /* of a question */
 };

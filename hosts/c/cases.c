@@ -2,7 +2,8 @@
  *
  * usage: cases <CASES
  *
- * Writes an answer a line. Every variable is asked for too; where that disagrees with the tables, the line says so. */
+ * Writes an answer a line. Every variable is asked for too, and every run is made again by its own index and by that of another text; where
+ * something disagrees, the line says so. */
 #include "trials.h"
 
 #include <inttypes.h>
@@ -98,26 +99,59 @@ static uint8_t *old_tables(void) {
     return tables;
 }
 
-static void run_case(const Stored *stored) {
-    static const char *const outcomes[] = {"ended", "stopped", "out", "error", "refused"};
-    size_t space_len = stored->space_len, room_len = stored->room_len;
-    uint8_t *space = filled(space_len, OLD), *room = filled(room_len, OLD), *tables = old_tables();
+typedef struct {
+    uint8_t *space, *room, *tables;
     uint64_t answer[QUERNHEM_ANSWER];
-    quernhem_run(stored->text, stored->text_len, stored->input, stored->input_len, space, space_len, room, room_len, stored->budget, tables,
-                 answer);
+} Ran;
+
+static Ran run_by(const Stored *stored, const uint16_t *index, size_t index_len) {
+    Ran ran = {filled(stored->space_len, OLD), filled(stored->room_len, OLD), old_tables(), {0}};
+    quernhem_run(stored->text, stored->text_len, stored->input, stored->input_len, ran.space, stored->space_len, ran.room, stored->room_len, index,
+                 index_len, stored->budget, ran.tables, ran.answer);
+    return ran;
+}
+
+static void free_run(Ran *ran) {
+    free(ran->space);
+    free(ran->room);
+    free(ran->tables);
+}
+
+/* By another index it is the same run. */
+static void run_again(const Stored *stored, const Ran *ran, const uint16_t *index, const char *whose) {
+    Ran again = run_by(stored, index, QUERNHEM_INDEX);
+    if (memcmp(ran->answer, again.answer, sizeof again.answer) || memcmp(ran->space, again.space, stored->space_len) ||
+        memcmp(ran->room, again.room, stored->room_len) || memcmp(ran->tables, again.tables, QUERNHEM_TABLES))
+        printf("another run by %s index ", whose);
+    free_run(&again);
+}
+
+static void show_run(const Stored *stored, const Ran *ran) {
+    static const char *const outcomes[] = {"ended", "stopped", "out", "error", "refused"};
+    const uint64_t *answer = ran->answer;
+    int refused = answer[QUERNHEM_OUTCOME] == QUERNHEM_REFUSED;
     printf("%s ", outcomes[answer[QUERNHEM_OUTCOME]]);
     for (size_t i = QUERNHEM_NUMBER; i < QUERNHEM_ANSWER; i++) number(answer[i]);
-    front(room, answer[QUERNHEM_WRITTEN]);
-    others(room, answer[QUERNHEM_WRITTEN], room_len, OLD);
-    int refused = answer[QUERNHEM_OUTCOME] == QUERNHEM_REFUSED;
-    show_space(refused, tables, space, space_len);
-    show_numbers(tables);
-    show_strings(tables);
-    if (!refused) ask_all(tables, space, space_len);
+    front(ran->room, answer[QUERNHEM_WRITTEN]);
+    others(ran->room, answer[QUERNHEM_WRITTEN], stored->room_len, OLD);
+    show_space(refused, ran->tables, ran->space, stored->space_len);
+    show_numbers(ran->tables);
+    show_strings(ran->tables);
+    if (!refused) ask_all(ran->tables, ran->space, stored->space_len);
+}
+
+/* With no index, with its own, and with that of the text before it. */
+static void run_case(const Stored *stored) {
+    static uint16_t before[QUERNHEM_INDEX], own[QUERNHEM_INDEX];
+    uint64_t verdict[QUERNHEM_VERDICT];
+    Ran ran = run_by(stored, own, 0);
+    show_run(stored, &ran);
+    memcpy(before, own, sizeof own);
+    quernhem_index(stored->text, stored->text_len, own, verdict);
+    run_again(stored, &ran, own, "its own");
+    run_again(stored, &ran, before, "another's");
     printf("\n");
-    free(space);
-    free(room);
-    free(tables);
+    free_run(&ran);
 }
 
 int main(void) {

@@ -1,11 +1,12 @@
-/* Feeds the library random and damaged recipes, whole and in random parts, inputs, sizes, tables, receipts and names, and holds it to what its
- * header says.
+/* Feeds the library random and damaged recipes, whole and in random parts, inputs, sizes, indexes, tables, receipts and names, and holds it to what
+ * its header says.
  *
  * usage: hammer ROUNDS [SEED] <CASES     (the cases' recipes are damaged here)
  *
  * Everything lent stands between guard bytes, flush against a page that can't be touched: a byte read or written behind that end ends the
- * program. Each recipe runs twice, over memory with other contents. */
+ * program. Each recipe runs twice, over memory with other contents and by another index. */
 #define _DEFAULT_SOURCE
+#include "indexes.h"
 #include "lent.h"
 #include "parts.h"
 #include "recipes.h"
@@ -51,13 +52,16 @@ static void expect_run(size_t space_len, size_t room_len, uint32_t budget, uint6
     lend_random(&space, space_len);
     lend_random(&room, room_len);
     lend_random(&tables, QUERNHEM_TABLES);
+    lend_index();
     uint64_t *a = lend_words(&answer, QUERNHEM_ANSWER);
     keep_all();
-    quernhem_run(text.lent, text.len, input.lent, input.len, space.lent, space.len, room.lent, room.len, budget, tables.lent, a);
+    quernhem_run(text.lent, text.len, input.lent, input.len, space.lent, space.len, room.lent, room.len, words_of(&lines), lines.len / WORD,
+                 budget, tables.lent, a);
     memcpy(into, a, 8 * QUERNHEM_ANSWER);
     expect_guards();
     expect_kept(&text, 0);
     expect_kept(&input, 0);
+    expect_kept(&lines, 0);
     expect_answer(a, budget);
     expect_kept(&room, (size_t)a[QUERNHEM_WRITTEN]);
     if (a[QUERNHEM_OUTCOME] == QUERNHEM_REFUSED) {
@@ -81,7 +85,7 @@ static void expect_fewer(size_t space_len, size_t room_len) {
            "a smaller budget writes something else");
 }
 
-/* A run depends on nothing but its text, its input, its sizes and its budget. */
+/* A run depends on nothing but its text, its input, its sizes and its budget: on no index. */
 static void expect_again(size_t space_len, size_t room_len, uint32_t budget) {
     uint64_t again[QUERNHEM_ANSWER];
     memcpy(first_space, space.lent, space_len);
@@ -194,6 +198,7 @@ static void play_round(void) {
     if (first[QUERNHEM_OUTCOME] != QUERNHEM_REFUSED) expect_variables();
     expect_again(space_len, room_len, budget);
     expect_strange_question(a_size(PAGES * PAGE));
+    expect_indexed();
     expect_received(below(4) ? QUERNHEM_TEXT + below(PAGES * PAGE - QUERNHEM_TEXT + 1) : below(QUERNHEM_TEXT + 2));
 }
 

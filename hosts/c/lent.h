@@ -50,7 +50,9 @@ typedef struct {
 static Arena text = {.what = "text"}, input = {.what = "input"}, space = {.what = "space"}, room = {.what = "room"};
 static Arena tables = {.what = "tables"}, answer = {.what = "answer"}, verdict = {.what = "verdict"}, name = {.what = "name"};
 static Arena found = {.what = "found"}, buffer = {.what = "buffer"}, receipt = {.what = "receipt"}, part = {.what = "part"};
-static Arena *const arenas[] = {&text, &input, &space, &room, &tables, &answer, &verdict, &name, &found, &buffer, &receipt, &part};
+static Arena lines = {.what = "index"}, callers = {.what = "callers"};
+static Arena *const arenas[] = {&text, &input, &space, &room, &tables, &answer, &verdict, &name, &found, &buffer, &receipt, &part,
+                               &lines, &callers};
 enum { ARENAS = sizeof arenas / sizeof *arenas };
 
 static uint8_t guards[PAGES * PAGE];

@@ -17,14 +17,21 @@ static const uint64_t paint = 0xA5A5A5A5A5A5A5A5;
 
 static uint64_t stack[STACK_WORDS], answer[QUERNHEM_ANSWER], verdict[QUERNHEM_VERDICT], found[QUERNHEM_FOUND], receipt[QUERNHEM_RECEIPT];
 static uint8_t space[QUERNHEM_SPACE], room[QUERNHEM_SPACE], tables[QUERNHEM_TABLES], buffer[QUERNHEM_TEXT];
+static uint16_t lines[QUERNHEM_INDEX], callers[QUERNHEM_CALLERS];
 static const uint8_t *text, *input;
 static size_t text_len, input_len;
 
-static void run(void) { quernhem_run(text, text_len, input, input_len, space, sizeof space, room, sizeof room, BUDGET, tables, answer); }
+/* Under the index that stands there: of the text before, as often as not. */
+static void run(void) {
+    quernhem_run(text, text_len, input, input_len, space, sizeof space, room, sizeof room, lines, QUERNHEM_INDEX, BUDGET, tables, answer);
+}
 static void check(void) { quernhem_check(text, text_len, verdict); }
 static void begin(void) { quernhem_begin(buffer, sizeof buffer, receipt, verdict); }
 static void take(void) { quernhem_take(buffer, sizeof buffer, receipt, text, text_len); }
 static void finish(void) { quernhem_finish(buffer, sizeof buffer, receipt, verdict); }
+static void make(void) { quernhem_index(text, text_len, lines, verdict); }
+static void find(void) { quernhem_line(lines, 1, found); }
+static void name(void) { quernhem_callers(lines, 1, callers, found); }
 static void ask(void) { quernhem_ask(tables, space, sizeof space, (const uint8_t *)"LOT$", 4, found); }
 
 static struct {
@@ -35,6 +42,8 @@ static struct {
 } calls[] = {
     {.name = "quernhem_run", .call = run},     {.name = "quernhem_check", .call = check}, {.name = "quernhem_ask", .call = ask},
     {.name = "quernhem_begin", .call = begin}, {.name = "quernhem_take", .call = take},   {.name = "quernhem_finish", .call = finish},
+    {.name = "quernhem_index", .call = make},  {.name = "quernhem_line", .call = find},   {.name = "quernhem_callers", .call = name},
+    {.name = "quernhem_run by its own index", .call = run},
 };
 
 static size_t used_by(void (*call)(void)) {

@@ -1,4 +1,4 @@
-/* A worked host: checks a recipe, runs it over memory that it lends, prints what comes of it, and asks for variables. */
+/* A worked host: checks a recipe, runs it over memory that it lends, prints what comes of it, asks for variables, and asks who names a line. */
 #include "quernhem.h"
 
 #include <inttypes.h>
@@ -15,9 +15,11 @@ static const char *const recipe =
     "50 S=-40\n";
 static const char *const input = "A-17\n";
 static const char *const faulty = "10 IF 0 THEN A$=5\n";
+static const char *const jumps = "10 GOSUB 40\n20 IF I<3 THEN 10 ELSE 40\n30 GOTO 60\n40 I=I+1:RETURN\n";
 
 /* What a box keeps for its recipes. */
 static uint8_t space[SPACE], room[ROOM], tables[QUERNHEM_TABLES];
+static uint16_t lines[QUERNHEM_INDEX];
 
 static const uint8_t *bytes(const char *text) { return (const uint8_t *)text; }
 
@@ -31,10 +33,24 @@ static void check(const char *text) {
         printf("passed\n");
 }
 
+/* Which lines name a line of a recipe, by its index alone. */
+static void who_names(const char *text, uint16_t line) {
+    uint64_t verdict[QUERNHEM_VERDICT], found[2], count;
+    uint16_t callers[QUERNHEM_CALLERS];
+    quernhem_index(bytes(text), strlen(text), lines, verdict);
+    quernhem_line(lines, line, found);
+    quernhem_callers(lines, line, callers, &count);
+    printf("line %d %s %" PRIu64 ", named in", line, found[0] ? "starts at byte" : "is missing:", found[1]);
+    for (uint64_t i = 0; i < count; i++) printf(" %d", callers[i]);
+    printf("\n");
+}
+
 static void run(const char *text) {
     static const char *const outcomes[] = {"ended", "stopped", "out", "error", "refused"};
-    uint64_t answer[QUERNHEM_ANSWER];
-    quernhem_run(bytes(text), strlen(text), bytes(input), strlen(input), space, SPACE, room, ROOM, BUDGET, tables, answer);
+    uint64_t answer[QUERNHEM_ANSWER], verdict[QUERNHEM_VERDICT];
+    quernhem_index(bytes(text), strlen(text), lines, verdict); /* refused: the words of an older text, which this run does not go by */
+    quernhem_run(bytes(text), strlen(text), bytes(input), strlen(input), space, SPACE, room, ROOM, lines, QUERNHEM_INDEX, BUDGET, tables,
+                 answer);
     fwrite(room, 1, answer[QUERNHEM_WRITTEN], stdout);
     printf("%s: number %" PRIu64 ", line %" PRIu64 ", place %" PRIu64 ", %" PRIu64 " steps, %" PRIu64 " bytes written, %" PRIu64 " taken\n",
            outcomes[answer[QUERNHEM_OUTCOME]], answer[QUERNHEM_NUMBER], answer[QUERNHEM_LINE], answer[QUERNHEM_PLACE],
@@ -60,6 +76,8 @@ int main(void) {
     ask("S");
     ask("NEW");
     ask("PRINT");
+    who_names(jumps, 40);
+    who_names(jumps, 60);
     check(faulty);
     run("no line number\n"); /* refused: the variables are still there */
     ask("L$");

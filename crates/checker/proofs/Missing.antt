@@ -51,6 +51,22 @@ module _ (text : List ℕ) {names : NamedLine} {n : LineNumber} (is : names ≡ 
   pub missing-found : {found : LineFound} → found ≡ findLine text n → not (isFound found) ≡ missing (linesOf text) names
   missing-found e = rw (is, e, found-present (n .0) (linesOf text))
 
+-- ---- what a statement names by itself
+
+names-itself : (b : Begun) (x : Statement) → Itself b x → (b ≡ bad → ⊥) → namesOf (begunAnswer b) ≡ namedLine x
+names-itself bad x h n = absurd (n refl)
+names-itself (done y t) x h n = sym (ap namedLine h)
+names-itself (choice c t) x h n = sym (h .1 .1)
+
+read-begins : (line : List ℕ) (p : ℕ) {own : Part} {end : Scanned} → partOf line true p ≡ goodPart own end → begunAt line true p ≡ bad → ⊥
+read-begins line p e b =
+    let f = sym (unrolled line true p) ∙ e in let g = rw b at f in never (cc)
+
+pub named-there : {line : List ℕ} {p : ℕ} {next : Start} {xs : List Part} {read : StatementRead} {named : NamedLine} (there : Visit line p next xs)
+    → read ≡ begunAnswer (begunAt line true p) → named ≡ namesOf read → named ≡ namedLine (headOf (there .own))
+named-there {line} {p} there is names =
+    names ∙ ap namesOf is ∙ names-itself (begunAt line true p) (headOf (there .own)) (there .itself) (read-begins line p (there .reads))
+
 -- ---- the walk over a line
 
 module _ (all : List Line) where
@@ -62,16 +78,6 @@ module _ (all : List Line) where
 
   pub line-noticed : (line : List ℕ) (part : Part) → judgement line ≡ holds part → Noticed line 0 (anyMissing all (statementsOf part))
   line-noticed line part e = record { parts = partsOf part; onto = line-onto line part (held line e); comes = refl }
-
-  -- what a statement names by itself
-  names-itself : (b : Begun) (x : Statement) → Itself b x → (b ≡ bad → ⊥) → namesOf (begunAnswer b) ≡ namedLine x
-  names-itself bad x h n = absurd (n refl)
-  names-itself (done y t) x h n = sym (ap namedLine h)
-  names-itself (choice c t) x h n = sym (h .1 .1)
-
-  read-begins : (line : List ℕ) (p : ℕ) {own : Part} {end : Scanned} → partOf line true p ≡ goodPart own end → begunAt line true p ≡ bad → ⊥
-  read-begins line p e b =
-      let f = sym (unrolled line true p) ∙ e in let g = rw b at f in never (cc)
 
   -- from the next statement on
   abbrev pub Later : List ℕ → Start → Bool → Type 0
@@ -92,8 +98,7 @@ module _ (all : List Line) where
     splits : missing all named || anyMissing all (heads (there .left)) ≡ v
     unfolding heads anyMissing
     splits =
-        ap (λ n. missing all n || anyMissing all (heads (there .left)))
-        (names ∙ ap namesOf is ∙ names-itself (begunAt line true p) (headOf (there .own)) (there .itself) (read-begins line p (there .reads)))
+        ap (λ n. missing all n || anyMissing all (heads (there .left))) (named-there there is names)
         ∙ ap (λ xs. anyMissing all (heads xs)) (sym (there .all))
         ∙ here .comes
 

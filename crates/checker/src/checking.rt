@@ -50,7 +50,7 @@ fn is_missing(text: &[u8], names: NamedLine) -> bool
 }
 
 // The line that a statement by itself names.
-fn named_by(read: StatementRead) -> NamedLine
+pub fn named_by(read: StatementRead) -> NamedLine
     ensures { λ r. ⌜ r ≡ namesOf read ⌝ }
 {
     match read {

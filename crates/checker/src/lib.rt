@@ -3,3 +3,4 @@ mod checking;
 
 pub use checking::Verdict;
 pub use checking::check_recipe;
+pub use checking::named_by;

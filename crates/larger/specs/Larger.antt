@@ -107,7 +107,7 @@ pub record BoxHadSpace (c : RunBox) : Type 0 where
 
 -- all seven words of the answer
 abbrev pub answerWords : RunBox → List ℕ
-answerWords c = c .left .1 .1 .1 .1 .1 .1 .0
+answerWords c = c .left .1 .1 .1 .1 .1 .1 .1 .0
 
 -- the same words, block and output, and the same bytes of the space, but for more zeros at its end
 pub record SameBox (c d : RunBox) : Type 0 where

@@ -11,6 +11,7 @@ use Rattle.loader.specs.declared.refusals.Refusal.the-variants.{
   NotRising,
   TooManyLines,
   ShortGroup,
+  TooManyPairs,
   NoRoom,
 }
 
@@ -24,4 +25,5 @@ refusalNumber BadNumber = 101
 refusalNumber NotRising = 102
 refusalNumber TooManyLines = 105
 refusalNumber ShortGroup = 108
+refusalNumber TooManyPairs = 109
 refusalNumber NoRoom = 110

@@ -12,6 +12,7 @@ pub enum Refusal {
     NotRising,
     TooManyLines,
     ShortGroup,
+    TooManyPairs,
     NoRoom,
 }
 
@@ -29,6 +30,7 @@ pub fn refusal_number(refusal: Refusal) -> u8
         Refusal::NotRising => 102,
         Refusal::TooManyLines => 105,
         Refusal::ShortGroup => 108,
+        Refusal::TooManyPairs => 109,
         Refusal::NoRoom => 110,
     }
 }

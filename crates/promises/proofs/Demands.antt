@@ -80,7 +80,7 @@ module _ (c : RunCall) where
 pub answers-always : answersAlways
 answers-always =
     record {
-      run = λ lifetimes passed. (_, (tt, (tt, (_, (_, (tt, (tt, tt)))))), (refl, (refl, refl)));
+      run = λ lifetimes passed. (_, (tt, (tt, (_, (_, (tt, (tt, (tt, tt))))))), (refl, (refl, refl)));
       check = λ lifetimes passed. (_, (tt, tt), refl);
       ask = λ lifetimes passed. (_, (tt, (tt, (tt, tt))), refl);
     }

@@ -43,6 +43,7 @@ use Rattle.loader.specs.declared.refusals.Refusal.the-variants.{
   NotRising,
   TooManyLines,
   ShortGroup,
+  TooManyPairs,
   NoRoom,
 }
 use Rattle.checker.specs.Check.{verdictNumber}
@@ -136,7 +137,8 @@ refusalOf n =
     (cond (eqb n 101) BadNumber
     (cond (eqb n 102) NotRising
     (cond (eqb n 105) TooManyLines
-    (cond (eqb n 108) ShortGroup NoRoom))))))))
+    (cond (eqb n 108) ShortGroup
+    (cond (eqb n 109) TooManyPairs NoRoom)))))))))
 
 refusal-back : (r : Refusal) → refusalOf (refusalNumber r) ≡ r
 unfolding refusalOf
@@ -149,6 +151,7 @@ refusal-back BadNumber = refl
 refusal-back NotRising = refl
 refusal-back TooManyLines = refl
 refusal-back ShortGroup = refl
+refusal-back TooManyPairs = refl
 refusal-back NoRoom = refl
 
 pub same-refusal : (q r : Refusal) → refusalNumber q ≡ refusalNumber r → q ≡ r
@@ -164,6 +167,7 @@ refusal-high BadNumber = omega arith
 refusal-high NotRising = omega arith
 refusal-high TooManyLines = omega arith
 refusal-high ShortGroup = omega arith
+refusal-high TooManyPairs = omega arith
 refusal-high NoRoom = omega arith
 
 -- none of them is what the check spares a run
@@ -177,6 +181,7 @@ refusal-spared BadNumber = refl
 refusal-spared NotRising = refl
 refusal-spared TooManyLines = refl
 refusal-spared ShortGroup = refl
+refusal-spared TooManyPairs = refl
 refusal-spared NoRoom = refl
 
 -- ---- how a run ended

@@ -11,7 +11,7 @@ use Rattle.asking.proofs as asking
 use Rattle.runner.proofs as runner
 use Rattle.host.proofs as host
 
--- ---- `run(text, input, space, room, budget, tables)`
+-- ---- `run(text, input, space, room, index, budget, tables)`
 
 abbrev pub RunCall : Type 0
 RunCall = Call runner.run.Kinds.ps runner.run.Kinds.r runner.run.Reads.Post
@@ -42,10 +42,10 @@ abbrev pub lentOf : RunCall → Lent
 lentOf c = lentBy (spaceBefore c) (roomBefore c)
 
 abbrev pub budgetOf : RunCall → ℕ
-budgetOf c = c .passed .1 .1 .1 .1 .0
+budgetOf c = c .passed .1 .1 .1 .1 .1 .0
 
 abbrev pub tablesBefore : RunCall → Tables
-tablesBefore c = c .passed .1 .1 .1 .1 .1 .0
+tablesBefore c = c .passed .1 .1 .1 .1 .1 .1 .0
 
 -- ---- `check_recipe(text)`
 
@@ -75,7 +75,7 @@ spaceHanded c = c .passed .1 .0 .now
 abbrev pub nameAsked : AskCall → List ℕ
 nameAsked c = c .passed .1 .1 .0 .now
 
--- ---- `quernhem_run(text, input, space, room, budget, tables, answer)`
+-- ---- `quernhem_run(text, input, space, room, index, budget, tables, answer)`
 
 abbrev pub RunBox : Type 0
 RunBox = Call host.quernhem_run.Kinds.ps host.quernhem_run.Kinds.r host.quernhem_run.Reads.Post
@@ -102,17 +102,17 @@ abbrev pub lentIn : RunBox → Lent
 lentIn c = lentBy (spaceIn c) (roomIn c)
 
 abbrev pub budgetIn : RunBox → ℕ
-budgetIn c = c .passed .1 .1 .1 .1 .0
+budgetIn c = c .passed .1 .1 .1 .1 .1 .0
 
 abbrev pub blockIn : RunBox → List ℕ
-blockIn c = c .passed .1 .1 .1 .1 .1 .0 .now
+blockIn c = c .passed .1 .1 .1 .1 .1 .1 .0 .now
 
 abbrev pub blockOut : RunBox → List ℕ
-blockOut c = c .left .1 .1 .1 .1 .1 .0
+blockOut c = c .left .1 .1 .1 .1 .1 .1 .0
 
 -- the words of the answer: outcome (4: refused), number, line, place, steps, bytes written, input bytes taken
 abbrev pub answerWord : RunBox → ℕ → ℕ
-answerWord c i = getD (c .left .1 .1 .1 .1 .1 .1 .0) i 0
+answerWord c i = getD (c .left .1 .1 .1 .1 .1 .1 .1 .0) i 0
 
 abbrev pub outcomeWord : RunBox → ℕ
 outcomeWord c = answerWord c 0

@@ -23,6 +23,7 @@ use Rattle.loader.specs.declared.refusals.Refusal.the-variants.{
   NotRising,
   TooManyLines,
   ShortGroup,
+  TooManyPairs,
   NoRoom,
 }
 use Rattle.variables.specs.Strings.{longestSpace}
@@ -62,9 +63,11 @@ pub data Applies (before : List Line) (line : Line) : Refusal → Place → Type
 
 -- ---- in the table's order, line by line
 
--- where a row stands in the table; 108, of a file that ends in a short group, and 110, of room that is too short, are tools' and no rows of it
+-- where a row stands in the table; 108, of a file that ends in a short group, 109, of a text with too many pairs for an index, and 110, of room
+-- that is too short, are tools' and no rows of it
 abbrev pub rowOf : Refusal → ℕ
 rowOf ShortGroup = 0
+rowOf TooManyPairs = 0
 rowOf NoRoom = 0
 rowOf NoVariable = 1
 rowOf SpaceTooLong = 2

@@ -69,7 +69,7 @@ pub fn run_checked(
         ⌝ }
 {
     match check_recipe(text) {
-        Verdict::Passed => let_through(run(text, input, space, room, budget, tables)),
+        Verdict::Passed => let_through(run(text, input, space, room, &[], budget, tables)),
         Verdict::Refused(refusal, place) => held(Verdict::Refused(refusal, place), tables),
         Verdict::Faulty(error, line) => held(Verdict::Faulty(error, line), tables),
     }

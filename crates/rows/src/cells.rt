@@ -22,7 +22,7 @@ impl Row {
 
     pub(crate) const VERDICT: usize = 5;
 
-    pub(crate) const WIDTH: usize = 6;
+    pub const WIDTH: usize = 6;
 
     pub const CELLS: usize = 1 + Row::WIDTH * Loaded::MOST_LINES;
 

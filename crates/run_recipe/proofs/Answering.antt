@@ -1,5 +1,5 @@
 -- What is to be written of a run follows from what the runner answers.
-use mathlib.Core.Path.{_≡_, ap, _∙_}
+use mathlib.Core.Path.{_≡_, refl, sym, ap, _∙_}
 use mathlib.Core.List.{List, _++_}
 use Prim.Native.Nat.{ℕ, _≤_}
 use native.Mathlib.Omega.{arith}
@@ -11,6 +11,10 @@ use Rattle.whole.specs.Bytes.{bytes}
 use Rattle.whole.specs.Texts.{held}
 use Rattle.whole.specs.declared.texts.Text.{Text}
 use Rattle.variables.specs.declared.tables.Tables.{Tables}
+use Rattle.index.specs.Index.{indexWords, indexedOf, heldAfter, indexAfter}
+use Rattle.index.specs.declared.making.Indexed.{Indexed}
+use Rattle.index.specs.declared.making.Indexed.the-variants as indexed
+use Rattle.index.proofs.Owning.{made-long}
 use Rattle.runner.specs.Run.{Ran, answerOf, roomAfter}
 use Rattle.runner.specs.declared.running.Ran as code
 use Rattle.runner.specs.declared.running.Outcome.{Outcome}
@@ -25,6 +29,14 @@ short-word (Stopped l) = omega arith
 short-word (Out l) = omega arith
 short-word (Failed e l) = omega arith
 short-word (Refused r p) = omega arith
+
+-- the words that a run is handed are as many as an index has, made or not
+handed-by : (text before : List ℕ) (i : Indexed) → indexedOf text ≡ i → length before ≡ indexWords → length (heldAfter text before i) ≡ indexWords
+handed-by text before indexed.Fine e h = ap (λ i. length (heldAfter text before i)) (sym e) ∙ made-long text before e refl
+handed-by text before (indexed.Refused r p) e h = h
+
+pub handed-long : (text before : List ℕ) {own : List ℕ} → length before ≡ indexWords → own ≡ indexAfter text before → length own ≡ indexWords
+handed-long text before h o = ap length o ∙ handed-by text before (indexedOf text) refl h
 
 -- the output stands in front of the room
 front-counts : (l rest : List ℕ) → Counts (length l) (l ++ rest)

@@ -7,6 +7,8 @@ ghost use Rattle.run_recipe.specs.Answers.{wordOf, standingIn, lastLine,
 use console::end_line;
 use console::put_bytes;
 use console::put_field;
+use index::Indexed;
+use index::index_of;
 use loader::refusal_number;
 use runner::Outcome;
 use runner::run;
@@ -69,7 +71,7 @@ fn line_of(outcome: Outcome, steps: u32) -> Text
     end_line(counted)
 }
 
-// Runs the recipe over the space and the room.
+// Runs the recipe over the space and the room. The run is handed the recipe's index; where there is none, words that are not taken for one.
 pub(crate) fn answer_of(
     text: &[u8],
     input: &[u8],
@@ -82,7 +84,9 @@ pub(crate) fn answer_of(
         r (now (room .exit))
         ⌝ }
 {
-    let ran = run(text, input, space, room, budget, Tables::empty());
+    let mut index = [0; Indexed::WORDS];
+    index_of(text, &mut index);
+    let ran = run(text, input, space, room, &index, budget, Tables::empty());
     let outcome = ran.outcome;
     let line = line_of(outcome, ran.steps);
     Answer {

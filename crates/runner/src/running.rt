@@ -23,6 +23,7 @@ use crate::going::seeks;
 use crate::going::slot_of;
 use crate::going::told;
 use crate::going::topmost;
+use index::rows_by;
 use loader::Loaded;
 use loader::Refusal;
 use loader::load;
@@ -34,7 +35,6 @@ use machine::record_at;
 use machine::with_record;
 use rows::Row;
 use rows::Rows;
-use rows::make_rows;
 use variables::NameTable;
 use variables::Numbers;
 use variables::Strings;
@@ -157,12 +157,13 @@ fn run_loaded(
     told(rows, going, space)
 }
 
-// Each line is found and judged once.
+// The table of lines is an index's, if it is this text's; else each line is found and judged once.
 fn run_fine(
     text: &[u8],
     input: &[u8],
     space: &mut [u8],
     room: &mut [u8],
+    index: &[u16],
     budget: u32,
     names: &mut NameTable,
     words: &mut [u16; Tables::MOST],
@@ -176,7 +177,7 @@ fn run_fine(
         ⌝ }
 {
     let mut rows = [0; Row::CELLS];
-    make_rows(text, &mut rows);
+    rows_by(text, index, &mut rows);
     run_loaded(
         text,
         &rows,
@@ -232,12 +233,13 @@ fn refused(before: Before) -> Done
     }
 }
 
-// A run over tables that are lent, whatever they hold: a refusal leaves them as they were.
+// A run over tables that are lent, whatever they hold: a refusal leaves them as they were. No index changes its answer.
 pub fn run_lent(
     text: &[u8],
     input: &[u8],
     space: &mut [u8],
     room: &mut [u8],
+    index: &[u16],
     budget: u32,
     names: &mut NameTable,
     words: &mut [u16; Tables::MOST],
@@ -264,6 +266,7 @@ pub fn run_lent(
         input,
         space,
         room,
+        index,
         budget,
         names,
         words,
@@ -278,6 +281,7 @@ pub fn run(
     input: &[u8],
     space: &mut [u8],
     room: &mut [u8],
+    index: &[u16],
     budget: u32,
     tables: Tables,
 ) -> Ran
@@ -296,6 +300,7 @@ pub fn run(
         input,
         space,
         room,
+        index,
         budget,
         &mut names,
         &mut words,

@@ -171,7 +171,7 @@ fn old_tables() -> Tables {
 }
 
 fn run_in(text: &[u8], input: &[u8], space: &mut [u8], room: &mut [u8], budget: u32) {
-    let ran = run(text, input, space, room, budget, old_tables());
+    let ran = run(text, input, space, room, &[], budget, old_tables());
     show(ran, space, room);
 }
 

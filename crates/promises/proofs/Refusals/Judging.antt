@@ -17,7 +17,7 @@ use Rattle.loader.specs.Loading.{isPlain, mostLines, numbered, withNumber, judg
 use Rattle.loader.specs.declared.loading.Judged.{Judged}
 use Rattle.loader.specs.declared.loading.Judged.the-variants.{Good, Bad}
 use Rattle.loader.specs.declared.refusals.Refusal.{Refusal}
-use Rattle.loader.specs.declared.refusals.Refusal.the-variants.{NoVariable, SpaceTooLong, TextTooLong, LineTooLong, ForeignByte, BadNumber, NotRising, TooManyLines, ShortGroup, NoRoom}
+use Rattle.loader.specs.declared.refusals.Refusal.the-variants.{NoVariable, SpaceTooLong, TextTooLong, LineTooLong, ForeignByte, BadNumber, NotRising, TooManyLines, ShortGroup, TooManyPairs, NoRoom}
 use Rattle.promises.specs.Refusals.{Plain, AllPlain, beginsWithDigit, Applies, tooLong, foreign, unnumbered, numberTooLarge, notRising, tooMany, rowOf, NoneApplies}
 use Rattle.promises.proofs.Refusals.Rows.{front-of, front-counted, digits-first, floorOf, floor-last, below-floor}
 
@@ -40,6 +40,7 @@ offsetIn l BadNumber = 0
 offsetIn l NotRising = 0
 offsetIn l TooManyLines = 0
 offsetIn l ShortGroup = 0
+offsetIn l TooManyPairs = 0
 offsetIn l NoRoom = 0
 
 module _ (before : List Line) (l : Line) where
@@ -104,6 +105,7 @@ module _ (before : List Line) (l : Line) where
         after-101 SpaceTooLong p a = absurd (omega (arith, after-104 SpaceTooLong p a))
         after-101 TextTooLong p a = absurd (omega (arith, after-104 TextTooLong p a))
         after-101 ShortGroup p a = absurd (omega (arith, after-104 ShortGroup p a))
+        after-101 TooManyPairs p a = absurd (omega (arith, after-104 TooManyPairs p a))
         after-101 NoRoom p a = absurd (omega (arith, after-104 NoRoom p a))
 
         module _ (rises : floorOf before ≤ leadingValue (l .bytes)) where
@@ -121,6 +123,7 @@ module _ (before : List Line) (l : Line) where
           after-102 SpaceTooLong p a = absurd (omega (arith, after-101 SpaceTooLong p a))
           after-102 TextTooLong p a = absurd (omega (arith, after-101 TextTooLong p a))
           after-102 ShortGroup p a = absurd (omega (arith, after-101 ShortGroup p a))
+          after-102 TooManyPairs p a = absurd (omega (arith, after-101 TooManyPairs p a))
           after-102 NoRoom p a = absurd (omega (arith, after-101 NoRoom p a))
 
           not-105 : length before < mostLines → (p : Place) → Applies before l TooManyLines p → ⊥
@@ -136,6 +139,7 @@ module _ (before : List Line) (l : Line) where
           after-105 few SpaceTooLong p a = omega (arith, after-102 SpaceTooLong p a)
           after-105 few TextTooLong p a = omega (arith, after-102 TextTooLong p a)
           after-105 few ShortGroup p a = omega (arith, after-102 ShortGroup p a)
+          after-105 few TooManyPairs p a = omega (arith, after-102 TooManyPairs p a)
           after-105 few NoRoom p a = omega (arith, after-102 NoRoom p a)
 
         judge-numbered : Judges before l (numbered (leadingValue (l .bytes)) (length before) (floorOf before))

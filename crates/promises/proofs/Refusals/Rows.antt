@@ -13,7 +13,7 @@ use Rattle.words.proofs.Choices.{by-test, both}
 use Rattle.loader.specs.Lines.{Line}
 use Rattle.loader.specs.Loading.{isPlain}
 use Rattle.loader.specs.declared.refusals.Refusal.{Refusal}
-use Rattle.loader.specs.declared.refusals.Refusal.the-variants.{NoVariable, SpaceTooLong, TextTooLong, LineTooLong, ForeignByte, BadNumber, NotRising, TooManyLines, ShortGroup, NoRoom}
+use Rattle.loader.specs.declared.refusals.Refusal.the-variants.{NoVariable, SpaceTooLong, TextTooLong, LineTooLong, ForeignByte, BadNumber, NotRising, TooManyLines, ShortGroup, TooManyPairs, NoRoom}
 use Rattle.promises.specs.Refusals.{Plain, AllPlain, beginsWithDigit, rowOf}
 
 -- ---- rows
@@ -32,6 +32,7 @@ rowAt (suc (suc (suc (suc (suc (suc (suc (suc n)))))))) = TooManyLines
 
 row-back : (r : Refusal) → 0 < rowOf r → rowAt (rowOf r) ≡ r
 row-back ShortGroup h = absurd (omega arith)
+row-back TooManyPairs h = absurd (omega arith)
 row-back NoRoom h = absurd (omega arith)
 row-back NoVariable h = refl
 row-back SpaceTooLong h = refl

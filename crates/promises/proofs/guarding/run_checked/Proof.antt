@@ -7,10 +7,11 @@ use Rattle.promises.proofs.guarding.run_checked.Tie as tie
 
 returns : tie.Need-returns
 returns c =
-    let r = c .before .before .before .before .before in let v = r .before .before .before .before .before in
+    let r = c .before .before .before .before .before in
+    let v = r .before .before .before .before .before .before in
     let a = v .before .before .before .before .before .args in
     passed-run (a .text .now) (a .input .now) (a .space .now) (a .room .now) (a .budget) (a .tables)
-    (sym (v .check-recipe .ensures) ∙ r .before .before .before .enum-told .given .1) (r .run .ensures) (c .let-through .ensures)
+    (sym (v .check-recipe .ensures) ∙ r .before .before .before .before .enum-told .given .1) (r .run .ensures) (c .let-through .ensures)
 
 returns-2 : tie.Need-returns-2
 returns-2 c =
@@ -27,6 +28,7 @@ run-checked-spec =
     tie.close
     (tie.spec
     (λ c κs. search needs)
+    (λ c. search needs)
     (λ c. search needs)
     (λ c κs. search needs)
     (λ c κs. search needs)

@@ -11,14 +11,14 @@ use Rattle.runner.proofs.running.run.Tie as tie
 returns : tie.Need-returns
 returns c =
     let r = c .before .before .before .before .before .before .run-lent in
-    let a = c .before .before .before .before .before .before .before .before .before .before .before .before .before .before .before .before .before .args in
+    let a = c .before .before .before .before .before .before .before .before .before .before .before .before .before .before .before .before .before .before .args in
     let ran = runOf (a .text .now) (a .input .now) (lentBy (a .space .now) (a .room .now)) (a .budget) in
     (handed-back ran emptyTables (a .tables) (r .result) _ _ _ _ (r .ensures .0) (sym (c .before .is-refused .ensures) ∙ c .if1 .taken), r .ensures .1)
 
 returns-2 : tie.Need-returns-2
 returns-2 c =
     let r = c .before .before .before .before .before .before .run-lent in
-    let a = c .before .before .before .before .before .before .before .before .before .before .before .before .before .before .before .before .before .args in
+    let a = c .before .before .before .before .before .before .before .before .before .before .before .before .before .before .before .before .before .before .args in
     let ran = runOf (a .text .now) (a .input .now) (lentBy (a .space .now) (a .room .now)) (a .budget) in
     (made-anew ran emptyTables (a .tables) (r .result) _ _ _ _ (r .ensures .0) (sym (c .before .is-refused .ensures) ∙ c .if1 .left), r .ensures .1)
 

@@ -12,7 +12,7 @@ returns c =
 
 run-fine-requires : tie.Need-run-fine-requires
 run-fine-requires c κs =
-    let a = c .before .before .before .before .before .before .before .before .before .before .before .before .before .before .before .before .before .args in
+    let a = c .before .before .before .before .before .before .before .before .before .before .before .before .before .before .before .before .before .before .args in
     let e = before-fine (a .text .now) (a .space .now) (c .before .before .before .before .before .before .before .before .before .before .before .before .refusal-of .ensures) (not-false _ (c .before .before .before .before .before .before .before .before .before .before .if1 .left)) in
     (e .0, (e .1, record { noNames = refl; noWords = refl; noLabels = refl; noLengths = refl }))
 

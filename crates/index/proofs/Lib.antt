@@ -1,0 +1,14 @@
+pub mod Strides
+pub mod Calling
+pub mod Laying
+pub mod Noting
+pub mod Walking
+pub mod Rowing
+pub mod Lining
+pub mod Tabling
+pub mod Made
+pub mod Indexing
+pub mod Once
+pub mod Answering
+pub mod Owning
+pub mod Unique
