@@ -25,9 +25,10 @@ extern "C" {
 /* How many bytes of stack to keep for a call. */
 #define QUERNHEM_STACK 65536
 
-/* The largest string space and text: a larger one is refused. */
+/* The largest string space and text, and the most records: more are refused. */
 #define QUERNHEM_SPACE 16384
 #define QUERNHEM_TEXT 16384
+#define QUERNHEM_RECORDS 256
 
 /* ---- Running a recipe ------------------------------------------------------------------------------------------------------------ */
 
@@ -44,6 +45,14 @@ enum {
     QUERNHEM_NUMBER_COUNT = 5312, /* how many number variables there are */
     QUERNHEM_STRING_COUNT = 5313  /* and how many string variables */
 };
+
+/* A record: what a FOR, a GOSUB or a WHILE leaves until it is done with. The host lends an array of them, aligned as C aligns it, and need not
+ * look into it. Numbers alone, with no byte between them: 48 bytes on x86-64. */
+typedef struct {
+    uint8_t kind, over;
+    uint16_t limit, step, spare;
+    size_t slot, line, at, ending, close;
+} quernhem_record;
 
 /* The answer of a run: so many words, and which is which. */
 #define QUERNHEM_ANSWER 7
@@ -68,18 +77,20 @@ enum {
 
 /* Runs a recipe on an input, for at most `budget` statements.
  *
- * Read: text, input, index. Changed: space, room, tables and answer. Whatever they held before the run does not matter to it.
+ * Read: text, input, index. Changed: space, room, records, tables and answer. Whatever they held before the run does not matter to it.
  * - answer: always, all seven words.
  * - space: the string space. After a run that was not refused it holds the string variables' bytes, joined in order of first assignment,
  *   and zeros after them.
  * - room: for the output. Its first answer[QUERNHEM_WRITTEN] bytes are the output, and the others are as they were.
  * - tables: after a run that was not refused, the variables of this run.
+ * - records: for FOR, GOSUB and WHILE, 0 to QUERNHEM_RECORDS of them. Where all are taken, one more is error 7. After a run that was not refused
+ *   all are zeros, to the last byte. Over QUERNHEM_RECORDS is refused (107), after 106 and before 100.
  * - index: QUERNHEM_INDEX words of quernhem_index, or none: length 0. The run tests whether they are the index of this text, and goes by
  *   their lines then; whatever they hold and however many there are, it answers the same.
- * A refused run leaves space, room and tables as they were, to the last byte. */
+ * A refused run leaves space, room, records and tables as they were, to the last byte. */
 void quernhem_run(const uint8_t *text, size_t text_len, const uint8_t *input, size_t input_len,
                   uint8_t *space, size_t space_len, uint8_t *room, size_t room_len,
-                  const uint16_t *index, size_t index_len,
+                  const uint16_t *index, size_t index_len, quernhem_record *records, size_t records_len,
                   uint32_t budget, uint8_t *tables, uint64_t *answer);
 
 /* ---- Checking a recipe ----------------------------------------------------------------------------------------------------------- */
@@ -193,6 +204,7 @@ enum {
     QUERNHEM_FOREIGN_BYTE = 104,
     QUERNHEM_TOO_MANY_LINES = 105,
     QUERNHEM_SPACE_TOO_LONG = 106, /* of a run */
+    QUERNHEM_STACK_TOO_LONG = 107, /* of a run */
     QUERNHEM_TOO_MANY_PAIRS = 109, /* of an index */
     QUERNHEM_NO_ROOM = 110,        /* of a buffer to receive in */
     QUERNHEM_NO_VARIABLE = 111     /* of a question */

@@ -4,8 +4,10 @@ import struct
 from started import ROOT
 
 CHECK, RUN = 0, 1
-# kind, how long the text and the input are, and what is lent: string space, room for output, budget
-HEAD = struct.Struct('<B5I')
+# kind, how long the text and the input are, and what is lent: string space, room for output, budget, records
+HEAD = struct.Struct('<B6I')
+# run_recipe takes no more records than this: one too many is as good as any more
+MOST_RECORDS = 257
 CASES, ANSWERS = (os.path.join(ROOT, 'crates/vectors', name) for name in ('stdin', 'stdout'))
 
 
@@ -28,6 +30,12 @@ def run_output(outcome, number, at, steps, printed):
     return printed + line(outcome, number, at, steps)
 
 
+def asked(lent):
+    """What is lent, as run_recipe is asked for it."""
+    *others, records = lent
+    return [*others, min(records, MOST_RECORDS)]
+
+
 def answered():
     """The same, but what run_recipe or check_recipe must write for the row."""
     for kind, text, taken, lent, row in stored():
@@ -38,4 +46,4 @@ def answered():
         else:
             number, at, refused_at, steps = numbers[:4]
             printed = bytes(numbers[7:7 + numbers[6]])
-            yield RUN, text, taken, lent, run_output(word, number, refused_at if word == 'refused' else at, steps, printed)
+            yield RUN, text, taken, asked(lent), run_output(word, number, refused_at if word == 'refused' else at, steps, printed)

@@ -3,7 +3,7 @@
  * usage: cases <CASES
  *
  * Writes an answer a line. Every variable is asked for too, and every run is made again by its own index and by that of another text; where
- * something disagrees, the line says so. */
+ * something disagrees, or the records are not as they must be, the line says so. */
 #include "trials.h"
 
 #include <inttypes.h>
@@ -101,13 +101,15 @@ static uint8_t *old_tables(void) {
 
 typedef struct {
     uint8_t *space, *room, *tables;
+    quernhem_record *records;
     uint64_t answer[QUERNHEM_ANSWER];
 } Ran;
 
 static Ran run_by(const Stored *stored, const uint16_t *index, size_t index_len) {
-    Ran ran = {filled(stored->space_len, OLD), filled(stored->room_len, OLD), old_tables(), {0}};
+    size_t records_size = stored->records_len * sizeof(quernhem_record);
+    Ran ran = {filled(stored->space_len, OLD), filled(stored->room_len, OLD), old_tables(), (void *)filled(records_size, OLD), {0}};
     quernhem_run(stored->text, stored->text_len, stored->input, stored->input_len, ran.space, stored->space_len, ran.room, stored->room_len, index,
-                 index_len, stored->budget, ran.tables, ran.answer);
+                 index_len, ran.records, stored->records_len, stored->budget, ran.tables, ran.answer);
     return ran;
 }
 
@@ -115,15 +117,25 @@ static void free_run(Ran *ran) {
     free(ran->space);
     free(ran->room);
     free(ran->tables);
+    free(ran->records);
 }
 
 /* By another index it is the same run. */
 static void run_again(const Stored *stored, const Ran *ran, const uint16_t *index, const char *whose) {
     Ran again = run_by(stored, index, QUERNHEM_INDEX);
     if (memcmp(ran->answer, again.answer, sizeof again.answer) || memcmp(ran->space, again.space, stored->space_len) ||
-        memcmp(ran->room, again.room, stored->room_len) || memcmp(ran->tables, again.tables, QUERNHEM_TABLES))
+        memcmp(ran->room, again.room, stored->room_len) || memcmp(ran->tables, again.tables, QUERNHEM_TABLES) ||
+        memcmp(ran->records, again.records, stored->records_len * sizeof(quernhem_record)))
         printf("another run by %s index ", whose);
     free_run(&again);
+}
+
+/* Every byte of the records is this one. */
+static int all_are(const quernhem_record *records, size_t count, uint8_t byte) {
+    const uint8_t *bytes = (const void *)records;
+    for (size_t i = 0; i < count * sizeof *records; i++)
+        if (bytes[i] != byte) return 0;
+    return 1;
 }
 
 static void show_run(const Stored *stored, const Ran *ran) {
@@ -138,6 +150,7 @@ static void show_run(const Stored *stored, const Ran *ran) {
     show_numbers(ran->tables);
     show_strings(ran->tables);
     if (!refused) ask_all(ran->tables, ran->space, stored->space_len);
+    if (!all_are(ran->records, stored->records_len, refused ? OLD : 0)) printf("other records ");
 }
 
 /* With no index, with its own, and with that of the text before it. */

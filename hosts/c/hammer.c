@@ -1,4 +1,4 @@
-/* Feeds the library random and damaged recipes, whole and in random parts, inputs, sizes, indexes, tables, receipts and names, and holds it to what
+/* Feeds the library random and damaged recipes, whole and in random parts, inputs, sizes, indexes, records, tables, receipts and names, and holds it to what
  * its header says.
  *
  * usage: hammer ROUNDS [SEED] <CASES     (the cases' recipes are damaged here)
@@ -23,7 +23,7 @@ static void expect_answer(const uint64_t *a, uint32_t budget) {
     int refused = outcome == QUERNHEM_REFUSED;
     expect(outcome <= QUERNHEM_REFUSED, "no such outcome");
     expect(outcome != QUERNHEM_ERROR || is_error(number), "no such error");
-    expect(!refused || (number >= QUERNHEM_TEXT_TOO_LONG && number <= QUERNHEM_SPACE_TOO_LONG), "no such refusal");
+    expect(!refused || (number >= QUERNHEM_TEXT_TOO_LONG && number <= QUERNHEM_STACK_TOO_LONG), "no such refusal");
     expect(outcome >= QUERNHEM_ERROR || !number, "a number where none applies");
     expect(a[QUERNHEM_LINE] <= 65529 && ((outcome != QUERNHEM_ENDED && !refused) || !a[QUERNHEM_LINE]), "no such line");
     expect(refused ? a[QUERNHEM_PLACE] <= text.len : !a[QUERNHEM_PLACE], "no such place");
@@ -48,27 +48,42 @@ static void expect_tables(void) {
     expect_zeros(&space, used, space.len, "it is not zero after the strings");
 }
 
+/* How many records the runs of a round are lent. */
+static size_t records_len;
+
+/* 106 is told before 107, and 107 before what the text is refused for. */
+static void expect_order(const uint64_t *a) {
+    int long_space = space.len > QUERNHEM_SPACE, long_stack = records_len > QUERNHEM_RECORDS, refused = a[QUERNHEM_OUTCOME] == QUERNHEM_REFUSED;
+    uint64_t number = refused ? a[QUERNHEM_NUMBER] : 0;
+    expect((number == QUERNHEM_SPACE_TOO_LONG) == long_space, "106 for another reason, or not at once");
+    expect((number == QUERNHEM_STACK_TOO_LONG) == (long_stack && !long_space), "107 for another reason, or not at once");
+}
+
 static void expect_run(size_t space_len, size_t room_len, uint32_t budget, uint64_t into[QUERNHEM_ANSWER]) {
     lend_random(&space, space_len);
     lend_random(&room, room_len);
     lend_random(&tables, QUERNHEM_TABLES);
+    lend_random(&records, records_len * sizeof(quernhem_record));
     lend_index();
     uint64_t *a = lend_words(&answer, QUERNHEM_ANSWER);
     keep_all();
     quernhem_run(text.lent, text.len, input.lent, input.len, space.lent, space.len, room.lent, room.len, words_of(&lines), lines.len / WORD,
-                 budget, tables.lent, a);
+                 (quernhem_record *)(void *)records.lent, records_len, budget, tables.lent, a);
     memcpy(into, a, 8 * QUERNHEM_ANSWER);
     expect_guards();
     expect_kept(&text, 0);
     expect_kept(&input, 0);
     expect_kept(&lines, 0);
     expect_answer(a, budget);
+    expect_order(a);
     expect_kept(&room, (size_t)a[QUERNHEM_WRITTEN]);
     if (a[QUERNHEM_OUTCOME] == QUERNHEM_REFUSED) {
         expect_kept(&space, 0);
         expect_kept(&tables, 0);
+        expect_kept(&records, 0);
     } else {
         expect_tables();
+        expect_zeros(&records, 0, records.len, "a record is not zeros");
     }
 }
 
@@ -85,7 +100,7 @@ static void expect_fewer(size_t space_len, size_t room_len) {
            "a smaller budget writes something else");
 }
 
-/* A run depends on nothing but its text, its input, its sizes and its budget: on no index. */
+/* A run depends on nothing but its text, its input, its sizes and its budget: on no index, and on nothing that a record held. */
 static void expect_again(size_t space_len, size_t room_len, uint32_t budget) {
     uint64_t again[QUERNHEM_ANSWER];
     memcpy(first_space, space.lent, space_len);
@@ -111,12 +126,12 @@ static void expect_check(size_t space_len) {
     expect_kept(&text, 0);
     uint64_t fault_number = v[QUERNHEM_VERDICT_NUMBER];
     int loading = v[QUERNHEM_FAULTY] && fault_number >= QUERNHEM_TEXT_TOO_LONG;
-    int refused = first[QUERNHEM_OUTCOME] == QUERNHEM_REFUSED && number != QUERNHEM_SPACE_TOO_LONG;
+    int refused = first[QUERNHEM_OUTCOME] == QUERNHEM_REFUSED && number < QUERNHEM_SPACE_TOO_LONG;
     int kept_out = number == QUERNHEM_SYNTAX || number == QUERNHEM_UNDEFINED_LINE || number == QUERNHEM_TYPE_MISMATCH ||
                    number == QUERNHEM_FORMULA_TOO_COMPLEX;
     expect(v[QUERNHEM_FAULTY] <= 1, "no such verdict");
     expect(v[QUERNHEM_FAULTY] || !(fault_number | v[QUERNHEM_VERDICT_LINE] | v[QUERNHEM_VERDICT_PLACE]), "passed, with a number");
-    expect(space_len > QUERNHEM_SPACE || loading == refused, "the check and the run load otherwise");
+    expect(space_len > QUERNHEM_SPACE || records_len > QUERNHEM_RECORDS || loading == refused, "the check and the run load otherwise");
     expect(!refused || (number == fault_number && place == v[QUERNHEM_VERDICT_PLACE]), "the check and the run refuse otherwise");
     expect(v[QUERNHEM_FAULTY] || first[QUERNHEM_OUTCOME] != QUERNHEM_ERROR || !kept_out, "what passed fails with an error of the check");
 }
@@ -186,11 +201,17 @@ static void expect_strange_question(size_t space_len) {
 
 /* ---- rounds */
 
+static size_t a_stack(void) {
+    static const size_t lengths[] = {0, 1, 4, 32, 200, QUERNHEM_RECORDS, QUERNHEM_RECORDS + 1};
+    return below(2) ? ANY(lengths) : below(40);
+}
+
 static size_t a_size(size_t most) { return below(4) ? below(100) : below(most + 1); }
 
 static void play_round(void) {
     size_t space_len = a_size(PAGES * PAGE), room_len = a_size(PAGE);
     uint32_t budget = (uint32_t)below(below(4) ? 40 : 400);
+    records_len = a_stack();
     lend_recipe();
     lend_input();
     expect_run(space_len, room_len, budget, first);

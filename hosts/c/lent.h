@@ -39,6 +39,9 @@ static void expect(int holds, const char *what) {
 
 enum { PAGE = 4096, PAGES = 5, GUARD = 0xA5 };
 
+/* A record more than may be lent fits in the pages. */
+_Static_assert((QUERNHEM_RECORDS + 1) * sizeof(quernhem_record) <= PAGES * PAGE, "the records fit");
+
 /* Pages between two that can't be touched. What is lent stands at the one end of them or at the other, and guard bytes fill the rest; a
  * copy is kept of it. */
 typedef struct {
@@ -50,9 +53,9 @@ typedef struct {
 static Arena text = {.what = "text"}, input = {.what = "input"}, space = {.what = "space"}, room = {.what = "room"};
 static Arena tables = {.what = "tables"}, answer = {.what = "answer"}, verdict = {.what = "verdict"}, name = {.what = "name"};
 static Arena found = {.what = "found"}, buffer = {.what = "buffer"}, receipt = {.what = "receipt"}, part = {.what = "part"};
-static Arena lines = {.what = "index"}, callers = {.what = "callers"};
+static Arena lines = {.what = "index"}, callers = {.what = "callers"}, records = {.what = "records"};
 static Arena *const arenas[] = {&text, &input, &space, &room, &tables, &answer, &verdict, &name, &found, &buffer, &receipt, &part,
-                               &lines, &callers};
+                               &lines, &callers, &records};
 enum { ARENAS = sizeof arenas / sizeof *arenas };
 
 static uint8_t guards[PAGES * PAGE];

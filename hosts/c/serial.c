@@ -8,11 +8,12 @@
 #include <stdio.h>
 #include <unistd.h>
 
-enum { LINE = STDIN_FILENO, PART = 16, SPACE = 64, ROOM = 256, BUDGET = 1000 };
+enum { LINE = STDIN_FILENO, PART = 16, SPACE = 64, ROOM = 256, RECORDS = 4, BUDGET = 1000 };
 
 /* What a box keeps for its recipes. */
 static uint8_t buffer[QUERNHEM_TEXT], space[SPACE], room[ROOM], tables[QUERNHEM_TABLES];
 static uint64_t verdict[QUERNHEM_VERDICT];
+static quernhem_record records[RECORDS];
 static const uint16_t no_index[1]; /* it jumps by the table that each run makes for itself */
 
 /* Receives a text up to the line's end, and says whether it did; the verdict then says whether the text is a recipe. */
@@ -34,7 +35,7 @@ static int receive(size_t *text_len) {
 
 static void run(size_t text_len) {
     uint64_t answer[QUERNHEM_ANSWER];
-    quernhem_run(buffer, text_len, buffer, 0, space, SPACE, room, ROOM, no_index, 0, BUDGET, tables, answer);
+    quernhem_run(buffer, text_len, buffer, 0, space, SPACE, room, ROOM, no_index, 0, records, RECORDS, BUDGET, tables, answer);
     fwrite(room, 1, answer[QUERNHEM_WRITTEN], stdout);
     printf("outcome %" PRIu64 " after %" PRIu64 " steps\n", answer[QUERNHEM_OUTCOME], answer[QUERNHEM_STEPS]);
 }

@@ -17,13 +17,15 @@ static const uint64_t paint = 0xA5A5A5A5A5A5A5A5;
 
 static uint64_t stack[STACK_WORDS], answer[QUERNHEM_ANSWER], verdict[QUERNHEM_VERDICT], found[QUERNHEM_FOUND], receipt[QUERNHEM_RECEIPT];
 static uint8_t space[QUERNHEM_SPACE], room[QUERNHEM_SPACE], tables[QUERNHEM_TABLES], buffer[QUERNHEM_TEXT];
+static quernhem_record records[QUERNHEM_RECORDS];
 static uint16_t lines[QUERNHEM_INDEX], callers[QUERNHEM_CALLERS];
 static const uint8_t *text, *input;
 static size_t text_len, input_len;
 
 /* Under the index that stands there: of the text before, as often as not. */
 static void run(void) {
-    quernhem_run(text, text_len, input, input_len, space, sizeof space, room, sizeof room, lines, QUERNHEM_INDEX, BUDGET, tables, answer);
+    quernhem_run(text, text_len, input, input_len, space, sizeof space, room, sizeof room, lines, QUERNHEM_INDEX, records,
+                 QUERNHEM_RECORDS, BUDGET, tables, answer);
 }
 static void check(void) { quernhem_check(text, text_len, verdict); }
 static void begin(void) { quernhem_begin(buffer, sizeof buffer, receipt, verdict); }

@@ -8,12 +8,12 @@
 #include <stdlib.h>
 #include <string.h>
 
-/* A stored case is a kind, five numbers of four bytes each, the low one first, and its recipe and input: how long the recipe and the input
- * are, how many bytes of string space and of room for output are lent, and the budget. */
+/* A stored case is a kind, six numbers of four bytes each, the low one first, and its recipe and input: how long the recipe and the input
+ * are, how many bytes of string space and of room for output are lent, the budget, and how many records are lent. */
 typedef struct {
     int is_check;
     uint8_t *text, *input;
-    size_t text_len, input_len, space_len, room_len;
+    size_t text_len, input_len, space_len, room_len, records_len;
     uint32_t budget;
 } Stored;
 
@@ -39,7 +39,7 @@ static inline uint8_t *filled(size_t len, uint8_t byte) {
 
 /* The next case of standard input; 0 where none is left. */
 static inline int next_stored(Stored *stored) {
-    uint8_t head[21];
+    uint8_t head[25];
     if (fread(head, 1, sizeof head, stdin) != sizeof head) return 0;
     stored->is_check = head[0] == 0;
     stored->text_len = number_at(head + 1);
@@ -47,6 +47,7 @@ static inline int next_stored(Stored *stored) {
     stored->space_len = number_at(head + 9);
     stored->room_len = number_at(head + 13);
     stored->budget = number_at(head + 17);
+    stored->records_len = number_at(head + 21);
     stored->text = take_in(stored->text_len);
     stored->input = take_in(stored->input_len);
     return 1;

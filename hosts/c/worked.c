@@ -5,7 +5,7 @@
 #include <stdio.h>
 #include <string.h>
 
-enum { SPACE = 64, ROOM = 256, BUDGET = 1000 };
+enum { SPACE = 64, ROOM = 256, RECORDS = 4, BUDGET = 1000 };
 
 static const char *const recipe =
     "10 LINE INPUT \"LOT? \"; L$\n"
@@ -20,6 +20,7 @@ static const char *const jumps = "10 GOSUB 40\n20 IF I<3 THEN 10 ELSE 40\n30 GOT
 /* What a box keeps for its recipes. */
 static uint8_t space[SPACE], room[ROOM], tables[QUERNHEM_TABLES];
 static uint16_t lines[QUERNHEM_INDEX];
+static quernhem_record records[RECORDS];
 
 static const uint8_t *bytes(const char *text) { return (const uint8_t *)text; }
 
@@ -49,8 +50,8 @@ static void run(const char *text) {
     static const char *const outcomes[] = {"ended", "stopped", "out", "error", "refused"};
     uint64_t answer[QUERNHEM_ANSWER], verdict[QUERNHEM_VERDICT];
     quernhem_index(bytes(text), strlen(text), lines, verdict); /* refused: the words of an older text, which this run does not go by */
-    quernhem_run(bytes(text), strlen(text), bytes(input), strlen(input), space, SPACE, room, ROOM, lines, QUERNHEM_INDEX, BUDGET, tables,
-                 answer);
+    quernhem_run(bytes(text), strlen(text), bytes(input), strlen(input), space, SPACE, room, ROOM, lines, QUERNHEM_INDEX, records, RECORDS,
+                 BUDGET, tables, answer);
     fwrite(room, 1, answer[QUERNHEM_WRITTEN], stdout);
     printf("%s: number %" PRIu64 ", line %" PRIu64 ", place %" PRIu64 ", %" PRIu64 " steps, %" PRIu64 " bytes written, %" PRIu64 " taken\n",
            outcomes[answer[QUERNHEM_OUTCOME]], answer[QUERNHEM_NUMBER], answer[QUERNHEM_LINE], answer[QUERNHEM_PLACE],

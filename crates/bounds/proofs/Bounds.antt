@@ -20,7 +20,7 @@ use Rattle.bounding.specs.Bounding.{isBounded, statementsIn, ifLoaded, boundOf}
 use Rattle.bounding.specs.declared.bounds.Bound.the-variants.{Steps, NotBounded}
 use Rattle.promises.specs.Calls.{textOf, inputOf, lentOf, budgetOf}
 use Rattle.promises.specs.Passing.{standsAfter}
-use Rattle.promises.proofs.Limits.Bounds.{Stands, entering-stands, turn-stands, RunView, long, unloaded, runs, run-view, steps-kept}
+use Rattle.promises.proofs.Limits.Bounds.{Stands, entering-stands, turn-stands, RunView, long, tall, unloaded, runs, run-view, steps-kept}
 use Rattle.promises.proofs.OutOfSteps.{out-of-steps-exactly}
 use Rattle.bounds.specs.Bounds.{boundsAnswerAlways, Bounded, stepsBounded, boundedNeverOut, reportKept}
 use Rattle.bounds.proofs.Ahead.{LinesOn, lines-on}
@@ -69,8 +69,9 @@ module _ (text : List ℕ) (b : Bounded text) where
 
   run-bounded : (input : List ℕ) (lent : Lent) (budget : ℕ) → RunView text input lent budget → runOf text input lent budget .machine .steps ≤ statementsIn text
   run-bounded input lent budget (long h e) = rw e (omega arith)
-  run-bounded input lent budget (unloaded r p h k e) = rw e (omega arith)
-  run-bounded input lent budget (runs h k e) =
+  run-bounded input lent budget (tall h k e) = rw e (omega arith)
+  run-bounded input lent budget (unloaded r p h s k e) = rw e (omega arith)
+  run-bounded input lent budget (runs h s k e) =
       let m = fresh text input lent in
       let f = running-bounded budget (entering m (linesOf text)) 0 (statementsIn text) (entering-stands (λ m. m .steps ≡ 0) m (linesOf text) refl) (begun m) in
       rw e (omega arith)

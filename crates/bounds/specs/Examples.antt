@@ -49,7 +49,7 @@ example recipe budget bounded statements ending steps =
 abbrev worked : Example → Example
 worked e =
     let text = bytes (e .recipe) in
-    let r = runOf text [] (record { space = 100; room = 100 }) (e .budget) in
+    let r = runOf text [] (record { space = 100; room = 100; records = 32 }) (e .budget) in
     example (e .recipe) (e .budget) (isBounded text) (statementsIn text) (r .ending) (r .machine .steps)
 
 pub recipes : List Example

@@ -57,7 +57,7 @@ module _ {text line : List ℕ} {here : Place} (st : Standing text line here) wh
         → Turns text m input space room told does (takenTurn m here (way.At at)) space room
     turns-part at {p} e low h =
         turns-on (leaves-unprinted sound refl refl refl) (inside-placed at e low)
-        (λ rs l t n s.
+        (λ rs t n s.
         record {
           machine = n;
           is = h n ∙ ap (goesOn n) (ap (λ ls. record { lines = ls; rest = part p }) all ∙ sym (inside-is at e low));
@@ -68,7 +68,7 @@ module _ {text line : List ℕ} {here : Place} (st : Standing text line here) wh
     turns-over : ((n : spec.Machine) → does n ≡ lineOver n lines) → Turns text m input space room told does (takenTurn m here way.None) space room
     turns-over h =
         turns-on (leaves-unprinted sound refl refl refl) (record { begins = st .begins; reads = λ z. absurd (false≢true (sym z)) })
-        (λ rs l t n s. record { machine = n; is = h n ∙ ap (lineOver n) all; same = s })
+        (λ rs t n s. record { machine = n; is = h n ∙ ap (lineOver n) all; same = s })
 
 -- ---- by the condition's value
 

@@ -230,7 +230,7 @@ module _ {text : List ℕ} {m : State} {input space room : List ℕ} (entry : Re
     -- whatever the definition does then
     leads-cleared : (go : spec.Machine → step.Next)
         → Led text m input space room told (λ n. step.storeNumber n name from (λ q. go (cleared name q))) under space room go
-    leads-cleared go rs l t n s =
+    leads-cleared go rs t n s =
         let k = rw yes at (leads-number name own from (sound .settled) s (λ q. go (cleared name q))) in
         let kept = number-stored (m .tables .numbers) name from (sound .settled .numbers) own in
         let names = numberSet m name from .state .tables .numbers .names in
@@ -242,7 +242,7 @@ module _ {text : List ℕ} {m : State} {input space room : List ℕ} (entry : Re
         → Turns text m input space room told (begun name (at .0) (positionOf text back) from limit by) (turnedTo under (b .skip)) space room
     turns-skipped q =
         turns-unwritten (leaves-unprinted sound-under refl (dropped-steps (numberSet m name from .state) f) (dropped-printer (numberSet m name from .state) f))
-        (λ rs l t n s. let k = leads-cleared after-clearing rs l t n s in rw (k .is, q) (skip-comes text name (nextFor (at .0) (linesAt text (back .line .0))) (b .skip) _ (b .skips yes q) (k .same)))
+        (λ rs t n s. let k = leads-cleared after-clearing rs t n s in rw (k .is, q) (skip-comes text name (nextFor (at .0) (linesAt text (back .line .0))) (b .skip) _ (b .skips yes q) (k .same)))
 
     turns-made : passed from limit by ≡ false
         → Turns text m input space room told (begun name (at .0) (positionOf text back) from limit by)
@@ -251,7 +251,7 @@ module _ {text : List ℕ} {m : State} {input space room : List ℕ} (entry : Re
         let set = numberSet m name from in
         turns-pushed (loopRecord (set .slot) limit by back) (next.On back) (spec.loop name limit by (positionOf text back)) (loop-is text name own from limit by back f (sound .settled) yes)
         (λ r. goesOn r (positionOf text back)) sound-under refl (dropped-steps (set .state) f) (dropped-printer (set .state) f) (loop-placed text name own from limit by back f (sound .settled) yes p) (λ o S s. (p, (refl, s)))
-        (λ rs l t n s. let k = leads-cleared after-clearing rs l t n s in record { machine = k .machine; is = k .is ∙ rw q; same = k .same })
+        (λ rs t n s. let k = leads-cleared after-clearing rs t n s in record { machine = k .machine; is = k .is ∙ rw q; same = k .same })
 
   pub turns-loop : Turns text m input space room told (begun name (at .0) (positionOf text back) from limit by) r space room
   turns-loop =
@@ -262,13 +262,13 @@ module _ {text : List ℕ} {m : State} {input space room : List ℕ} (entry : Re
       rw is (turns-made e q)))
       (λ e. let is : r ≡ turnedTo (numberSet m name from .state) (next.Fails OutOfMemory) = b .is ∙ rw e in rw is
       (turns-fails (leaves-unprinted (sound-set name own from sound) refl refl refl)
-      (λ rs l t n s. rw e at (leads-number name own from (sound .settled) s (λ q. after-clearing (cleared name q))))))
+      (λ rs t n s. rw e at (leads-number name own from (sound .settled) s (λ q. after-clearing (cleared name q))))))
 
   -- the step that is left out is 1
   pub turns-by-one : by ≡ 1 → Turns text m input space room told (fromStep name (at .0) (positionOf text back) (number 1) from limit) r space room
   turns-by-one e =
       turns-then (leaves-unprinted {r = turnedTo m next.Ends} sound refl refl refl)
-      (λ rs l t n s.
+      (λ rs t n s.
       record { machine = noting n (roomOf n); is = rw (one (n .variables) (roomOf n), e); same = same-noting s (roomOf n) })
       turns-loop
 
@@ -312,7 +312,7 @@ module _ {text : List ℕ} {m : State} {input space room : List ℕ} {told : Lis
   pub for-text : v .kind ≡ kind.Text → Sound m input space room
       → Turns text m input space room told (λ n. doStatement text at (tree.for v a b c) n after) (turnedTo m (next.Fails TypeMismatch)) space room
   for-text e h =
-      turns-fails (leaves-unprinted h refl refl refl) (λ rs l t n s. record { machine = n; is = rw e; same = s })
+      turns-fails (leaves-unprinted h refl refl refl) (λ rs t n s. record { machine = n; is = rw e; same = s })
 
   pub for-whole : {space′ : List ℕ} {r : Turn} → v .kind ≡ kind.Whole
       → Turns text m input space room told (λ n. fromStart (v .telling) at after a b c n) r space′ room

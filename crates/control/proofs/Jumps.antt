@@ -16,7 +16,7 @@ use Rattle.loader.specs.declared.lines.LineFound.{LineFound}
 use Rattle.loader.specs.declared.lines.LineFound.the-variants.{Is, None}
 use Rattle.grammar.specs.Trees as tree
 use Rattle.machine.specs.Machine as spec
-use Rattle.machine.specs.Machine.{isCall, mostRecords}
+use Rattle.machine.specs.Machine.{isCall}
 use Rattle.machine.specs.bridge.Holding.{linesAt, positionOf, Positioned, blankRecord, passes, backOf, callRecord, recordOf, recordsIn, Placed, Sound, State}
 use Rattle.machine.specs.bridge.Wanted.{isSought, foundIn, Told}
 use Rattle.machine.specs.declared.positions.Position.{Position}
@@ -54,14 +54,14 @@ module _ {text : List ℕ} {m : State} {input space room : List ℕ} (number : L
       (turnedTo m (next.Fails UndefinedLine)) space room
   line-missing go e =
       turns-fails (leaves-unprinted sound refl refl refl)
-      (λ rs l t n s. record { machine = n; is = rw (found-none text number e); same = s })
+      (λ rs t n s. record { machine = n; is = rw (found-none text number e); same = s })
 
   pub goto-found : (at : ℕ) (after : spec.Position) {span : LineSpan} → findLine text number ≡ Is span
       → Turns text m input space room anyRecords (λ n. doStatement text at (tree.goto number) n after) (turnedTo m (next.Enter (span .place))) space room
   goto-found at after {span} e =
       let f = found-begins text number e in
       turns-enters (leaves-unprinted sound refl refl refl) (f .begins)
-      (λ rs l t n s. record { machine = n; is = rw (← f .lines, f .begins .here); same = s })
+      (λ rs t n s. record { machine = n; is = rw (← f .lines, f .begins .here); same = s })
 
   pub gosub-found : (at : ℕ) (back : Position) {span : LineSpan} → Positioned text back → findLine text number ≡ Is span
       → Turns text m input space room anyRecords (λ n. doStatement text at (tree.gosub number) n (positionOf text back))
@@ -70,11 +70,11 @@ module _ {text : List ℕ} {m : State} {input space room : List ℕ} (number : L
       let f = found-begins text number e in
       turns-pushed (callRecord back) (next.Enter (span .place)) (spec.call (positionOf text back)) (call-held text (m .tables .numbers .names) back) (λ o. enters o (linesAt text (span .place .0))) sound refl refl refl (call-placed text (m .tables .numbers .count) back p)
       (λ o S s. (f .begins, (refl, s)))
-      (λ rs l t n s. record { machine = n; is = rw (← f .lines, f .begins .here); same = s })
+      (λ rs t n s. record { machine = n; is = rw (← f .lines, f .begins .here); same = s })
 
   -- where no record is left
   pub gosub-full : (at : ℕ) (back : Position) {span : LineSpan} → Positioned text back → findLine text number ≡ Is span
-      → leb mostRecords (m .depth) ≡ true
+      → leb (m .records) (m .depth) ≡ true
       → Turns text m input space room anyRecords (λ n. doStatement text at (tree.gosub number) n (positionOf text back))
       (turnedTo m (next.Fails OutOfMemory)) space room
   gosub-full at back p e full = rw full at (gosub-found at back p e)
@@ -112,7 +112,7 @@ module _ {text : List ℕ} {m : State} {input space room : List ℕ} (entry : Re
       (turnedTo m (next.Fails ReturnWithoutGosub)) space room
   back-missing =
       turns-fails (leaves-unprinted sound refl refl refl)
-      (λ rs l t n s.
+      (λ rs t n s.
       record {
         machine = n;
         is = ap (λ x. returned n x) (ap (spec.sought isCall) (s .records) ∙ t);
@@ -124,7 +124,7 @@ module _ {text : List ℕ} {m : State} {input space room : List ℕ} (entry : Re
       (turnedTo (withDepth m slot) (next.On (backOf entry))) space room
   back-found slot b =
       turns-unwritten (leaves-unprinted (sound-depth slot (omega (arith, sound .deep)) sound) refl refl refl)
-      (λ rs l t n s.
+      (λ rs t n s.
       let under = recordsIn text (m .tables .numbers .names) rs slot in
       let c = is-call text (m .tables .numbers .names) entry (call-found text (m .tables .numbers .names) entry (t .passes)) in
       let does : returned n (spec.sought isCall (n .records)) ≡ goesOn (spec.withRecords n under) (positionOf text (backOf entry)) =

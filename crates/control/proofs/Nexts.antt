@@ -23,7 +23,7 @@ use Rattle.variables.proofs.StoredNumbers.{number-at}
 use Rattle.variables.proofs.Holding.{held-looked}
 use Rattle.variables.proofs.Looking.{looked-word}
 use Rattle.machine.specs.Machine as spec
-use Rattle.machine.specs.Machine.{mostRecords, passed}
+use Rattle.machine.specs.Machine.{passed}
 use Rattle.machine.specs.bridge.Holding.{positionOf, Positioned, counts, backOf, recordOf, recordsIn, Settled, Sound, Same, State}
 use Rattle.machine.specs.bridge.Wanted.{Told}
 use Rattle.machine.specs.declared.positions.Position.{Position}
@@ -98,7 +98,7 @@ module _ (text : List ℕ) {m : State} {input space room : List ℕ} (entry : Re
   pub next-missing : Turns text m input space room (Asked found.None) (nexts test after) (turnedTo m (next.Fails NextWithoutFor)) space room
   next-missing =
       turns-fails (leaves-unprinted sound refl refl refl)
-      (λ rs l t n s. record { machine = n; is = ap (λ x. nextOn n x after) (ap (spec.sought test) (s .records) ∙ t); same = s })
+      (λ rs t n s. record { machine = n; is = ap (λ x. nextOn n x after) (ap (spec.sought test) (s .records) ∙ t); same = s })
 
   -- a loop was found
   module _ (slot : ℕ) (low : slot < m .depth) where
@@ -135,7 +135,7 @@ module _ (text : List ℕ) {m : State} {input space room : List ℕ} (entry : Re
         → Turns text m input space room (Asked (found.At slot)) (nexts test after) (turnedTo m (next.Fails e)) space room
     next-fault e =
         turns-fails (leaves-unprinted sound refl refl refl)
-        (λ rs l t n s. record { machine = n; is = nexts-turned rs t n s e; same = s })
+        (λ rs t n s. record { machine = n; is = nexts-turned rs t n s e; same = s })
 
     -- its variable is set
     module _ (w : ℕ) (sum : applied Add (wordIn (m .tables .numbers .words) (entry .slot)) (entry .step) ≡ answer.Whole w) where
@@ -144,10 +144,10 @@ module _ (text : List ℕ) {m : State} {input space room : List ℕ} (entry : Re
           → Turns text m input space room (Asked (found.At slot)) (nexts test after)
           (turnedTo (withDepth (wordSet m (entry .slot) w) slot) (next.On q)) space room
       next-ends q p a e =
-          let d : slot ≤ mostRecords = omega (arith, sound .deep) in
+          let d : slot ≤ m .records = omega (arith, sound .deep) in
           let h : slot ≤ m .depth = omega arith in
           turns-on (leaves-unprinted (sound-depth slot d (sound-word (entry .slot) w sound)) refl refl refl) p
-          (λ rs l t n s.
+          (λ rs t n s.
           let j = leads-set rs t n s w sum in
           record {
             machine = spec.withRecords (j .machine) (under rs);
@@ -160,9 +160,9 @@ module _ (text : List ℕ) {m : State} {input space room : List ℕ} (entry : Re
           → Turns text m input space room (Asked (found.At slot)) (nexts test after)
           (turnedTo (withDepth (wordSet m (entry .slot) w) (slot + 1)) (next.On (backOf entry))) space room
       next-again e =
-          let d : slot + 1 ≤ mostRecords = omega (arith, sound .deep) in
+          let d : slot + 1 ≤ m .records = omega (arith, sound .deep) in
           turns-unwritten (leaves-unprinted (sound-depth (slot + 1) d (sound-word (entry .slot) w sound)) refl refl refl)
-          (λ rs l t n s.
+          (λ rs t n s.
           let j = leads-set rs t n s w sum in
           let loop = spec.loop (variable m entry) (entry .limit) (entry .step) (positionOf text (backOf entry)) in
           let does : nexts test after n ≡ goesOn (spec.withRecords (j .machine) (loop ∷ under rs)) (positionOf text (backOf entry)) = j .is ∙ rw e in
@@ -171,4 +171,4 @@ module _ (text : List ℕ) {m : State} {input space room : List ℕ} (entry : Re
           ∙ ap (λ e. recordOf text (m .tables .numbers .names) e ∷ under rs) (sym (t .at)) ∙ ap (λ r. r ∷ under rs) (entry-loop rs t)) in
           let here : Positioned text (backOf entry) = rw (t .at) (s .placed slot low .back) in
           rw does
-          (here, (refl, same-depth (slot + 1) _ (sym top) (λ i h. let g : i < m .depth = omega arith in s .placed i g) (j .same))))
+          (here, (refl, same-depth (slot + 1) _ (sym top) (λ i h. let g : i < m .depth = omega arith in s .placed i g) refl (j .same))))

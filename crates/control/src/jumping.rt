@@ -97,7 +97,7 @@ pub fn gosub(
         (turnOf r names words labels lengths) space room)
         ⌝ }
 {
-    let full = Machine::RECORDS <= machine.depth;
+    let full = machine.records <= machine.depth;
     let found = line_numbered(rows, number);
     match called(found, full) {
         Calling::NoLine => fails(machine, Error::UndefinedLine),

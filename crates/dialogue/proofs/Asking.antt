@@ -152,6 +152,9 @@ module _ {m : State} {input space room : List ℕ} (k : ℕ) where
       record {
         variables = s .variables;
         records = s .records;
+        recordRoom = s .recordRoom;
+        slots = s .slots;
+        few = s .few;
         column = s .column;
         output = s .output;
         outputRoom = s .outputRoom;
@@ -169,7 +172,7 @@ module _ (text : List ℕ) {m : State} {input space room : List ℕ} (sound : So
       → Turns text m input space room anyRecords (takesLine v after) (turnedTo m (next.Fails InputPastEnd)) space room
   takes-none h =
       turns-fails (leaves-unprinted sound refl refl refl)
-      (λ rs l t n s. record { machine = n; is = ap (λ i. inputLine i n v (λ o. goesOn o after)) (s .left ∙ drop-of-length-le input h); same = s })
+      (λ rs t n s. record { machine = n; is = ap (λ i. inputLine i n v (λ o. goesOn o after)) (s .left ∙ drop-of-length-le input h); same = s })
 
   module _ {e : Extent} (h : m .taken < length input) (k : Reach input (m .taken) e) where
     -- the line is too long
@@ -177,7 +180,7 @@ module _ (text : List ℕ) {m : State} {input space room : List ℕ} (sound : So
         → Turns text m input space room anyRecords (takesLine v after) (turnedTo m (next.Fails LineBufferOverflow)) space room
     takes-long b =
         turns-fails (leaves-unprinted sound refl refl refl)
-        (λ rs l t n s. record { machine = n; is = taken-long input (m .taken) h k v after b n (s .left); same = s })
+        (λ rs t n s. record { machine = n; is = taken-long input (m .taken) h k v after b n (s .left); same = s })
 
     -- it is taken
     takes-short : e .end .0 - m .taken ≤ longestInputLine → {r : Turn} {space′ : List ℕ}
@@ -187,7 +190,7 @@ module _ (text : List ℕ) {m : State} {input space room : List ℕ} (sound : So
     takes-short b t =
         let w = taken-sound (e .next .0) sound (k .inside) in
         turns-then (leaves-unprinted {r = turnedTo (withTaken m (e .next .0)) next.Ends} w refl refl refl)
-        (λ rs l u n s.
+        (λ rs u n s.
         record {
           machine = withInput n (drop (e .next .0) input) (e .next .0);
           is = taken-short input (m .taken) h k v after b n (s .left) (s .taken);
@@ -218,7 +221,7 @@ module _ (program : List ℕ) {m : State} {input space room : List ℕ} (sound :
       → Turns program m input space room anyRecords (fillsIn v b after) (turnedTo m (next.Fails OutOfStringSpace)) space room
   fills-none v after h =
       turns-fails (leaves-unprinted sound refl refl refl)
-      (λ rs l t n s. leads-unmade (sound .settled) b (λ o. filled (v .kind) (v .telling) b o (λ p. goesOn p after)) s h)
+      (λ rs t n s. leads-unmade (sound .settled) b (λ o. filled (v .kind) (v .telling) b o (λ p. goesOn p after)) s h)
 
   module _ (fits : m .used + length b ≤ length space) where
     -- the bytes stand right after the variables'
@@ -234,7 +237,7 @@ module _ (program : List ℕ) {m : State} {input space room : List ℕ} (sound :
     fills-number name after =
         let long = copied-length space (m .used) b in
         turns-fails (leaves-unprinted (sound-kept long sound) long refl refl)
-        (λ rs l t n s. leads-filled (record { kind = kind.Whole; telling = name }) after s)
+        (λ rs t n s. leads-filled (record { kind = kind.Whole; telling = name }) after s)
 
     -- a string's is set
     pub fills-string : (name : Telling) → Tells name → (here : Place) (u : Scanned) → Positioned program (afterOf here u)
@@ -249,7 +252,7 @@ module _ (program : List ℕ) {m : State} {input space room : List ℕ} (sound :
         let after = positionOf program (afterOf here u) in
         turns-stored here u (stringSet m name (length b)) (sound-tables sound (string-settled name own (length b) k f))
         (string-long name own (length b) k f ∙ long) refl refl p
-        (λ rs l t n s.
+        (λ rs t n s.
         leads-on (leads-filled (record { kind = kind.Text; telling = name }) after s)
         (λ o e.
         rw (copied-bytes space (m .used) b fits) at (leads-string name own (length b) k f e (λ o. goesOn o after))))
@@ -265,7 +268,7 @@ module _ (program : List ℕ) {m : State} {input space room : List ℕ} (sound :
   asks-full e =
       rw (copied-past room (m .printer .written) b (not-printed (m .printer) room b e))
       (turns-fails (leaves-unprinted sound refl refl refl)
-      (λ rs l t n s. record { machine = n; is = rw (write-full (sound .fitting) b n (s .column) (s .output) (s .outputRoom) e); same = s }))
+      (λ rs t n s. record { machine = n; is = rw (write-full (sound .fitting) b n (s .column) (s .output) (s .outputRoom) e); same = s }))
 
   printed-leaves-it : {x : Next} → Leaves m input space room (turnedTo (withPrinter m (printedAs (m .printer) (length room) b .printer)) x)
       space (copied room (m .printer .written) b)
@@ -286,7 +289,7 @@ module _ (program : List ℕ) {m : State} {input space room : List ℕ} (sound :
       let l = printed-leaves-it {x = next.Ends} in
       rw g
       (turns-then l
-      (λ rs l u n s. rw e at (leads-written s (sound .fitting) b (takesLine v after)))
+      (λ rs u n s. rw e at (leads-written s (sound .fitting) b (takesLine v after)))
       ((rw (f, g) at t) (l .sound)))
 
 -- printing leaves the strings

@@ -44,6 +44,9 @@ module _ {text : List ℕ} {rs : List Record} {m : State} {input space room : Li
       record {
         variables = same .variables;
         records = same .records;
+        recordRoom = same .recordRoom;
+        slots = same .slots;
+        few = same .few;
         column = refl;
         output = refl;
         outputRoom = same .outputRoom ∙ sym long;
@@ -81,6 +84,7 @@ pub record Printed (m : State) (space room : List ℕ) (m′ : State) (space′ 
   pub fitting : Fitting (m′ .printer) room′
   pub taken : m′ .taken ≡ m .taken
   pub depth : m′ .depth ≡ m .depth
+  pub records : m′ .records ≡ m .records
   pub steps : m′ .steps ≡ m .steps
   pub spaceLong : length space′ ≡ length space
   pub roomLong : length room′ ≡ length room
@@ -101,6 +105,7 @@ module _ {m : State} {space room : List ℕ} where
         fitting = f;
         taken = refl;
         depth = refl;
+        records = refl;
         steps = refl;
         spaceLong = refl;
         roomLong = refl;
@@ -120,6 +125,7 @@ module _ {m : State} {space room : List ℕ} where
           fitting = f;
           taken = h .taken;
           depth = h .depth;
+          records = h .records;
           steps = h .steps;
           spaceLong = s ∙ h .spaceLong;
           roomLong = r ∙ h .roomLong;
@@ -134,7 +140,7 @@ module _ {m : State} {space room : List ℕ} where
             settled = h .settled;
             fitting = h .fitting;
             taken = rw (h .taken) (s .taken);
-            deep = rw (h .depth) (s .deep);
+            deep = rw (h .depth, h .records) (s .deep);
           };
           spaceLong = h .spaceLong;
           roomLong = h .roomLong;

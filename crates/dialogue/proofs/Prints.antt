@@ -65,7 +65,7 @@ module _ {m : State} {space room : List ℕ} {m′ : State} {space′ room′ : 
       let k : Printed m space room (withPrinter m′ (r .printer)) space′ (copied room′ (m′ .printer .written) bytes) =
       printed-more h (r .printer) refl (room-length fit bytes) (fitting-after fit bytes) (written-grows fit bytes) (room-above fit bytes) in
       let led : Led text m input space room anyRecords does (withPrinter m′ (r .printer)) space′ (copied room′ (m′ .printer .written) bytes)
-      (printedMet (r .ok) go) = λ rs e t n same. leads-on (l rs e t n same) (λ o q. leads-written q fit bytes go) in
+      (printedMet (r .ok) go) = λ rs t n same. leads-on (l rs t n same) (λ o q. leads-written q fit bytes go) in
       by-bound (m′ .printer .written + length bytes) (length room′)
       (λ b. let y = le-leb (m′ .printer .written + length bytes) (length room′) b in rw y (turns-on (printed-leaves (rw y at k) sound) p (rw y at led)))
       (λ b. let y = lt-leb (m′ .printer .written + length bytes) (length room′) b in rw y (turns-fails (printed-leaves (rw y at k) sound) (rw y at led)))
@@ -149,7 +149,7 @@ module _ {line : List ℕ} {all : List Item} {end : Scanned} {m : State} {space 
     prints-fails s text input here at sound =
         turns-fails
         (printed-leaves (printed-more (h .printed) (m′ .printer) (s .spaceLong) (s .roomLong) (s .fitting) (s .more) (s .beyond)) sound)
-        (λ rs l t n same.
+        (λ rs t n same.
         leads-on (leads-item text rs input n same (λ o. goesOn o (positionOf text (afterOf here end))))
         (λ o e. s .leads text rs input o e
         (λ o. printItems (isSeparator (item .token)) (a .others) o (λ o. goesOn o (positionOf text (afterOf here end))))))
@@ -163,7 +163,7 @@ module _ {line : List ℕ} {all : List Item} {end : Scanned} {m : State} {space 
       let z = no-items line item (h .reads) e in
       let go : spec.Machine → step.Next = λ o. goesOn o (positionOf text (afterOf here end)) in
       let led : Led text m input space room anyRecords (λ n. printItems false all n go) m′ space′ room′
-      (λ o. cond quiet (go o) (step.written o lineEnd go)) = λ rs l t n same.
+      (λ o. cond quiet (go o) (step.written o lineEnd go)) = λ rs t n same.
       let k = h .leads text rs input n same go in
       record { machine = k .machine; is = k .is ∙ rw (z .0) (print-none quiet (k .machine) go); same = k .same } in
       rw (← z .1)

@@ -72,12 +72,13 @@ sets-then a b =
       taken = b .taken ∙ a .taken;
       steps = b .steps ∙ a .steps;
       depth = b .depth ∙ a .depth;
+      records = b .records ∙ a .records;
       long = b .long ∙ a .long;
     }
 
 sets-sound : {m m′ : State} {input space space′ room : List ℕ} → Sets m space m′ space′ → Sound m input space room → Sound m′ input space′ room
 sets-sound k s =
-    record { settled = k .settled; fitting = rw (k .printer) (s .fitting); taken = rw (k .taken) (s .taken); deep = rw (k .depth) (s .deep) }
+    record { settled = k .settled; fitting = rw (k .printer) (s .fitting); taken = rw (k .taken) (s .taken); deep = rw (k .depth, k .records) (s .deep) }
 
 sets-leaves : {m m′ : State} {input space space′ room : List ℕ} {x : Next} → Sets m space m′ space′ → Sound m input space room
     → Leaves m input space room (turnedTo m′ x) space′ room
@@ -145,7 +146,7 @@ module _ {text line : List ℕ} {all : List Variable} {end : Scanned} {m : State
         let go : spec.Machine → step.Next = λ o. goesOn o (positionOf text (afterOf here′ end)) in
         rw (← (z .1))
         (turns-on (sets-leaves k sound) p
-        (λ rs l t n s.
+        (λ rs t n s.
         leads-on (leads-on (leads-first rs input room n s go) (λ o e. g rs input room o e (λ q. readItems (here .others) q go)))
         (λ o e. record { machine = o; is = ap (λ vs. readItems vs o go) (z .0) ∙ read-none o go; same = e })))
 
@@ -155,5 +156,5 @@ module _ {text line : List ℕ} {all : List Variable} {end : Scanned} {m : State
         → Turns text m input space room anyRecords (λ n. doStatement text at (tree.read all) n past) (turnedTo m″ (next.Fails e)) space″ room
     fills-fails x k g past =
         turns-fails (sets-leaves k sound)
-        (λ rs l t n s.
+        (λ rs t n s.
         leads-on (leads-first rs input room n s (λ o. goesOn o past)) (λ o e. g rs input room o e (λ q. readItems (here .others) q (λ p. goesOn p past))))

@@ -60,7 +60,7 @@ set-state s {names = names} {words = words} {labels = labels} {lengths = lengths
 
 module _ {m : State} {space : List ℕ} (settled : Settled m space) where
   pub sets-none : Sets m space m space
-  sets-none = record { settled = settled; printer = refl; taken = refl; steps = refl; depth = refl; long = refl }
+  sets-none = record { settled = settled; printer = refl; taken = refl; steps = refl; depth = refl; records = refl; long = refl }
 
 -- ---- a number
 
@@ -70,7 +70,7 @@ module _ {m : State} {space : List ℕ} (settled : Settled m space) (name : Tell
 
   module _ (w : ℕ) where
     pub sets-number : Sets m space (numberSet m name w .state) space
-    sets-number = record { settled = number-settled name own w settled; printer = refl; taken = refl; steps = refl; depth = refl; long = refl }
+    sets-number = record { settled = number-settled name own w settled; printer = refl; taken = refl; steps = refl; depth = refl; records = refl; long = refl }
 
     pub gives-number : (text : List ℕ) (s : Stored) → s .ok ≡ numberSet m name w .ok → numberItem b ≡ Whole w
         → Gives text m space (given kind.Whole name b) (setAs s) (numberSet m name w .state) space
@@ -104,6 +104,7 @@ module _ {m : State} {space : List ℕ} (settled : Settled m space) (name : Tell
           taken = refl;
           steps = refl;
           depth = refl;
+          records = refl;
           long = string-long name own (length b) kept room-for ∙ long;
         }
 
@@ -140,7 +141,7 @@ module _ {text : List ℕ} {m : State} {space : List ℕ} (k : Kind) (name : Tel
 
 -- what was set with other items to come was set
 pub sets-feed : {m m′ : State} {space space′ : List ℕ} (f : Feed) → Sets (withFeed m f) space m′ space′ → Sets m space m′ space′
-sets-feed f k = record { settled = k .settled; printer = k .printer; taken = k .taken; steps = k .steps; depth = k .depth; long = k .long }
+sets-feed f k = record { settled = k .settled; printer = k .printer; taken = k .taken; steps = k .steps; depth = k .depth; records = k .records; long = k .long }
 
 pub settled-feed : {m : State} {space : List ℕ} (f : Feed) → Settled m space → Settled (withFeed m f) space
 settled-feed f t = record { numbers = t .numbers; strings = t .strings; all = t .all; within = t .within; small = t .small }

@@ -57,6 +57,9 @@ module _ {m : State} {input space room : List ℕ} (f : Feed) where
       record {
         variables = s .variables;
         records = s .records;
+        recordRoom = s .recordRoom;
+        slots = s .slots;
+        few = s .few;
         column = s .column;
         output = s .output;
         outputRoom = s .outputRoom;
@@ -83,7 +86,7 @@ module _ {text : List ℕ} {m : State} {input space room : List ℕ} (sound : So
       → Turns text m input space room anyRecords does (turnedTo (withFeed m (feedFrom line)) (next.On (afterOf here u))) space room
   restored line r e =
       turns-on (leaves-unprinted (sound-feed (feedFrom line) sound) refl refl refl) p
-      (λ rs l t n s. record { machine = _; is = e n; same = same-feed (feedFrom line) s (feeds-line line r) })
+      (λ rs t n s. record { machine = _; is = e n; same = same-feed (feedFrom line) s (feeds-line line r) })
 
   -- all again
   pub restores-all : Turns text m input space room anyRecords (λ n. doStatement text at tree.restore n after)
@@ -95,7 +98,7 @@ module _ {text : List ℕ} {m : State} {input space room : List ℕ} (sound : So
         → Turns text m input space room anyRecords (λ n. doStatement text at (tree.restoreTo number) n after) (turnedTo m (next.Fails UndefinedLine)) space room
     restores-none e =
         turns-fails (leaves-unprinted sound refl refl refl)
-        (λ rs l t n s. record { machine = n; is = rw (found-none text number e); same = s })
+        (λ rs t n s. record { machine = n; is = rw (found-none text number e); same = s })
 
     pub restores-from : {span : LineSpan} → findLine text number ≡ Is span
         → Turns text m input space room anyRecords (λ n. doStatement text at (tree.restoreTo number) n after)

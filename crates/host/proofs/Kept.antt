@@ -10,11 +10,11 @@ use Rattle.words.proofs.Tellings.{entry-length}
 use Rattle.variables.specs.Tables.{namesLong, nameBytes, numbersTable, stringsTable}
 use Rattle.variables.specs.Variables.{NumberVariable, StringVariable, mostVariables}
 use Rattle.variables.specs.declared.tables.Tables.{Tables}
-use Rattle.runner.specs.Run.{Ran, isRefused, tablesOf, answerOf, spaceAfter, roomAfter}
+use Rattle.runner.specs.Run.{Ran, isRefused, tablesOf, answerOf}
 use Rattle.runner.specs.declared.running.Ran as code
 use Rattle.host.specs.Answers.{answerIn}
 use Rattle.blocks.specs.Blocks.{tablesIn, blockOf, Long, Held}
-use Rattle.host.specs.Calls.{HasRun}
+use Rattle.host.specs.Calls.{Told}
 use Rattle.blocks.proofs.RoundTrip.{round-trip}
 
 -- ---- there are at most 64 names in a table
@@ -42,18 +42,16 @@ few-strings vs e =
 
 -- ---- a run
 
-module _ (ran : Ran) (answer : code.Ran) (given : Tables) (is : answer ≡ answerOf ran given)
-    (space room block space′ room′ words : List ℕ) (spaced : space′ ≡ spaceAfter ran space) (roomy : room′ ≡ roomAfter ran room)
-    (answered : words ≡ answerIn answer) where
+module _ (ran : Ran) (answer : code.Ran) (given : Tables) (is : answer ≡ answerOf ran given) (block words : List ℕ) (answered : words ≡ answerIn answer) where
   -- that was refused leaves the block
-  pub refused-run : isRefused (answer .outcome) ≡ true → HasRun ran space room block space′ room′ block words
+  pub refused-run : isRefused (answer .outcome) ≡ true → Told ran block block words
   refused-run e =
       let b : isRefused (ran .ending) ≡ true = rw is at e in
-      record { answered = answered ∙ ap answerIn is; spaced = spaced; roomy = roomy; kept = rw b; meant = rw b }
+      record { answered = answered ∙ ap answerIn is; kept = rw b; meant = rw b }
 
   -- and any other leaves its tables in it
   pub finished-run : (block′ : List ℕ) → isRefused (answer .outcome) ≡ false → block′ ≡ blockOf (answer .tables) → Long (answer .tables)
-      → HasRun ran space room block space′ room′ block′ words
+      → Told ran block block′ words
   finished-run block′ e k long =
       let b : isRefused (ran .ending) ≡ false = rw is at e in
       let t : answer .tables ≡ tablesOf (ran .machine .variables) = ap (λ a. a .tables) is ∙ rw b in
@@ -64,8 +62,6 @@ module _ (ran : Ran) (answer : code.Ran) (given : Tables) (is : answer ≡ answe
       } in
       record {
         answered = answered ∙ ap answerIn is;
-        spaced = spaced;
-        roomy = roomy;
         kept = rw b (k ∙ ap blockOf t);
         meant = rw b (ap tablesIn k ∙ round-trip (answer .tables) held ∙ t);
       }

@@ -4,10 +4,12 @@ ghost use lib.ListN.{length};
 ghost use Rattle.checker.specs.Check.{checkOf};
 ghost use Rattle.asking.specs.Asking.{askOf};
 ghost use Rattle.machine.specs.Machine.{lentBy};
-ghost use Rattle.runner.specs.Run.{runOf};
+ghost use Rattle.runner.specs.Run.{Ran, answerOf, runOf};
+ghost use Rattle.runner.specs.bridge.Endings.{ranOf};
+ghost use Rattle.variables.specs.declared.tables.Tables.{Tables};
 ghost use Rattle.blocks.specs.Blocks.{tablesIn};
 ghost use Rattle.host.specs.Answers.{verdictIn, foundIn};
-ghost use Rattle.host.specs.Calls.{HasRun};
+ghost use Rattle.host.specs.Calls.{Told, HasRun};
 use crate::answers::answer_of;
 use crate::answers::found_of;
 use crate::answers::verdict_of;
@@ -16,11 +18,46 @@ use blocks::Block;
 use blocks::tables_in;
 use blocks::write_block;
 use checker::check_recipe;
+use machine::Record;
+use runner::Done;
 use runner::is_refused;
 use runner::run_lent;
+use variables::NameTable;
 use variables::Tables;
 
-// Runs a recipe. The tables are the run's own until it ends; where it is refused the block is left alone.
+// What a run over tables of its own came to: the answer by its numbers, and the tables in the block; where it was refused the block is left
+// alone.
+pub(crate) fn tell(
+    done: Done,
+    names: &NameTable,
+    words: &[u16; Tables::MOST],
+    labels: &NameTable,
+    lengths: &[u8; Tables::MOST],
+    tables: &mut Block,
+    answer: &mut [u64; 7],
+)
+    ensures { λ _. ⌜
+        ((ran : Ran) (given : Tables) → ranOf done (now (names .entry)) (now (words .entry)) (now (labels .entry)) (now (lengths .entry)) ≡ answerOf ran given
+        → Told ran (now (tables .entry)) (now (tables .exit)) (now (answer .exit)))
+        ⌝ }
+{
+    *answer = answer_of(done);
+    let outcome = done.outcome;
+    if is_refused(outcome) {
+        return;
+    }
+    write_block(
+        tables,
+        names,
+        words,
+        labels,
+        lengths,
+        done.numbers,
+        done.strings,
+    );
+}
+
+// Runs a recipe. The tables are the run's own until it ends.
 #[no_mangle]
 pub extern "C" fn quernhem_run(
     text: &[u8],
@@ -28,14 +65,15 @@ pub extern "C" fn quernhem_run(
     space: &mut [u8],
     room: &mut [u8],
     index: &[u16],
+    records: &mut [Record],
     budget: u32,
     tables: &mut Block,
     answer: &mut [u64; 7],
 )
     ensures { λ _. ⌜
-        HasRun (runOf (now (text .entry)) (now (input .entry)) (lentBy (now (space .entry)) (now (room .entry))) budget)
-        (now (space .entry)) (now (room .entry)) (now (tables .entry))
-        (now (space .exit)) (now (room .exit)) (now (tables .exit)) (now (answer .exit))
+        HasRun (runOf (now (text .entry)) (now (input .entry)) (lentBy (now (space .entry)) (now (room .entry)) (length (now (records .entry)))) budget)
+        (now (space .entry)) (now (room .entry)) (now (records .entry)) (now (tables .entry))
+        (now (space .exit)) (now (room .exit)) (now (records .exit)) (now (tables .exit)) (now (answer .exit))
         ⌝ }
 {
     let mut names = [0; Tables::NAMES];
@@ -48,26 +86,14 @@ pub extern "C" fn quernhem_run(
         space,
         room,
         index,
+        records,
         budget,
         &mut names,
         &mut words,
         &mut labels,
         &mut lengths,
     );
-    *answer = answer_of(done);
-    let outcome = done.outcome;
-    if is_refused(outcome) {
-        return;
-    }
-    write_block(
-        tables,
-        &names,
-        &words,
-        &labels,
-        &lengths,
-        done.numbers,
-        done.strings,
-    );
+    tell(done, &names, &words, &labels, &lengths, tables, answer);
 }
 
 // Checks a recipe.

@@ -40,7 +40,7 @@ FreeRecord r = RecordThroughout FreeStatement r
 -- ---- a machine with another space
 
 abbrev pub widened : ℕ → Machine → Machine
-widened k m = record { variables = m .variables; records = m .records; column = m .column; output = m .output; outputRoom = m .outputRoom; input = m .input; taken = m .taken; items = m .items; steps = m .steps; space = k; highest = m .highest }
+widened k m = record { variables = m .variables; records = m .records; recordRoom = m .recordRoom; column = m .column; output = m .output; outputRoom = m .outputRoom; input = m .input; taken = m .taken; items = m .items; steps = m .steps; space = k; highest = m .highest }
 
 -- what is needed of the first: its space is not larger, and its records come back to statements without FRE
 pub record Apt (k : ℕ) (m : Machine) : Type 0 where

@@ -1,9 +1,10 @@
 -- A run of a recipe without FRE in a larger space: the same but for the space, or the first ends in 14.
 use mathlib.Core.Path.{_≡_, refl}
-use mathlib.Core.Bool.{true}
+use mathlib.Core.Bool.{Bool, true, false, cond}
 use mathlib.Core.List.{List, [], _∷_}
 use Prim.Native.Nat.{ℕ, zero, suc, _≤_}
 use native.Mathlib.Omega.{arith}
+use lib.Dec.{ltb}
 use borrow.Author.Tests.{le-ltb}
 use Rattle.whole.specs.declared.errors.Error.the-variants.{OutOfStringSpace}
 use Rattle.words.specs.declared.places.LineNumber.{LineNumber}
@@ -17,7 +18,7 @@ use Rattle.statements.specs.Parts.{formulasOf, headOf, tailOf, placeOf, Rest, n
 use Rattle.reader.specs.Lines.{Judgement, unreadable, tooDeep, holds, judgement}
 use Rattle.variables.specs.Strings.{longestSpace}
 use Rattle.machine.specs.Items.{fresh}
-use Rattle.machine.specs.Machine.{Position, Machine, Lent, withStep}
+use Rattle.machine.specs.Machine.{Position, Machine, Lent, mostRecords, withStep}
 use Rattle.machine.specs.Order.{Stand, placed, standsIn, stands}
 use Rattle.order.proofs.Laws.{Every, every-front, every-back, Throughout}
 use Rattle.turns.specs.Steps.{Next}
@@ -125,13 +126,18 @@ module _ (k : ℕ) where
   loaded-same loaded.Fine m go h = h
   loaded-same (loaded.Refused refusal p) m go h = same
 
+  either-run : (t : Bool) {x y x′ y′ : Ran} → SameRun k x x′ → SameRun k y y′ → SameRun k (cond t x y) (cond t x′ y′)
+  either-run true h g = h
+  either-run false h g = g
+
   pub run-same : (text input : List ℕ) (lent : Lent) (budget : ℕ) → recipeWithoutFre text ≡ true → lent .space ≤ k → k ≤ longestSpace
-      → SameRun k (runOf text input lent budget) (runOf text input (record { space = k; room = lent .room }) budget)
+      → SameRun k (runOf text input lent budget) (runOf text input (record { space = k; room = lent .room; records = lent .records }) budget)
   unfolding runOf
   run-same text input lent budget e h small =
       let f = lines-free (linesOf text) (stands-free (stands (linesOf text)) e) in
       let fits : lent .space ≤ longestSpace = omega arith in
       let m = fresh text input lent in
       rw (le-ltb longestSpace (lent .space) fits, le-ltb longestSpace k small)
+      (either-run (ltb mostRecords (lent .records)) same
       (loaded-same (loadOf text) m (λ n. running budget text (entering n (linesOf text)))
-      (running-same budget text f (entering-same m (linesOf text) (record { small = h; held = tt }) f)))
+      (running-same budget text f (entering-same m (linesOf text) (record { small = h; held = tt }) f))))

@@ -23,7 +23,7 @@ use Rattle.statements.specs.Parts.{itemFormulas, headOf, partsOf, partsWithin, 
 use Rattle.statements.proofs.Depths.{heads-append}
 use Rattle.variables.specs.Strings.{Value, whole, text}
 use Rattle.variables.specs.Variables.{wordOf, numbersFull, stringsFull}
-use Rattle.machine.specs.Machine.{Position, Record, loop, call, again, Machine, mostRecords, roomOf, withInput, withItems, write, commaBlanks, Search, missing, found, sought, passed, isCall, isLoop, isLoopOf, longestInputLine}
+use Rattle.machine.specs.Machine.{Position, Record, loop, call, again, Machine, roomOf, withInput, withItems, write, commaBlanks, Search, missing, found, sought, passed, isCall, isLoop, isLoopOf, longestInputLine}
 use Rattle.machine.specs.Items.{itemsOf}
 use Rattle.machine.specs.Order.{Stand, stands, Partner, none, some, past, pairsBy, nextFor, wendFor}
 use Rattle.machine.specs.Repeats.{startOf, isWhile, isWhileOf}
@@ -76,7 +76,7 @@ module _ (k : ℕ) where
   pushed-same : (m : Machine) (r : Record) (go : Machine → Next) → Apt k m → FreeRecord r → Alike k go
       → Same k (pushed m r go) (pushed (widened k m) r go)
   pushed-same m r go s x h =
-      either-same (leb mostRecords (length (m .records))) failed (h _ (apt-records (r ∷ m .records) s (x, s .held)))
+      either-same (leb (m .recordRoom) (length (m .records))) failed (h _ (apt-records (r ∷ m .records) s (x, s .held)))
 
   returned-same : (m : Machine) (x : Search) → Apt k m → records.Found FreeRecord x → Same k (returned m x) (returned (widened k m) x)
   returned-same m missing s h = failed

@@ -19,6 +19,8 @@ use Rattle.promises.specs.Calls.{
   spaceAfter,
   roomBefore,
   roomAfter,
+  stackBefore,
+  stackAfter,
   budgetOf,
   RunBox,
   textIn,
@@ -27,8 +29,11 @@ use Rattle.promises.specs.Calls.{
   spaceOut,
   roomIn,
   roomOut,
+  recordsIn,
+  recordsOut,
   budgetIn,
   blockOut,
+  answerWords,
   outcomeWord,
   numberWord,
   refusedWord,
@@ -55,12 +60,13 @@ recipeWithoutFre text = noFreAmong (stands (linesOf text))
 
 -- ---- two calls of `run`
 
--- the second is lent a space that is as long or longer, up to 16,384 bytes, and else the same. What the spaces and the tables hold before is not
--- asked to be alike: a run that is not refused writes them whole
+-- the second is lent a space that is as long or longer, up to 16,384 bytes, and else the same. What the spaces, the tables and the records hold before
+-- is not asked to be alike: a run that is not refused writes them whole
 pub record Larger (c d : RunCall) : Type 0 where
   pub text : textOf d ≡ textOf c
   pub input : inputOf d ≡ inputOf c
   pub room : roomBefore d ≡ roomBefore c
+  pub records : length (stackBefore d) ≡ length (stackBefore c)
   pub budget : budgetOf d ≡ budgetOf c
   pub longer : length (spaceBefore c) ≤ length (spaceBefore d)
   pub small : length (spaceBefore d) ≤ longestSpace
@@ -74,12 +80,13 @@ pub record HadSpace (c : RunCall) : Type 0 where
 abbrev pub WithZeros : List ℕ → List ℕ → Type 0
 WithZeros longer space = longer ≡ space ++ replicate (length longer - length space) 0
 
--- the same outcome, steps, counts and tables; output; variables; and bytes of the space, but for more zeros at its end
+-- the same outcome, steps, counts and tables; output; variables; records; and bytes of the space, but for more zeros at its end
 pub record SameNight (c d : RunCall) : Type 0 where
   pub answer : d .answer ≡ c .answer
   pub room : roomAfter d ≡ roomAfter c
   pub variables : ranOf d .machine .variables ≡ ranOf c .machine .variables
   pub space : WithZeros (spaceAfter d) (spaceAfter c)
+  pub stack : stackAfter d ≡ stackAfter c
 
 -- Where a recipe without FRE is run, is not refused and does not end in 14, a run with a larger space answers and leaves the same: outcome with
 -- its line, steps, bytes written and taken, tables, output and variables; the space holds the same bytes, and only the zeros at its end are more. It
@@ -91,11 +98,13 @@ moreSpaceSame = (c d : RunCall) → Larger c d → recipeWithoutFre (textOf c) �
 
 -- ---- two calls of the library's `quernhem_run`
 
--- the second is lent a space that is as long or longer, and else the same; what the spaces and the blocks hold before is not asked to be alike
+-- the second is lent a space that is as long or longer, and else the same; what the spaces, the records and the blocks hold before is not asked to be
+-- alike
 pub record LargerBox (c d : RunBox) : Type 0 where
   pub text : textIn d ≡ textIn c
   pub input : inputIn d ≡ inputIn c
   pub room : roomIn d ≡ roomIn c
+  pub records : length (recordsIn d) ≡ length (recordsIn c)
   pub budget : budgetIn d ≡ budgetIn c
   pub longer : length (spaceIn c) ≤ length (spaceIn d)
   pub small : length (spaceIn d) ≤ longestSpace
@@ -105,16 +114,13 @@ pub record BoxHadSpace (c : RunBox) : Type 0 where
   pub taken : outcomeWord c ≡ refusedWord → ⊥
   pub enough : numberWord c ≡ 14 → ⊥
 
--- all seven words of the answer
-abbrev pub answerWords : RunBox → List ℕ
-answerWords c = c .left .1 .1 .1 .1 .1 .1 .1 .0
-
--- the same words, block and output, and the same bytes of the space, but for more zeros at its end
+-- the same words, block, output and records, and the same bytes of the space, but for more zeros at its end
 pub record SameBox (c d : RunBox) : Type 0 where
   pub answer : answerWords d ≡ answerWords c
   pub block : blockOut d ≡ blockOut c
   pub room : roomOut d ≡ roomOut c
   pub space : WithZeros (spaceOut d) (spaceOut c)
+  pub records : recordsOut d ≡ recordsOut c
 
 -- The same of what a box is told: all seven words, the whole block of tables to the last byte, the room for output, and the space but for more zeros
 -- at its end. It says nothing of recipes with FRE, and nothing of a smaller space. Ruled out: a block that holds where a string stands counted from

@@ -4,6 +4,7 @@ use Rattle.loader.specs.declared.refusals.Refusal.{Refusal}
 use Rattle.loader.specs.declared.refusals.Refusal.the-variants.{
   NoVariable,
   SpaceTooLong,
+  StackTooLong,
   TextTooLong,
   LineTooLong,
   ForeignByte,
@@ -18,6 +19,7 @@ use Rattle.loader.specs.declared.refusals.Refusal.the-variants.{
 abbrev pub refusalNumber : Refusal → ℕ
 refusalNumber NoVariable = 111
 refusalNumber SpaceTooLong = 106
+refusalNumber StackTooLong = 107
 refusalNumber TextTooLong = 100
 refusalNumber LineTooLong = 103
 refusalNumber ForeignByte = 104

@@ -5,6 +5,7 @@ ghost use Rattle.loader.specs.Refusals.{refusalNumber};
 pub enum Refusal {
     NoVariable,
     SpaceTooLong,
+    StackTooLong,
     TextTooLong,
     LineTooLong,
     ForeignByte,
@@ -23,6 +24,7 @@ pub fn refusal_number(refusal: Refusal) -> u8
     match refusal {
         Refusal::NoVariable => 111,
         Refusal::SpaceTooLong => 106,
+        Refusal::StackTooLong => 107,
         Refusal::TextTooLong => 100,
         Refusal::LineTooLong => 103,
         Refusal::ForeignByte => 104,

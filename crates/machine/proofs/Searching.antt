@@ -2,11 +2,11 @@
 use mathlib.Core.Path.{_≡_, refl, sym, ap, _∙_}
 use mathlib.Core.Bool.{Bool, true, false, cond, not, _&&_, false≢true}
 use mathlib.Core.List.{List}
-use Prim.Native.Nat.{ℕ, zero, suc, _-_, _≤_, _<_}
+use Prim.Native.Nat.{ℕ, zero, suc, _≤_, _<_}
 use native.Mathlib.Omega.{arith}
-use borrow.Author.Tests.{eq-eqb, ne-eqb, eqb-true, eqb-false, ltb-false}
+use borrow.Author.Tests.{eqb-true, eqb-false, ltb-false}
 use lib.Dec.{eqb, ltb}
-use lib.ListN.{length, getD}
+use lib.ListN.{getD}
 use Rattle.whole.proofs.Never.{never}
 use Rattle.words.proofs.Choices.{by-test, both}
 use Rattle.words.specs.Names.{Telling, alike}
@@ -17,7 +17,7 @@ use Rattle.variables.specs.declared.tables.Slot.{Slot}
 use Rattle.variables.specs.declared.tables.Slot.the-variants as slot
 use Rattle.variables.proofs.Names.{name-slot, slot-name}
 use Rattle.machine.specs.Machine as spec
-use Rattle.machine.specs.Machine.{missing, isCall, isLoopOf}
+use Rattle.machine.specs.Machine.{missing, isCall}
 use Rattle.machine.specs.Order.{Stand, some, wendFor}
 use Rattle.machine.specs.Repeats.{isAt, isWhile, wendOf, isPartner}
 use Rattle.machine.specs.bridge.Holding.{linesAt, bodyOf, positionOf, blankRecord, counts, repeats, passes, backOf, recordOf, recordsIn, Parted, Placed}
@@ -28,7 +28,7 @@ use Rattle.machine.specs.declared.records.Record.{Record}
 use Rattle.machine.specs.declared.records.Found.{Found}
 use Rattle.machine.specs.declared.records.Found.the-variants as found
 use Rattle.machine.specs.declared.records.Sought.{Sought}
-use Rattle.machine.proofs.Stacking.{by-kind, getD-any, record-kept, records-kept}
+use Rattle.machine.proofs.Stacking.{by-kind, record-kept, records-kept}
 use Rattle.machine.proofs.Standing.{begins-at, part-place}
 
 -- ---- the code's search
@@ -44,35 +44,6 @@ nothing-found k rs zero z = refl
 nothing-found k rs (suc d) z =
     let x = getD rs d blankRecord in
     by-test (passes x) (λ f. rw (none-sought k x z, f) (nothing-found k rs d z)) (λ f. rw (none-sought k x z, f))
-
--- one turn of it, at the record below the place reached
-module _ (k : Sought) (rs : List Record) (i : ℕ) (d : Record) (some : 0 < i) (inside : i ≤ length rs) where
-  abbrev entry : Record
-  entry = getD rs (i - 1) d
-
-  turn : foundIn k rs i ≡ cond (isSought k entry) (found.At (i - 1)) (cond (passes entry) (foundIn k rs (i - 1)) found.None)
-  unfolding foundIn
-  turn =
-      let l : i ≡ suc (i - 1) = omega arith in
-      rw (getD-any rs (i - 1) d blankRecord (omega arith)) (ap (foundIn k rs) l)
-
-  -- it ends at the one that is asked for,
-  pub ends-found : isSought k entry ≡ true → found.At (i - 1) ≡ foundIn k rs i
-  ends-found f = rw (turn, f)
-
-  -- or at a GOSUB's that is not,
-  pub ends-none : isSought k entry ≡ false → passes entry ≡ false → found.None ≡ foundIn k rs i
-  ends-none f t = rw (turn, f, t)
-
-  -- and goes on past a FOR's or a WHILE's
-  pub goes-on : isSought k entry ≡ false → passes entry ≡ true → foundIn k rs (i - 1) ≡ foundIn k rs i
-  goes-on f t = rw (turn, f, t)
-
--- until none is left
-pub none-left : (k : Sought) (rs : List Record) (i : ℕ) → i ≤ 0 → found.None ≡ foundIn k rs i
-unfolding foundIn
-none-left k rs zero h = refl
-none-left k rs (suc i) h = absurd (omega arith)
 
 not-found : {P : Type 0} {i : ℕ} → found.None ≡ found.At i → P
 not-found e = never (cc)
@@ -90,15 +61,15 @@ same-end text names e = by-kind e (λ f. rw f) (λ f g. rw (f, g)) (λ f g. rw (
 
 -- a WHILE's record is one of a statement that stands where its own numbers say,
 module _ {text : List ℕ} {numbers : ℕ} {e : Record} (h : Placed text numbers e) (r : repeats e ≡ true) (line at : ℕ) where
-  own-by : (p : Parted (bodyOf (linesAt text (e .line .0))) (e .at .0)) → e .over ≡ 0
-      → isAt line at (positionOf text (backOf e)) ≡ (eqb (e .line .0) line && eqb (e .at .0) at)
-  own-by p o = rw (o, p .is, begins-at (h .back .begins), part-place (bodyOf (linesAt text (e .line .0))) true (e .at .0) (p .of) (p .is))
+  own-by : (p : Parted (bodyOf (linesAt text (e .line))) (e .at)) → e .over ≡ 0
+      → isAt line at (positionOf text (backOf e)) ≡ (eqb (e .line) line && eqb (e .at) at)
+  own-by p o = rw (o, p .is, begins-at (h .back .begins), part-place (bodyOf (linesAt text (e .line))) true (e .at) (p .of) (p .is))
 
-  own-place : isAt line at (positionOf text (backOf e)) ≡ (eqb (e .line .0) line && eqb (e .at .0) at)
+  own-place : isAt line at (positionOf text (backOf e)) ≡ (eqb (e .line) line && eqb (e .at) at)
   own-place = let o = h .paired r .ongoing in own-by (h .back .reads (rw o)) o
 
   -- and so does its WEND
-  wend-place : isPartner line at (wendOf (positionOf text (backOf e))) ≡ (eqb (e .ending .0) line && eqb (e .close .0) at)
+  wend-place : isPartner line at (wendOf (positionOf text (backOf e))) ≡ (eqb (e .ending) line && eqb (e .close) at)
   wend-place = let p = h .paired r in ap (isPartner line at) (p .is) ∙ rw (p .line, p .at)
 
 -- so a WHILE that has a record has its WEND
@@ -107,19 +78,19 @@ pub record HasWend (text : List ℕ) (line at : ℕ) : Type 0 where
   pub is : wendFor at (linesAt text line) ≡ some wend
 
 module _ {text : List ℕ} {numbers : ℕ} {e : Record} (h : Placed text numbers e) (r : repeats e ≡ true) where
-  wend-by : (p : Parted (bodyOf (linesAt text (e .line .0))) (e .at .0)) → e .over ≡ 0
-      → wendOf (positionOf text (backOf e)) ≡ wendFor (e .at .0) (linesAt text (e .line .0))
-  wend-by p o = rw (o, p .is, part-place (bodyOf (linesAt text (e .line .0))) true (e .at .0) (p .of) (p .is))
+  wend-by : (p : Parted (bodyOf (linesAt text (e .line))) (e .at)) → e .over ≡ 0
+      → wendOf (positionOf text (backOf e)) ≡ wendFor (e .at) (linesAt text (e .line))
+  wend-by p o = rw (o, p .is, part-place (bodyOf (linesAt text (e .line))) true (e .at) (p .of) (p .is))
 
-  own-wend : HasWend text (e .line .0) (e .at .0)
+  own-wend : HasWend text (e .line) (e .at)
   own-wend = let p = h .paired r in record { wend = p .wend; is = sym (wend-by (h .back .reads (rw (p .ongoing))) (p .ongoing)) ∙ p .is }
 
 pub while-found : (text names : List ℕ) {numbers : ℕ} {e : Record} → Placed text numbers e → (line at : ℕ)
     → isWhile line at (recordOf text names e) ≡ true → HasWend text line at
 while-found text names {e = e} h line at t =
     by-kind e (λ f. absurd (false≢true (rw f at t)))
-    (λ f g. let b = both (eqb (e .line .0) line) (eqb (e .at .0) at) (sym (own-place h g line at) ∙ (rw (f, g) at t)) in
-    let l = eqb-true (e .line .0) line (b .0) in let a = eqb-true (e .at .0) at (b .1) in rw (l, a) at (own-wend h g))
+    (λ f g. let b = both (eqb (e .line) line) (eqb (e .at) at) (sym (own-place h g line at) ∙ (rw (f, g) at t)) in
+    let l = eqb-true (e .line) line (b .0) in let a = eqb-true (e .at) at (b .1) in rw (l, a) at (own-wend h g))
     (λ f g. absurd (false≢true (rw (f, g) at t)))
 
 -- none other is a WHILE's

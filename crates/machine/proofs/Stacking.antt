@@ -2,34 +2,21 @@
 use mathlib.Core.Path.{_≡_, refl, sym, ap, ap₂, _∙_}
 use mathlib.Core.Logic.{⊎-elim}
 use mathlib.Core.Bool.{Bool, true, false, not, _||_, false≢true}
-use mathlib.Core.List.{List, [], _∷_, map}
+use mathlib.Core.List.{List, [], _∷_}
 use Prim.Native.Nat.{ℕ, zero, suc, _≤_, _<_}
-use native.Mathlib.Nat.{not-suc-le-zero, le-of-suc-le-suc, le-refl}
+use native.Mathlib.Nat.{le-refl}
 use native.Mathlib.Omega.{arith}
 use lib.Dec.{eqb}
 use borrow.Author.Tests.{eqb-true}
-use lib.ListN.{length, getD, set, length-map}
+use lib.ListN.{length, getD, set}
 use lib.Seq.{set-out, getD-set-same, getD-set-other}
 use Rattle.whole.proofs.Numbers.{less}
 use Rattle.words.proofs.Choices.{by-test}
 use Rattle.variables.specs.bridge.Memory.{nameAt}
-use Rattle.words.specs.declared.places.Place.{Place}
 use Rattle.machine.specs.Machine.{loop, call, again}
-use Rattle.machine.specs.bridge.Holding.{positionOf, blankRecord, counts, repeats, passes, backOf, overNumber, callRecord, loopRecord, whileRecord, recordOf, recordsIn}
+use Rattle.machine.specs.bridge.Holding.{positionOf, blankRecord, counts, repeats, passes, backOf, overNumber, callRecord, loopRecord, recordOf, recordsIn}
 use Rattle.machine.specs.declared.positions.Position.{Position}
 use Rattle.machine.specs.declared.records.Record.{Record}
-
--- ---- the array that holds them
-
--- its length, from that of what the machine has of it
-pub length-mapped : {A B : Type 0} (f : A → B) (l : List A) (n : ℕ) → length (map f l) ≡ n → length l ≡ n
-length-mapped f l n e = sym (length-map l f) ∙ e
-
--- what stands within it is read whatever the default
-pub getD-any : (rs : List Record) (i : ℕ) (d e : Record) → i < length rs → getD rs i d ≡ getD rs i e
-getD-any [] i d e h = absurd (not-suc-le-zero h)
-getD-any (x ∷ rs) zero d e h = refl
-getD-any (x ∷ rs) (suc i) d e h = getD-any rs i d e (le-of-suc-le-suc h)
 
 -- a slot past the last changes nothing
 pub records-past : (rs : List Record) (slot : ℕ) (e : Record) → length rs ≤ slot → set rs slot e ≡ rs

@@ -1,4 +1,5 @@
 pub mod Machine
+pub mod Records
 pub mod Order
 pub mod Items
 pub mod Repeats

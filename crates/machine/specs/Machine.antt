@@ -27,7 +27,9 @@ pub data Record : Type 0 where
 
 pub record Machine : Type 0 where
   pub variables : Variables
+  -- the records, and how many there can be
   pub records : List Record
+  pub recordRoom : ℕ
   -- bytes since the last byte 10
   pub column : ℕ
   -- what was printed, and how many bytes there is room for
@@ -43,19 +45,21 @@ pub record Machine : Type 0 where
   pub space : ℕ
   pub highest : ℕ
 
--- what a run is lent: how many bytes of string space, and how many of room for output
+-- what a run is lent: how many bytes of string space, how many of room for output, and how many records
 pub record Lent : Type 0 where
   pub space : ℕ
   pub room : ℕ
+  pub records : ℕ
 
-abbrev pub lentBy : List ℕ → List ℕ → Lent
-lentBy space room = record { space = length space; room = length room }
+abbrev pub lentBy : List ℕ → List ℕ → ℕ → Lent
+lentBy space room records = record { space = length space; room = length room; records = records }
 
 -- every variable unset, both tables empty, column 0, and some items of DATA
 abbrev pub freshWith : List (List ℕ) → List ℕ → Lent → Machine
 freshWith items input lent = record {
   variables = record { numbers = []; strings = [] };
   records = [];
+  recordRoom = lent .records;
   column = 0;
   output = [];
   outputRoom = lent .room;
@@ -67,9 +71,9 @@ freshWith items input lent = record {
   highest = 0;
 }
 
--- the most records that there may be
+-- the most records that may be lent
 abbrev pub mostRecords : ℕ
-mostRecords = 32
+mostRecords = 256
 
 -- a line of input has at most 254 bytes, its end not counted
 abbrev pub longestInputLine : ℕ
@@ -82,26 +86,26 @@ roomOf m = record { limit = m .space; live = stringBytes (m .variables .strings)
 -- ---- one part of the machine anew
 
 abbrev pub withVariables : Machine → Variables → Machine
-withVariables m v = record { variables = v; records = m .records; column = m .column; output = m .output; outputRoom = m .outputRoom; input = m .input; taken = m .taken; items = m .items; steps = m .steps; space = m .space; highest = m .highest }
+withVariables m v = record { variables = v; records = m .records; recordRoom = m .recordRoom; column = m .column; output = m .output; outputRoom = m .outputRoom; input = m .input; taken = m .taken; items = m .items; steps = m .steps; space = m .space; highest = m .highest }
 
 abbrev pub withRecords : Machine → List Record → Machine
-withRecords m r = record { variables = m .variables; records = r; column = m .column; output = m .output; outputRoom = m .outputRoom; input = m .input; taken = m .taken; items = m .items; steps = m .steps; space = m .space; highest = m .highest }
+withRecords m r = record { variables = m .variables; records = r; recordRoom = m .recordRoom; column = m .column; output = m .output; outputRoom = m .outputRoom; input = m .input; taken = m .taken; items = m .items; steps = m .steps; space = m .space; highest = m .highest }
 
 abbrev pub withOutput : Machine → List ℕ → ℕ → Machine
-withOutput m out col = record { variables = m .variables; records = m .records; column = col; output = out; outputRoom = m .outputRoom; input = m .input; taken = m .taken; items = m .items; steps = m .steps; space = m .space; highest = m .highest }
+withOutput m out col = record { variables = m .variables; records = m .records; recordRoom = m .recordRoom; column = col; output = out; outputRoom = m .outputRoom; input = m .input; taken = m .taken; items = m .items; steps = m .steps; space = m .space; highest = m .highest }
 
 abbrev pub withInput : Machine → List ℕ → ℕ → Machine
-withInput m inp n = record { variables = m .variables; records = m .records; column = m .column; output = m .output; outputRoom = m .outputRoom; input = inp; taken = n; items = m .items; steps = m .steps; space = m .space; highest = m .highest }
+withInput m inp n = record { variables = m .variables; records = m .records; recordRoom = m .recordRoom; column = m .column; output = m .output; outputRoom = m .outputRoom; input = inp; taken = n; items = m .items; steps = m .steps; space = m .space; highest = m .highest }
 
 abbrev pub withItems : Machine → List (List ℕ) → Machine
-withItems m l = record { variables = m .variables; records = m .records; column = m .column; output = m .output; outputRoom = m .outputRoom; input = m .input; taken = m .taken; items = l; steps = m .steps; space = m .space; highest = m .highest }
+withItems m l = record { variables = m .variables; records = m .records; recordRoom = m .recordRoom; column = m .column; output = m .output; outputRoom = m .outputRoom; input = m .input; taken = m .taken; items = l; steps = m .steps; space = m .space; highest = m .highest }
 
 abbrev pub withStep : Machine → Machine
-withStep m = record { variables = m .variables; records = m .records; column = m .column; output = m .output; outputRoom = m .outputRoom; input = m .input; taken = m .taken; items = m .items; steps = suc (m .steps); space = m .space; highest = m .highest }
+withStep m = record { variables = m .variables; records = m .records; recordRoom = m .recordRoom; column = m .column; output = m .output; outputRoom = m .outputRoom; input = m .input; taken = m .taken; items = m .items; steps = suc (m .steps); space = m .space; highest = m .highest }
 
 -- what was worked out may have had more unfinished strings than ever before
 abbrev pub noting : Machine → Room → Machine
-noting m room = record { variables = m .variables; records = m .records; column = m .column; output = m .output; outputRoom = m .outputRoom; input = m .input; taken = m .taken; items = m .items; steps = m .steps; space = m .space; highest = room .highest }
+noting m room = record { variables = m .variables; records = m .records; recordRoom = m .recordRoom; column = m .column; output = m .output; outputRoom = m .outputRoom; input = m .input; taken = m .taken; items = m .items; steps = m .steps; space = m .space; highest = room .highest }
 
 -- ---- printing
 

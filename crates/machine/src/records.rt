@@ -1,30 +1,26 @@
-// The records that FOR and GOSUB leave, the topmost last.
+// The records that FOR, GOSUB and WHILE leave, the topmost last.
 ghost use mathlib.Core.Path.{_≡_};
-ghost use Prim.Native.Nat.{_≤_};
-ghost use lib.ListN.{getD, set, replicate};
-ghost use Rattle.machine.specs.Machine.{mostRecords};
 ghost use Rattle.machine.specs.bridge.Holding.{blankRecord, backOf, overNumber, callRecord, loopRecord, whileRecord, passes};
-ghost use Rattle.machine.specs.bridge.Wanted.{LoopOf, WhileAt, WhileOf, isThere, isWhileSought, isLoopSought, isSought, foundIn};
+ghost use Rattle.machine.specs.bridge.Wanted.{LoopOf, WhileAt, WhileOf, isThere, isWhileSought, isLoopSought, isSought};
 use crate::positions::Position;
-use crate::state::Machine;
 use words::Place;
 
-// A FOR's: its variable's entry among the number variables, limit and step; or a GOSUB's. Both have the place to come back to. Numbers
-// alone: a host may lend any bytes, so every kind but a FOR's is a GOSUB's, and every number but 0 says that the line is over.
+// A FOR's: its variable's entry among the number variables, limit and step; a GOSUB's; or a WHILE's. All have the place to come back to. Numbers
+// alone: a host may lend any bytes, so every kind but a FOR's and a WHILE's is a GOSUB's, and every number but 0 says that the line is over.
+#[repr(C)]
 pub struct Record {
     pub kind: u8,
     pub over: u8,
     pub limit: u16,
     pub step: u16,
+    // Always 0: it fills what would be padding, so that a blank record is zeros to the last byte.
+    pub spare: u16,
     pub slot: usize,
-    pub line: Place,
-    pub at: Place,
-    pub ending: Place,
-    pub close: Place,
-}
-
-pub struct Stack {
-    pub records: [Record; Machine::RECORDS],
+    // Where the line begins that the run comes back to, and the place in it; of a WHILE's also those of its WEND.
+    pub line: usize,
+    pub at: usize,
+    pub ending: usize,
+    pub close: usize,
 }
 
 pub enum Found {
@@ -126,11 +122,12 @@ impl Record {
             over: 0,
             limit: 0,
             step: 0,
+            spare: 0,
             slot: 0,
-            line: Place(0),
-            at: Place(0),
-            ending: Place(0),
-            close: Place(0),
+            line: 0,
+            at: 0,
+            ending: 0,
+            close: 0,
         }
     }
 
@@ -138,18 +135,19 @@ impl Record {
     pub fn calls(back: Position) -> Record
         ensures { λ r. ⌜ r ≡ callRecord back ⌝ }
     {
-        let line = back.line;
-        let at = back.at;
+        let line = back.line.0;
+        let at = back.at.0;
         Record {
             kind: Record::CALL,
             over: over_number(back.over),
             limit: 0,
             step: 0,
+            spare: 0,
             slot: 0,
             line,
             at,
-            ending: Place(0),
-            close: Place(0),
+            ending: 0,
+            close: 0,
         }
     }
 
@@ -162,11 +160,12 @@ impl Record {
             over: 0,
             limit: 0,
             step: 0,
+            spare: 0,
             slot: 0,
-            line,
-            at,
-            ending,
-            close,
+            line: line.0,
+            at: at.0,
+            ending: ending.0,
+            close: close.0,
         }
     }
 
@@ -174,18 +173,19 @@ impl Record {
     pub fn counts(slot: usize, limit: u16, step: u16, back: Position) -> Record
         ensures { λ r. ⌜ r ≡ loopRecord slot limit step back ⌝ }
     {
-        let line = back.line;
-        let at = back.at;
+        let line = back.line.0;
+        let at = back.at.0;
         Record {
             kind: Record::COUNT,
             over: over_number(back.over),
             limit,
             step,
+            spare: 0,
             slot,
             line,
             at,
-            ending: Place(0),
-            close: Place(0),
+            ending: 0,
+            close: 0,
         }
     }
 
@@ -193,11 +193,9 @@ impl Record {
     pub fn back(self) -> Position
         ensures { λ r. ⌜ r ≡ backOf self ⌝ }
     {
-        let line = self.line;
-        let at = self.at;
         Position {
-            line,
-            at,
+            line: Place(self.line),
+            at: Place(self.at),
             over: self.over != 0,
         }
     }
@@ -212,19 +210,8 @@ fn over_number(over: bool) -> u8
     0
 }
 
-impl Stack {
-    pub fn empty() -> Stack
-        ensures { λ r. ⌜ r .records ≡ replicate mostRecords blankRecord ⌝ }
-    {
-        let blank = Record::blank();
-        Stack {
-            records: [blank; Machine::RECORDS],
-        }
-    }
-}
-
 // A search goes on past a FOR's and a WHILE's.
-fn passes(entry: Record) -> bool
+pub fn passes(entry: Record) -> bool
     ensures { λ r. ⌜ r ≡ passes entry ⌝ }
 {
     if entry.kind == Record::COUNT {
@@ -234,13 +221,13 @@ fn passes(entry: Record) -> bool
 }
 
 // Whether a place of a line is the one that is asked for.
-fn is_there(line: Place, at: Place, sought: Sought) -> bool
-    ensures { λ r. ⌜ r ≡ isThere (line .0) (at .0) sought ⌝ }
+fn is_there(line: usize, at: usize, sought: Sought) -> bool
+    ensures { λ r. ⌜ r ≡ isThere line at sought ⌝ }
 {
-    if line.0 != sought.line.0 {
+    if line != sought.line.0 {
         return false;
     }
-    at.0 == sought.at.0
+    at == sought.at.0
 }
 
 // Whether it is a WHILE's that is asked for by its own place, or by that of its WEND.
@@ -283,48 +270,4 @@ pub fn is_sought(sought: Sought, entry: Record) -> bool
         return is_while(sought, entry);
     }
     is_loop(sought, entry)
-}
-
-// A search down the stack: none below the nearest GOSUB's is looked at.
-pub fn find_record(stack: Stack, depth: usize, sought: Sought) -> Found
-    requires { ⌜ depth ≤ mostRecords ⌝ }
-    ensures { λ r. ⌜ r ≡ foundIn sought (stack .records) depth ⌝ }
-{
-    if sought.kind == Sought::NONE {
-        return Found::None;
-    }
-    let mut i = depth;
-    while 0 < i {
-        i -= 1;
-        let entry = stack.records[i];
-        if is_sought(sought, entry) {
-            return Found::At(i);
-        }
-        if !passes(entry) {
-            return Found::None;
-        }
-    }
-    Found::None
-}
-
-// A record by its slot; a blank one past the last.
-pub fn record_at(stack: Stack, slot: usize) -> Record
-    ensures { λ r. ⌜ r ≡ getD (stack .records) slot blankRecord ⌝ }
-{
-    if slot < Machine::RECORDS {
-        return stack.records[slot];
-    }
-    Record::blank()
-}
-
-// A slot past the last changes nothing.
-pub fn with_record(stack: Stack, slot: usize, entry: Record) -> Stack
-    ensures { λ r. ⌜ r .records ≡ set (stack .records) slot entry ⌝ }
-{
-    let mut next = stack;
-    if slot < Machine::RECORDS {
-        next.records[slot] = entry;
-        return next;
-    }
-    next
 }

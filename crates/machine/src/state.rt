@@ -30,8 +30,9 @@ pub struct Machine {
     pub taken: Place,
     pub feed: Feed,
     pub steps: u32,
-    // How many records there are.
+    // How many records there are, and how many there can be.
     pub depth: usize,
+    pub records: usize,
 }
 
 impl Feed {
@@ -48,15 +49,16 @@ impl Feed {
 }
 
 impl Machine {
-    pub const RECORDS: usize = 32;
+    // The most records that may be lent.
+    pub const RECORDS: usize = 256;
 
     pub const LONGEST_SPACE: usize = 16384;
 
     pub const LONGEST_INPUT_LINE: usize = 254;
 
     // Every variable unset, column 0.
-    pub fn fresh() -> Machine
-        ensures { λ r. ⌜ r ≡ freshMachine ⌝ }
+    pub fn fresh(records: usize) -> Machine
+        ensures { λ r. ⌜ r ≡ freshMachine records ⌝ }
     {
         Machine {
             numbers: 0,
@@ -70,6 +72,7 @@ impl Machine {
             feed: Feed::from_line(Place(0)),
             steps: 0,
             depth: 0,
+            records,
         }
     }
 }

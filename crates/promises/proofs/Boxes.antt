@@ -18,10 +18,10 @@ use Rattle.asking.specs.declared.questions.Asked.the-variants as asked
 use Rattle.blocks.specs.Blocks.{tablesIn}
 use Rattle.host.specs.Answers.{outcomeIn, answerIn, passedIn, foundIn}
 use Rattle.host.specs.Calls.{blockAfter}
-use Rattle.runner.specs.Run.{Ran, endsWith, isRefused, numberIn, answerOf, spaceAfter, roomAfter, runOf}
+use Rattle.runner.specs.Run.{Ran, endsWith, isRefused, numberIn, answerOf, spaceAfter, roomAfter, stackAfter, runOf}
 use Rattle.runner.specs.declared.running.Outcome.{Outcome}
 use Rattle.runner.specs.declared.running.Outcome.the-variants.{Ended, Stopped, Out, Failed, Refused}
-use Rattle.promises.specs.Calls.{RunBox, textIn, inputIn, spaceIn, roomIn, lentIn, budgetIn, blockIn, answerWord, outcomeWord, refusedWord, recipeIn, spaceAsked, nameIn, foundWords}
+use Rattle.promises.specs.Calls.{RunBox, textIn, inputIn, spaceIn, roomIn, recordsIn, lentIn, budgetIn, blockIn, answerWord, outcomeWord, refusedWord, recipeIn, spaceAsked, nameIn, foundWords}
 use Rattle.promises.specs.Boxes.{boxesAnswerAlways, boxStopsWithinBudget, boxRefusesExactly, boxRefusalsChangeNothing, boxPassedRunsEndWell, boxAsksWell, Told, itsNumber, itsPart, noVariable, boxAsksAfterRuns}
 use Rattle.promises.specs.Questions as questions
 use Rattle.promises.specs.Questions.{Reply, Says, answerFor}
@@ -56,7 +56,7 @@ module _ (c : RunBox) where
   ran = runOf (textIn c) (inputIn c) (lentIn c) (budgetIn c)
 
   told : (i : ℕ) → answerWord c i ≡ getD (answerIn (answerOf ran (tablesIn (blockIn c)))) i 0
-  told i = ap (λ (x : List ℕ). getD x i 0) (c .allowed .answered)
+  told i = ap (λ (x : List ℕ). getD x i 0) (c .allowed .told .answered)
 
 pub boxes-answer-always : boxesAnswerAlways
 boxes-answer-always =
@@ -86,9 +86,10 @@ box-refusals-change-nothing c h =
       steps = told c 4 ∙ ap (λ (x : Ran). x .machine .steps) e;
       written = told c 5 ∙ ap (λ (x : Ran). length (x .machine .output)) e;
       taken = told c 6 ∙ ap (λ (x : Ran). x .machine .taken) e;
-      block = c .allowed .kept ∙ ap (λ x. blockAfter x (blockIn c)) e;
+      block = c .allowed .told .kept ∙ ap (λ x. blockAfter x (blockIn c)) e;
       space = c .allowed .spaced ∙ ap (λ x. spaceAfter x (spaceIn c)) e;
       room = c .allowed .roomy ∙ ap (λ x. roomAfter x (roomIn c)) e;
+      records = c .allowed .stacked ∙ ap (λ x. stackAfter x (recordsIn c)) e;
     }
 
 -- ---- a check
@@ -137,7 +138,7 @@ box-asks-after-runs c a h =
     let reply : Reply = answerFor (ran c .machine .variables) (nameIn a) in
     let left : spaceAsked a ≡ after = h .space ∙ c .allowed .spaced in
     let found : foundWords a ≡ foundIn (askOf tables (length after) (nameIn a)) =
-    a .allowed ∙ ap₂ (λ t n. foundIn (askOf t n (nameIn a))) (ap tablesIn (h .block) ∙ c .allowed .meant) (ap length left) in
-    let says = answers-after-runs (textIn c) (inputIn c) (spaceIn c) (roomIn c) (budgetIn c) (tablesIn (blockIn c)) (nameIn a) (begun c (h .taken)) in
+    a .allowed ∙ ap₂ (λ t n. foundIn (askOf t n (nameIn a))) (ap tablesIn (h .block) ∙ c .allowed .told .meant) (ap length left) in
+    let says = answers-after-runs (textIn c) (inputIn c) (spaceIn c) (roomIn c) (length (recordsIn c)) (budgetIn c) (tablesIn (blockIn c)) (nameIn a) (begun c (h .taken)) in
     subst (λ (s : List ℕ). Told s (foundWords a) reply) (sym left)
     (subst (λ (x : List ℕ). Told after x reply) (sym found) (told-by says))

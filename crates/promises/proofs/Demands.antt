@@ -17,14 +17,16 @@ use Rattle.loader.specs.declared.refusals.Refusal.{Refusal}
 use lib.ListN.{length, replicate, length-append, length-drop, length-replicate}
 use Rattle.variables.specs.Variables.{StringVariable, stringBytes, joinedStrings}
 use Rattle.machine.specs.Machine.{Lent}
+use Rattle.machine.specs.Records.{blankRecord}
+use Rattle.machine.specs.declared.records.Record.{Record}
 use Rattle.checker.specs.Check.{checkOf}
 use Rattle.checker.specs.declared.checking.Verdict.{Verdict}
 use Rattle.checker.specs.declared.checking.Verdict.the-variants as verdict
 use Rattle.runner.specs.Run as run
-use Rattle.runner.specs.Run.{isRefused, answerOf}
+use Rattle.runner.specs.Run.{isRefused}
 use Rattle.runner.specs.declared.running.Outcome.{Outcome}
 use Rattle.runner.specs.declared.running.Ran.{Ran}
-use Rattle.promises.specs.Calls.{RunCall, CheckCall, textOf, inputOf, spaceBefore, spaceAfter, roomBefore, roomAfter, lentOf, budgetOf, tablesBefore, recipeOf, tablesHanded, spaceHanded, nameAsked}
+use Rattle.promises.specs.Calls.{RunCall, CheckCall, textOf, inputOf, spaceBefore, spaceAfter, roomBefore, roomAfter, stackBefore, lentOf, budgetOf, tablesBefore, recipeOf, tablesHanded, spaceHanded, nameAsked}
 use Rattle.promises.proofs.Waiting.Runs.{few-unfinished}
 use Rattle.promises.specs.Demands.{RefusedFor, WasRefused, Tells, firstRefusal, ChecksExactly, ranOf, answersAlways, stopsWithinBudget, refusesExactly, refusalsChangeNothing, staysWithinMemory, askedPartsLieInside, runsAsDefined, madeExactly, fourteenExactly, checksExactly, passedRecipesEndWell, fewAtOnce}
 use Rattle.promises.specs.Faults.{AllFaultless, FirstFault}
@@ -52,6 +54,10 @@ left-long : (refused : Bool) (vs : List StringVariable) (space : List ℕ) → s
 left-long true vs space h = refl
 left-long false vs space h = rw (length-append, length-replicate, joined-long) (omega arith)
 
+stack-long : (refused : Bool) (stack : List Record) → length (cond refused stack (replicate (length stack) blankRecord)) ≡ length stack
+stack-long true stack = refl
+stack-long false stack = length-replicate (length stack) blankRecord
+
 -- a law of all runs, of the one that was called for
 of : {P : List ℕ → List ℕ → Lent → ℕ → Type 0} → ((text input : List ℕ) (lent : Lent) (budget : ℕ) → P text input lent budget)
     → (c : RunCall) → P (textOf c) (inputOf c) (lentOf c) (budgetOf c)
@@ -72,7 +78,7 @@ module _ (c : RunCall) where
   room-long : length (roomAfter c) ≡ length (roomBefore c)
   room-long =
       let h = output-fits in
-      ap length (c .allowed .1 .1)
+      ap length (c .allowed .1 .1 .0)
       ∙ rw (length-append, length-drop) (omega arith)
 
 -- ---- demand 1
@@ -80,7 +86,7 @@ module _ (c : RunCall) where
 pub answers-always : answersAlways
 answers-always =
     record {
-      run = λ lifetimes passed. (_, (tt, (tt, (_, (_, (tt, (tt, (tt, tt))))))), (refl, (refl, refl)));
+      run = λ lifetimes passed. (_, (tt, (tt, (_, (_, (tt, (_, (tt, (tt, tt)))))))), (refl, (refl, (refl, refl))));
       check = λ lifetimes passed. (_, (tt, tt), refl);
       ask = λ lifetimes passed. (_, (tt, (tt, (tt, tt))), refl);
     }
@@ -99,14 +105,15 @@ pub refusals-change-nothing : refusalsChangeNothing
 refusals-change-nothing c h =
     let k = refused-told (c .answer .outcome) _ _ (record { refused = h; numbered = refl; placed = refl }) in
     let e = of refusals.refused-fresh c (k .refusal) _ (sym (outcome-told c) ∙ k .is) in
-    let a = c .allowed .0 ∙ ap (λ x. answerOf x (tablesBefore c)) e in
+    let a = c .allowed .0 ∙ ap (λ x. run.answerOf x (tablesBefore c)) e in
     record {
       steps = ap (λ (y : Ran). y .steps) a;
       written = ap (λ (y : Ran). y .written) a;
       taken = ap (λ (y : Ran). y .taken) a;
       tables = ap (λ (y : Ran). y .tables) a;
       space = c .allowed .1 .0 ∙ ap (λ x. run.spaceAfter x (spaceBefore c)) e;
-      room = c .allowed .1 .1 ∙ ap (λ x. run.roomAfter x (roomBefore c)) e;
+      room = c .allowed .1 .1 .0 ∙ ap (λ x. run.roomAfter x (roomBefore c)) e;
+      stack = c .allowed .1 .1 .1 ∙ ap (λ x. run.stackAfter x (stackBefore c)) e;
     }
 
 pub stays-within-memory : staysWithinMemory
@@ -118,6 +125,7 @@ stays-within-memory c =
       strings = strings;
       space = ap length (c .allowed .1 .0) ∙ left-long (isRefused (ranOf c .ending)) (ranOf c .machine .variables .strings) (spaceBefore c) strings;
       room = room-long c;
+      stack = ap length (c .allowed .1 .1 .1) ∙ stack-long (isRefused (ranOf c .ending)) (stackBefore c);
     }
 
 pub asked-parts-lie-inside : askedPartsLieInside
@@ -126,7 +134,7 @@ asked-parts-lie-inside c from len e = asked-inside (tablesHanded c) (length (spa
 -- ---- demand 2
 
 pub runs-as-defined : runsAsDefined
-runs-as-defined c = record { answer = c .allowed .0; space = c .allowed .1 .0; room = c .allowed .1 .1 }
+runs-as-defined c = record { answer = c .allowed .0; space = c .allowed .1 .0; room = c .allowed .1 .1 .0; stack = c .allowed .1 .1 .1 }
 
 pub made-exactly : madeExactly
 made-exactly b room = (λ e. make-over b room e, λ h. make-refused b room h)

@@ -20,4 +20,5 @@ pub mod OutOfSteps
 pub mod Refusals
 pub mod Counting
 pub mod Questions
+pub mod Seven
 pub mod Pairs

@@ -26,7 +26,7 @@ use Rattle.variables.specs.Strings.{Value, whole, text, Outcome, value, fault, 
 use Rattle.variables.specs.Variables.{NumberVariable, wordOf, setNumber, hasNumber, numbersFull, stringsFull}
 use Rattle.operators.specs.Values.{valueOf}
 use Rattle.machine.specs.Items.{fresh}
-use Rattle.machine.specs.Machine.{Position, Record, loop, call, again, Machine, mostRecords, roomOf, withItems, withStep, noting, write, commaBlanks, isCall, isLoop, isLoopOf, Search, missing, found, sought, passed, longestInputLine}
+use Rattle.machine.specs.Machine.{Position, Record, loop, call, again, Machine, roomOf, withItems, withStep, noting, write, commaBlanks, isCall, isLoop, isLoopOf, Search, missing, found, sought, passed, longestInputLine}
 use Rattle.statements.specs.Parts.{Rest, nothing, part, headOf, tailOf, placeOf}
 use Rattle.machine.specs.Order.{Partner, none, some, nextFor, wendFor}
 use Rattle.machine.specs.Repeats.{startOf, isWhile, isWhileOf}
@@ -145,7 +145,7 @@ line-made m (l ∷ ls) go k = k (l ∷ ls)
 
 pushed-made : (m : Machine) (r : Record) (go : Machine → Next) → MachineMade m → RecordMade (m .variables .numbers) r → Continues go
     → NextMade (pushed m r go)
-pushed-made m r go q p k = by-choice NextMade (leb mostRecords (length (m .records))) tt (k _ (p, q))
+pushed-made m r go q p k = by-choice NextMade (leb (m .recordRoom) (length (m .records))) tt (k _ (p, q))
 
 returned-made : (m : Machine) (s : Search) → SearchMade (m .variables .numbers) s → NextMade (returned m s)
 returned-made m missing h = tt

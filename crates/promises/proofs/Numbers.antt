@@ -36,6 +36,7 @@ use Rattle.loader.specs.declared.refusals.Refusal.{Refusal}
 use Rattle.loader.specs.declared.refusals.Refusal.the-variants.{
   NoVariable,
   SpaceTooLong,
+  StackTooLong,
   TextTooLong,
   LineTooLong,
   ForeignByte,
@@ -131,6 +132,7 @@ refusalOf : ℕ → Refusal
 refusalOf n =
     cond (eqb n 111) NoVariable
     (cond (eqb n 106) SpaceTooLong
+    (cond (eqb n 107) StackTooLong
     (cond (eqb n 100) TextTooLong
     (cond (eqb n 103) LineTooLong
     (cond (eqb n 104) ForeignByte
@@ -138,12 +140,13 @@ refusalOf n =
     (cond (eqb n 102) NotRising
     (cond (eqb n 105) TooManyLines
     (cond (eqb n 108) ShortGroup
-    (cond (eqb n 109) TooManyPairs NoRoom)))))))))
+    (cond (eqb n 109) TooManyPairs NoRoom))))))))))
 
 refusal-back : (r : Refusal) → refusalOf (refusalNumber r) ≡ r
 unfolding refusalOf
 refusal-back NoVariable = refl
 refusal-back SpaceTooLong = refl
+refusal-back StackTooLong = refl
 refusal-back TextTooLong = refl
 refusal-back LineTooLong = refl
 refusal-back ForeignByte = refl
@@ -160,6 +163,7 @@ same-refusal q r h = sym (refusal-back q) ∙ ap refusalOf h ∙ refusal-back r
 pub refusal-high : (r : Refusal) → firstRefusal ≤ refusalNumber r
 refusal-high NoVariable = omega arith
 refusal-high SpaceTooLong = omega arith
+refusal-high StackTooLong = omega arith
 refusal-high TextTooLong = omega arith
 refusal-high LineTooLong = omega arith
 refusal-high ForeignByte = omega arith
@@ -174,6 +178,7 @@ refusal-high NoRoom = omega arith
 pub refusal-spared : (r : Refusal) → oneOf sparedNumbers (refusalNumber r) ≡ false
 refusal-spared NoVariable = refl
 refusal-spared SpaceTooLong = refl
+refusal-spared StackTooLong = refl
 refusal-spared TextTooLong = refl
 refusal-spared LineTooLong = refl
 refusal-spared ForeignByte = refl

@@ -10,7 +10,7 @@ use Rattle.loader.specs.Lines.{Line, linesOf, nextLine}
 use Rattle.grammar.specs.Trees.{Part}
 use Rattle.variables.specs.Strings.{longestSpace}
 use Rattle.machine.specs.Items.{fresh}
-use Rattle.machine.specs.Machine.{Machine, Lent, withStep}
+use Rattle.machine.specs.Machine.{Machine, Lent, mostRecords, withStep}
 use Rattle.statements.specs.Parts.{Rest, nothing, part, headOf, tailOf, placeOf}
 use Rattle.turns.specs.Steps.{Next, goesOn, enters, ends, stops, fails, doStatement}
 use Rattle.runner.specs.Run.{Ran, endsWith, lineNumberOf, Entered, over, faulty, opened, enter, Standing, finished, at, byEntered, entering, onward, following, turn, running, runOf}
@@ -20,7 +20,7 @@ use Rattle.runner.specs.declared.running.Ran as code
 use Rattle.promises.specs.Calls.{RunCall, textOf, inputOf, lentOf, budgetOf}
 use Rattle.promises.specs.Passing.{standsAfter}
 use Rattle.promises.specs.OutOfSteps.{AnotherStands, outOfSteps, outOfStepsExactly}
-use Rattle.promises.proofs.Limits.Bounds.{Stands, entering-stands, turn-stands, RunView, long, unloaded, runs, run-view, steps-kept}
+use Rattle.promises.proofs.Limits.Bounds.{Stands, entering-stands, turn-stands, RunView, long, tall, unloaded, runs, run-view, steps-kept}
 use Rattle.whole.proofs.Never.{never}
 
 -- ---- no statement and no line ends a run so
@@ -101,15 +101,16 @@ module _ (text input : List ℕ) (lent : Lent) (budget : ℕ) (l : LineNumber) w
 
   out-view : RunView text input lent budget → runOf text input lent budget .ending ≡ Out l → AnotherStands text input lent budget l
   out-view (long h e) f = let g = rw e at f in never (cc)
-  out-view (unloaded r p h k e) f = let g = rw e at f in never (cc)
-  out-view (runs h k e) f =
+  out-view (tall h k e) f = let g = rw e at f in never (cc)
+  out-view (unloaded r p h s k e) f = let g = rw e at f in never (cc)
+  out-view (runs h s k e) f =
       let y = running-stands budget text start l (entering-not-out (fresh text input lent) (linesOf text)) (rw e at f) in
-      record { small = h; loads = k; machine = y .machine; lines = y .lines; part = y .part; stands = y .stands; numbered = y .numbered }
+      record { small = h; few = s; loads = k; machine = y .machine; lines = y .lines; part = y .part; stands = y .stands; numbered = y .numbered }
 
   run-out : (a : AnotherStands text input lent budget l) → runOf text input lent budget ≡ endsWith (Out l) (a .machine)
   unfolding runOf
   run-out a =
-      rw (le-ltb longestSpace (lent .space) (a .small), a .loads, ← (a .numbered))
+      rw (le-ltb longestSpace (lent .space) (a .small), le-ltb mostRecords (lent .records) (a .few), a .loads, ← (a .numbered))
       (stands-out text (a .machine) (a .lines) (a .part) budget start (a .stands))
 
   another-steps : (a : AnotherStands text input lent budget l) → a .machine .steps ≡ budget

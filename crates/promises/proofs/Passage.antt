@@ -23,12 +23,12 @@ abbrev Met : Guarded → Tables → List ℕ → List ℕ → CheckedRun → Lis
 Met g tables space room r space′ room′ =
     (r ≡ guardedAnswer g tables) × ((space′ ≡ guardedSpace g space) × ((room′ ≡ guardedRoom g room) × (endsChecked (r .outcome) ≡ true)))
 
-module _ (text input space room : List ℕ) (budget : ℕ) (tables : Tables) where
+module _ (text input space room : List ℕ) (records budget : ℕ) (tables : Tables) where
   abbrev whole : Guarded
-  whole = guardedRun text input (lentBy space room) budget
+  whole = guardedRun text input (lentBy space room records) budget
 
   abbrev ran : run.Ran
-  ran = runOf text input (lentBy space room) budget
+  ran = runOf text input (lentBy space room records) budget
 
   -- it passed, and was run,
   pub passed-run : checkOf text ≡ Passed → {a : Ran} {space′ room′ : List ℕ}
@@ -36,7 +36,7 @@ module _ (text input space room : List ℕ) (budget : ℕ) (tables : Tables) whe
       → {r : CheckedRun} → r ≡ runAs a → Met whole tables space room r space′ room′
   unfolding guardedRun
   passed-run e h f =
-      rw (e, f) (rw (h .0) refl, (h .1 .0, (h .1 .1, rw (h .0) (checked-runs-end-well text input (lentBy space room) budget e))))
+      rw (e, f) (rw (h .0) refl, (h .1 .0, (h .1 .1, rw (h .0) (checked-runs-end-well text input (lentBy space room records) budget e))))
 
   -- it was refused as in loading,
   pub refused-run : {x : Refusal} {p : Place} → checkOf text ≡ Refused x p → {r : CheckedRun} → r ≡ heldAs (Refused x p) tables

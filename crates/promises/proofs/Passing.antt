@@ -14,7 +14,7 @@ use Rattle.checker.specs.Check as check
 use Rattle.checker.specs.Check.{firstFault, checkOf}
 use Rattle.checker.specs.declared.checking.Verdict.the-variants.{Passed}
 use Rattle.machine.specs.Items.{fresh}
-use Rattle.machine.specs.Machine.{Position, Machine, withStep}
+use Rattle.machine.specs.Machine.{Position, Machine, mostRecords, withStep}
 use Rattle.statements.specs.Parts.{placeOf}
 use Rattle.statements.specs.Parts.{Rest, nothing, part, headOf, tailOf}
 use Rattle.turns.specs.Steps.{Next, goesOn, enters, ends, stops, fails, doStatement}
@@ -91,4 +91,5 @@ loaded-ends-well (loaded.Refused refusal p) text m budget r e = ap not (refusal-
 pub checked-runs-end-well : checkedRunsEndWell
 unfolding checkOf runOf
 checked-runs-end-well text input lent budget e =
-    by-choice EndsWell (ltb longestSpace (lent .space)) refl (loaded-ends-well (loadOf text) text (fresh text input lent) budget refl e)
+    by-choice EndsWell (ltb longestSpace (lent .space)) refl
+    (by-choice EndsWell (ltb mostRecords (lent .records)) refl (loaded-ends-well (loadOf text) text (fresh text input lent) budget refl e))

@@ -1,6 +1,9 @@
--- What holds of every record holds of the one that a search finds, of those under it, and of those that are left.
+-- What holds of every record holds of the one that a search finds, of those under it, and of those that are left; and these are fewer.
 use mathlib.Core.Bool.{Bool}
 use mathlib.Core.List.{List, [], _∷_}
+use Prim.Native.Nat.{ℕ, suc, _≤_, _<_}
+use native.Mathlib.Omega.{arith}
+use lib.ListN.{length}
 use Rattle.machine.specs.Machine.{Record, isCall, Search, missing, found, sought, below}
 use Rattle.promises.proofs.Checked.Operators.{by-choice}
 
@@ -24,3 +27,25 @@ module _ (P : Record → Type 0) where
       left : (s : Search) → Found s → Each (below rs s)
       left missing k = h
       left (found r under) k = k .1
+
+-- ---- how many are left
+
+-- fewer than so many stand under the one that was found
+abbrev pub Fewer : ℕ → Search → Type 0
+Fewer n missing = Unit {0}
+Fewer n (found r under) = length under < n
+
+fewer-more : (n : ℕ) (s : Search) → Fewer n s → Fewer (suc n) s
+fewer-more n missing h = tt
+fewer-more n (found r under) h = omega arith
+
+pub sought-fewer : (test : Record → Bool) (rs : List Record) → Fewer (length rs) (sought test rs)
+unfolding sought
+sought-fewer test [] = tt
+sought-fewer test (r ∷ rs) =
+    by-choice (Fewer (suc (length rs))) (test r) (omega arith)
+    (by-choice (Fewer (suc (length rs))) (isCall r) tt (fewer-more (length rs) (sought test rs) (sought-fewer test rs)))
+
+pub below-fewer : (rs : List Record) (s : Search) → Fewer (length rs) s → length (below rs s) ≤ length rs
+below-fewer rs missing h = omega arith
+below-fewer rs (found r under) h = omega arith

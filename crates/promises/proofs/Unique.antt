@@ -19,6 +19,7 @@ pub mod Strings
 pub mod Functions
 pub mod Operators
 pub mod Machine
+pub mod Stack
 pub mod Turns
 pub mod Runner
 pub mod Asking

@@ -17,6 +17,8 @@ use Rattle.promises.specs.Calls.{
   spaceOut,
   roomIn,
   roomOut,
+  recordsIn,
+  recordsOut,
   lentIn,
   budgetIn,
   blockIn,
@@ -62,12 +64,12 @@ pub record RefusedBox (c : RunBox) (number at : ℕ) : Type 0 where
   pub numbered : numberWord c ≡ number
   pub placed : placeWord c ≡ at
 
--- A box is told 'refused' with a number and a place if and only if its string space or its text is refused so. It does not say what a text is
+-- A box is told 'refused' with a number and a place if and only if its string space, its records or its text are refused so. It does not say what a text is
 -- refused for: that is `loadOf`. Ruled out: an answer that has the place where the line belongs; a refusal that is told as an error.
 abbrev pub boxRefusesExactly : Type 0
 boxRefusesExactly = (c : RunBox) (number at : ℕ) → RefusedBox c number at ↔ RefusedFor (textIn c) (lentIn c) number at
 
--- the counts are 0, and the block of tables, the string space and the room are as they were lent, to the last byte
+-- the counts are 0, and the block of tables, the string space, the room and the records are as they were lent, to the last byte
 pub record BoxUnchanged (c : RunBox) : Type 0 where
   pub steps : answerWord c 4 ≡ 0
   pub written : answerWord c 5 ≡ 0
@@ -75,6 +77,7 @@ pub record BoxUnchanged (c : RunBox) : Type 0 where
   pub block : blockOut c ≡ blockIn c
   pub space : spaceOut c ≡ spaceIn c
   pub room : roomOut c ≡ roomIn c
+  pub records : recordsOut c ≡ recordsIn c
 
 -- A refusal changes nothing that a box has lent but the answer. Ruled out: a block that is written anew from the tables that it meant; a
 -- string space that is cleared before the text is loaded.

@@ -1,23 +1,37 @@
 -- Calls of `run`, `check_recipe` and `ask`, and of the library's functions for these: what was passed, and what lent memory holds before and after.
 -- What a call is, and that its answer is the only one, is said for all functions in calls/specs/Calls.antt.
+use mathlib.Core.Path.{_≡_}
 use mathlib.Core.List.{List}
 use Prim.Native.Nat.{ℕ}
-use lib.ListN.{getD}
+use lib.ListN.{length, getD}
 pub use Rattle.calls.specs.Calls.{Call, Always, Unique}
 use Rattle.variables.specs.declared.tables.Tables.{Tables}
 use Rattle.machine.specs.Machine.{Lent, lentBy}
+use Rattle.machine.specs.declared.records.Record.{Record}
+use Rattle.runner.specs.Run as run
+use Rattle.runner.specs.Run.{runOf}
+use Rattle.host.specs.Calls.{HasRun}
+use Rattle.calls.specs.Lent as lent
 use Rattle.checker.proofs as checker
 use Rattle.asking.proofs as asking
 use Rattle.runner.proofs as runner
 use Rattle.host.proofs as host
 
--- ---- `run(text, input, space, room, index, budget, tables)`
+-- ---- `run(text, input, space, room, index, stack, budget, tables)`
+
+-- what its contract allows (`run-says`): whatever the index holds, which is the fifth of what is passed
+abbrev pub RunAllows : lent.Allows runner.run.ended
+RunAllows lifetimes a r e =
+    let ran = runOf (a .0 .now) (a .1 .0 .now) (lentBy (a .1 .1 .0 .now) (a .1 .1 .1 .0 .now) (length (a .1 .1 .1 .1 .1 .0 .now))) (a .1 .1 .1 .1 .1 .1 .0) in
+    (r ≡ run.answerOf ran (a .1 .1 .1 .1 .1 .1 .1 .0))
+    × ((e .1 .1 .0 .now ≡ run.spaceAfter ran (a .1 .1 .0 .now))
+    × ((e .1 .1 .1 .0 .now ≡ run.roomAfter ran (a .1 .1 .1 .0 .now)) × (e .1 .1 .1 .1 .1 .0 .now ≡ run.stackAfter ran (a .1 .1 .1 .1 .1 .0 .now))))
 
 abbrev pub RunCall : Type 0
-RunCall = Call runner.run.Kinds.ps runner.run.Kinds.r runner.run.Reads.Post
+RunCall = lent.Call runner.run.ended RunAllows
 
 abbrev pub runsAlways : Type 0
-runsAlways = Always runner.run.Kinds.ps runner.run.Kinds.r runner.run.Reads.Post
+runsAlways = lent.Always runner.run.ended RunAllows
 
 abbrev pub textOf : RunCall → List ℕ
 textOf c = c .passed .0 .now
@@ -25,7 +39,7 @@ textOf c = c .passed .0 .now
 abbrev pub inputOf : RunCall → List ℕ
 inputOf c = c .passed .1 .0 .now
 
--- the string space and the room for output, as they were lent and as they are left
+-- the string space, the room for output and the records, as they were lent and as they are left
 abbrev pub spaceBefore : RunCall → List ℕ
 spaceBefore c = c .passed .1 .1 .0 .now
 
@@ -38,14 +52,20 @@ roomBefore c = c .passed .1 .1 .1 .0 .now
 abbrev pub roomAfter : RunCall → List ℕ
 roomAfter c = c .left .1 .1 .1 .0
 
+abbrev pub stackBefore : RunCall → List Record
+stackBefore c = c .passed .1 .1 .1 .1 .1 .0 .now
+
+abbrev pub stackAfter : RunCall → List Record
+stackAfter c = c .left .1 .1 .1 .1 .1 .0
+
 abbrev pub lentOf : RunCall → Lent
-lentOf c = lentBy (spaceBefore c) (roomBefore c)
+lentOf c = lentBy (spaceBefore c) (roomBefore c) (length (stackBefore c))
 
 abbrev pub budgetOf : RunCall → ℕ
-budgetOf c = c .passed .1 .1 .1 .1 .1 .0
+budgetOf c = c .passed .1 .1 .1 .1 .1 .1 .0
 
 abbrev pub tablesBefore : RunCall → Tables
-tablesBefore c = c .passed .1 .1 .1 .1 .1 .1 .0
+tablesBefore c = c .passed .1 .1 .1 .1 .1 .1 .1 .0
 
 -- ---- `check_recipe(text)`
 
@@ -75,10 +95,17 @@ spaceHanded c = c .passed .1 .0 .now
 abbrev pub nameAsked : AskCall → List ℕ
 nameAsked c = c .passed .1 .1 .0 .now
 
--- ---- `quernhem_run(text, input, space, room, index, budget, tables, answer)`
+-- ---- `quernhem_run(text, input, space, room, index, records, budget, tables, answer)`
+
+-- what its contract allows (`quernhem-run-says`)
+abbrev pub BoxAllows : lent.Allows host.quernhem_run.ended
+BoxAllows lifetimes a r e =
+    HasRun (runOf (a .0 .now) (a .1 .0 .now) (lentBy (a .1 .1 .0 .now) (a .1 .1 .1 .0 .now) (length (a .1 .1 .1 .1 .1 .0 .now))) (a .1 .1 .1 .1 .1 .1 .0))
+    (a .1 .1 .0 .now) (a .1 .1 .1 .0 .now) (a .1 .1 .1 .1 .1 .0 .now) (a .1 .1 .1 .1 .1 .1 .1 .0 .now)
+    (e .1 .1 .0 .now) (e .1 .1 .1 .0 .now) (e .1 .1 .1 .1 .1 .0 .now) (e .1 .1 .1 .1 .1 .1 .1 .0 .now) (e .1 .1 .1 .1 .1 .1 .1 .1 .0 .now)
 
 abbrev pub RunBox : Type 0
-RunBox = Call host.quernhem_run.Kinds.ps host.quernhem_run.Kinds.r host.quernhem_run.Reads.Post
+RunBox = lent.Call host.quernhem_run.ended BoxAllows
 
 abbrev pub textIn : RunBox → List ℕ
 textIn c = c .passed .0 .now
@@ -98,21 +125,30 @@ roomIn c = c .passed .1 .1 .1 .0 .now
 abbrev pub roomOut : RunBox → List ℕ
 roomOut c = c .left .1 .1 .1 .0
 
+abbrev pub recordsIn : RunBox → List Record
+recordsIn c = c .passed .1 .1 .1 .1 .1 .0 .now
+
+abbrev pub recordsOut : RunBox → List Record
+recordsOut c = c .left .1 .1 .1 .1 .1 .0
+
 abbrev pub lentIn : RunBox → Lent
-lentIn c = lentBy (spaceIn c) (roomIn c)
+lentIn c = lentBy (spaceIn c) (roomIn c) (length (recordsIn c))
 
 abbrev pub budgetIn : RunBox → ℕ
-budgetIn c = c .passed .1 .1 .1 .1 .1 .0
+budgetIn c = c .passed .1 .1 .1 .1 .1 .1 .0
 
 abbrev pub blockIn : RunBox → List ℕ
-blockIn c = c .passed .1 .1 .1 .1 .1 .1 .0 .now
+blockIn c = c .passed .1 .1 .1 .1 .1 .1 .1 .0 .now
 
 abbrev pub blockOut : RunBox → List ℕ
-blockOut c = c .left .1 .1 .1 .1 .1 .1 .0
+blockOut c = c .left .1 .1 .1 .1 .1 .1 .1 .0
 
 -- the words of the answer: outcome (4: refused), number, line, place, steps, bytes written, input bytes taken
+abbrev pub answerWords : RunBox → List ℕ
+answerWords c = c .left .1 .1 .1 .1 .1 .1 .1 .1 .0
+
 abbrev pub answerWord : RunBox → ℕ → ℕ
-answerWord c i = getD (c .left .1 .1 .1 .1 .1 .1 .1 .0) i 0
+answerWord c i = getD (answerWords c) i 0
 
 abbrev pub outcomeWord : RunBox → ℕ
 outcomeWord c = answerWord c 0

@@ -16,11 +16,11 @@ use Rattle.loader.specs.declared.refusals.Refusal.{Refusal}
 use Rattle.space.specs.declared.offsets.Offset.{Offset}
 use Rattle.variables.specs.Strings.{Room, fault, make, longestSpace}
 use Rattle.variables.specs.Variables.{stringBytes}
-use Rattle.machine.specs.Machine.{Lent}
+use Rattle.machine.specs.Machine.{Lent, mostRecords}
 use Rattle.checker.specs.Check.{verdictNumber, verdictLine, verdictPlace}
 use Rattle.checker.specs.declared.checking.Verdict.{Verdict}
 use Rattle.runner.specs.Run as run
-use Rattle.runner.specs.Run.{runOf, numberIn, lineIn, placeIn, isRefused, answerOf}
+use Rattle.runner.specs.Run.{runOf, numberIn, lineIn, placeIn, isRefused}
 use Rattle.asking.specs.declared.questions.Asked.the-variants.{Text}
 use Rattle.runner.specs.declared.running.Outcome.{Outcome}
 use Rattle.promises.specs.Calls.{
@@ -32,6 +32,8 @@ use Rattle.promises.specs.Calls.{
   spaceAfter,
   roomBefore,
   roomAfter,
+  stackBefore,
+  stackAfter,
   lentOf,
   budgetOf,
   tablesBefore,
@@ -77,10 +79,12 @@ pub record LoadRefused (text : List ℕ) (number at : ℕ) : Type 0 where
   pub numbered : refusalNumber refusal ≡ number
   pub loads : loadOf text ≡ loaded.Refused refusal (place at)
 
--- a string space over 16,384 bytes is 106 at place 0, whatever the text; else loading decides, by 100 to 105 and a place
+-- a string space over 16,384 bytes is 106 at place 0, whatever the records and the text; else more than 256 records are 107 at place 0; else
+-- loading decides, by 100 to 105 and a place
 pub data RefusedFor (text : List ℕ) (lent : Lent) : ℕ → ℕ → Type 0 where
   longSpace : longestSpace < lent .space → RefusedFor text lent 106 0
-  notLoaded : {number at : ℕ} → lent .space ≤ longestSpace → LoadRefused text number at → RefusedFor text lent number at
+  longStack : lent .space ≤ longestSpace → mostRecords < lent .records → RefusedFor text lent 107 0
+  notLoaded : {number at : ℕ} → lent .space ≤ longestSpace → lent .records ≤ mostRecords → LoadRefused text number at → RefusedFor text lent number at
 
 -- a run was refused with a number, at a place
 pub record WasRefused (o : Outcome) (number at : ℕ) : Type 0 where
@@ -88,14 +92,14 @@ pub record WasRefused (o : Outcome) (number at : ℕ) : Type 0 where
   pub numbered : numberIn o ≡ number
   pub placed : placeIn o ≡ at
 
--- A run is refused with a number and a place if and only if its string space or its text is refused so. It does not say what a text is
--- refused for: that is `loadOf`. Ruled out: a run that refuses a space of exactly 16,384 bytes; one that runs the lines before the first
+-- A run is refused with a number and a place if and only if its string space, its records or its text are refused so. It does not say what a text is
+-- refused for: that is `loadOf`. Ruled out: a run that refuses a space of exactly 16,384 bytes, or 256 records; one that runs the lines before the first
 -- bad one; one that says 105 where it means 106.
 abbrev pub refusesExactly : Type 0
 refusesExactly =
     (c : RunCall) (number at : ℕ) → WasRefused (c .answer .outcome) number at ↔ RefusedFor (textOf c) (lentOf c) number at
 
--- the counts are 0, and the tables, the string space and the room for output are as they were lent, to the last byte
+-- the counts are 0, and the tables, the string space, the room for output and the records are as they were lent, to the last byte
 pub record Unchanged (c : RunCall) : Type 0 where
   pub steps : c .answer .steps ≡ 0
   pub written : c .answer .written ≡ 0
@@ -103,9 +107,10 @@ pub record Unchanged (c : RunCall) : Type 0 where
   pub tables : c .answer .tables ≡ tablesBefore c
   pub space : spaceAfter c ≡ spaceBefore c
   pub room : roomAfter c ≡ roomBefore c
+  pub stack : stackAfter c ≡ stackBefore c
 
 -- A refusal changes nothing that was lent. It does not say so of other outcomes: a run that fails has done what it did before. Ruled out: a
--- run that clears the string space and then loads; one that hands empty tables back where it refuses.
+-- run that clears the string space and then loads; one that wipes the records where it refuses.
 abbrev pub refusalsChangeNothing : Type 0
 refusalsChangeNothing = (c : RunCall) → isRefused (c .answer .outcome) ≡ true → Unchanged c
 
@@ -115,6 +120,7 @@ pub record Within (c : RunCall) : Type 0 where
   pub strings : stringBytes (ranOf c .machine .variables .strings) ≤ length (spaceBefore c)
   pub space : length (spaceAfter c) ≡ length (spaceBefore c)
   pub room : length (roomAfter c) ≡ length (roomBefore c)
+  pub stack : length (stackAfter c) ≡ length (stackBefore c)
 
 -- What is written never exceeds the room, what is taken never exceeds the input, the bytes of all string variables never exceed the string
 -- space, and what was lent is as long after as before. Ruled out: a run that counts an item that had no room among what was written; one
@@ -132,11 +138,12 @@ askedPartsLieInside = (c : AskCall) (from : Offset) (len : ℕ) → c .answer �
 -- ---- those asked for exceed the space lent; the check refuses a recipe exactly for the faults listed
 
 pub record AsDefined (c : RunCall) : Type 0 where
-  pub answer : c .answer ≡ answerOf (ranOf c) (tablesBefore c)
+  pub answer : c .answer ≡ run.answerOf (ranOf c) (tablesBefore c)
   pub space : spaceAfter c ≡ run.spaceAfter (ranOf c) (spaceBefore c)
   pub room : roomAfter c ≡ run.roomAfter (ranOf c) (roomBefore c)
+  pub stack : stackAfter c ≡ run.stackAfter (ranOf c) (stackBefore c)
 
--- The answer, the string space and the room for output are those of `runOf`, which says document 01's chapters 'Running' and 'String space'
+-- The answer, the string space, the room for output and the records are those of `runOf`, which says document 01's chapters 'Running' and 'String space'
 -- over lists and trees. That `runOf` says what the paper means is for its reader to judge; `Starred` has it compute the paper's examples.
 -- Ruled out: a run that always says error 7; one that prints nothing; and one that does the first statement and says 'ended'.
 abbrev pub runsAsDefined : Type 0

@@ -13,4 +13,5 @@ pub mod OutOfSteps
 pub mod Refusals
 pub mod Requests
 pub mod Questions
+pub mod Seven
 pub mod Pairs

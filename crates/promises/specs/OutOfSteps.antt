@@ -11,16 +11,17 @@ use Rattle.loader.specs.declared.loading.Loaded.the-variants.{Fine}
 use Rattle.grammar.specs.Trees.{Part}
 use Rattle.variables.specs.Strings.{longestSpace}
 use Rattle.machine.specs.Items.{fresh}
-use Rattle.machine.specs.Machine.{Machine, Lent}
+use Rattle.machine.specs.Machine.{Machine, Lent, mostRecords}
 use Rattle.runner.specs.Run.{lineNumberOf, at, entering, runOf}
 use Rattle.runner.specs.declared.running.Outcome.the-variants.{Out}
 use Rattle.promises.specs.Calls.{RunCall, textOf, inputOf, lentOf, budgetOf}
 use Rattle.promises.specs.Passing.{standsAfter}
 
--- neither string space nor text is refused, as many statements as the budget were begun without an end to the run, and another stands at
+-- neither string space, records nor text are refused, as many statements as the budget were begun without an end to the run, and another stands at
 -- the line
 pub record AnotherStands (text input : List ℕ) (lent : Lent) (budget : ℕ) (l : LineNumber) : Type 0 where
   pub small : lent .space ≤ longestSpace
+  pub few : lent .records ≤ mostRecords
   pub loads : loadOf text ≡ Fine
   pub machine : Machine
   pub lines : List Line

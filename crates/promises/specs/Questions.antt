@@ -75,8 +75,8 @@ AnswersAfter ran space tables given =
 -- definition whose tables keep the length that a string had when first assigned; one that leaves the space as the last statement had it.
 abbrev pub answersAfterRuns : Type 0
 answersAfterRuns =
-    (text input space room : List ℕ) (budget : ℕ) (tables : Tables) (given : List ℕ)
-    → AnswersAfter (runOf text input (lentBy space room) budget) space tables given
+    (text input space room : List ℕ) (records budget : ℕ) (tables : Tables) (given : List ℕ)
+    → AnswersAfter (runOf text input (lentBy space room records) budget) space tables given
 
 -- a question that is put to the tables and the space that a run left which was not refused
 pub record AskedAfter (c : RunCall) (a : AskCall) : Type 0 where

@@ -16,6 +16,7 @@ use Rattle.loader.specs.declared.refusals.Refusal.{Refusal}
 use Rattle.loader.specs.declared.refusals.Refusal.the-variants.{
   NoVariable,
   SpaceTooLong,
+  StackTooLong,
   TextTooLong,
   LineTooLong,
   ForeignByte,
@@ -27,7 +28,7 @@ use Rattle.loader.specs.declared.refusals.Refusal.the-variants.{
   NoRoom,
 }
 use Rattle.variables.specs.Strings.{longestSpace}
-use Rattle.machine.specs.Machine.{Lent}
+use Rattle.machine.specs.Machine.{Lent, mostRecords}
 use Rattle.checker.specs.declared.checking.Verdict.the-variants as verdict
 use Rattle.runner.specs.declared.running.Outcome.the-variants as outcome
 use Rattle.promises.specs.Calls.{RunCall, textOf, lentOf, CheckCall, recipeOf}
@@ -71,12 +72,13 @@ rowOf TooManyPairs = 0
 rowOf NoRoom = 0
 rowOf NoVariable = 1
 rowOf SpaceTooLong = 2
-rowOf TextTooLong = 3
-rowOf LineTooLong = 4
-rowOf ForeignByte = 5
-rowOf BadNumber = 6
-rowOf NotRising = 7
-rowOf TooManyLines = 8
+rowOf StackTooLong = 3
+rowOf TextTooLong = 4
+rowOf LineTooLong = 5
+rowOf ForeignByte = 6
+rowOf BadNumber = 7
+rowOf NotRising = 8
+rowOf TooManyLines = 9
 
 abbrev pub NoneApplies : List Line → Line → Type 0
 NoneApplies before line = (r : Refusal) (p : Place) → Applies before line r p → ⊥
@@ -121,10 +123,11 @@ loadsByTable = (text : List ℕ) → LoadsByTable text
 
 -- ---- so are the refusals of calls
 
--- 106: string space over 16,384 bytes (run only), at 0; else by the text
+-- 106: string space over 16,384 bytes (run only), at 0; 107: over 256 records (run only), at 0; else by the text
 pub data RunRefused (text : List ℕ) (lent : Lent) : Refusal → Place → Type 0 where
   spaceTooLong : longestSpace < lent .space → RunRefused text lent SpaceTooLong (place 0)
-  byText : {r : Refusal} {p : Place} → lent .space ≤ longestSpace → RefusedByTable text r p → RunRefused text lent r p
+  stackTooLong : lent .space ≤ longestSpace → mostRecords < lent .records → RunRefused text lent StackTooLong (place 0)
+  byText : {r : Refusal} {p : Place} → lent .space ≤ longestSpace → lent .records ≤ mostRecords → RefusedByTable text r p → RunRefused text lent r p
 
 pub record CallsRefuseByTable : Type 0 where
   pub runs : (c : RunCall) (r : Refusal) (p : Place) → (c .answer .outcome ≡ outcome.Refused r p) ↔ RunRefused (textOf c) (lentOf c) r p

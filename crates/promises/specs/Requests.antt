@@ -11,7 +11,7 @@ use Rattle.grammar.specs.Trees.{Statement}
 use Rattle.variables.specs.Strings.{longestSpace}
 use Rattle.variables.specs.Variables.{stringBytes}
 use Rattle.machine.specs.Items.{fresh}
-use Rattle.machine.specs.Machine.{Machine, Lent}
+use Rattle.machine.specs.Machine.{Machine, Lent, mostRecords}
 use Rattle.runner.specs.Run.{entering, runOf}
 use Rattle.promises.specs.StringSpace.{Ask, bytesIn, StatementAsks, Begins}
 use Rattle.promises.specs.Unfinished.{mostUnfinished, Few}
@@ -27,6 +27,7 @@ Fits space variables k = variables + bytesIn (k .unfinished) + length (k .bytes)
 -- a run that is not refused begins a statement, which asks for a string
 pub record Request (text input : List ℕ) (lent : Lent) (budget : ℕ) : Type 0 where
   pub small : lent .space ≤ longestSpace
+  pub few : lent .records ≤ mostRecords
   pub loads : loadOf text ≡ Fine
   pub from : List Line
   pub place : ℕ

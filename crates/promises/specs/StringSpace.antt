@@ -24,7 +24,7 @@ use Rattle.variables.specs.Variables.{Variables, bytesOf, stringBytes}
 use Rattle.strings.specs.Functions.{called}
 use Rattle.operators.specs.Values.{leftRight, taken, valueOf, valuesOf}
 use Rattle.machine.specs.Items.{fresh}
-use Rattle.machine.specs.Machine.{Machine, Lent, roomOf, withItems, withStep, noting, printed, write, commaBlanks, longestInputLine}
+use Rattle.machine.specs.Machine.{Machine, Lent, mostRecords, roomOf, withItems, withStep, noting, printed, write, commaBlanks, longestInputLine}
 use Rattle.statements.specs.Parts.{placeOf, headOf}
 use Rattle.machine.specs.Order.{Stand, some, wendFor}
 use Rattle.turns.specs.Steps.{Next, shownValue, takeLine, given, isWholeKind}
@@ -155,6 +155,7 @@ pub data Begins (program : List ℕ) : ℕ → Standing → List Line → ℕ �
 -- variables and all unfinished strings
 pub record AsksTooMuch (program lines : List ℕ) (lent : Lent) (budget : ℕ) (l : LineNumber) : Type 0 where
   pub small : lent .space ≤ longestSpace
+  pub few : lent .records ≤ mostRecords
   pub loads : loadOf program ≡ Fine
   pub from : List Line
   pub numbered : lineNumberOf from ≡ l

@@ -7,7 +7,7 @@ use checker::Verdict;
 use checker::check_recipe;
 use runner::Outcome;
 use runner::Ran;
-use runner::run;
+use runner::run_with;
 use variables::Tables;
 
 // The check did not pass it, and nothing was run; or how the run came out.
@@ -58,18 +58,28 @@ pub fn run_checked(
     input: &[u8],
     space: &mut [u8],
     room: &mut [u8],
+    records: usize,
     budget: u32,
     tables: Tables,
 ) -> CheckedRun
     ensures { λ r. ⌜
-        (r ≡ guardedAnswer (guardedRun (now (text .entry)) (now (input .entry)) (lentBy (now (space .entry)) (now (room .entry))) budget) tables)
-        × ((now (space .exit) ≡ guardedSpace (guardedRun (now (text .entry)) (now (input .entry)) (lentBy (now (space .entry)) (now (room .entry))) budget) (now (space .entry)))
-        × ((now (room .exit) ≡ guardedRoom (guardedRun (now (text .entry)) (now (input .entry)) (lentBy (now (space .entry)) (now (room .entry))) budget) (now (room .entry)))
+        (r ≡ guardedAnswer (guardedRun (now (text .entry)) (now (input .entry)) (lentBy (now (space .entry)) (now (room .entry)) records) budget) tables)
+        × ((now (space .exit) ≡ guardedSpace (guardedRun (now (text .entry)) (now (input .entry)) (lentBy (now (space .entry)) (now (room .entry)) records) budget) (now (space .entry)))
+        × ((now (room .exit) ≡ guardedRoom (guardedRun (now (text .entry)) (now (input .entry)) (lentBy (now (space .entry)) (now (room .entry)) records) budget) (now (room .entry)))
         × (endsChecked (r .outcome) ≡ true)))
         ⌝ }
 {
     match check_recipe(text) {
-        Verdict::Passed => let_through(run(text, input, space, room, &[], budget, tables)),
+        Verdict::Passed => let_through(run_with(
+            text,
+            input,
+            space,
+            room,
+            &[],
+            records,
+            budget,
+            tables,
+        )),
         Verdict::Refused(refusal, place) => held(Verdict::Refused(refusal, place), tables),
         Verdict::Faulty(error, line) => held(Verdict::Faulty(error, line), tables),
     }

@@ -9,7 +9,6 @@ use lib.ListN.{getD}
 use Rattle.whole.specs.declared.errors.Error.the-variants.{WendWithoutWhile}
 use Rattle.grammar.specs.Trees as tree
 use Rattle.machine.specs.Machine as spec
-use Rattle.machine.specs.Machine.{mostRecords}
 use Rattle.machine.specs.Repeats.{startOf, isWhileOf}
 use Rattle.machine.specs.bridge.Holding.{positionOf, Positioned, blankRecord, backOf, recordOf, recordsIn, Sound, Same, State}
 use Rattle.machine.specs.bridge.Wanted.{FoundAt, Told}
@@ -37,7 +36,7 @@ same-found {text} {m} {slot = slot} {entry = entry} {rs = rs} t s =
     let b = t .below in
     let top : recordsIn text names rs (slot + 1) ≡ recordOf text names entry ∷ recordsIn text names rs slot =
     rw add-one (records-top text names rs slot ∙ ap (λ e. recordOf text names e ∷ recordsIn text names rs slot) (sym (t .at))) in
-    same-depth (slot + 1) _ (sym top) (λ i h. let g : i < m .depth = omega arith in s .placed i g) s
+    same-depth (slot + 1) _ (sym top) (λ i h. let g : i < m .depth = omega arith in s .placed i g) refl s
 
 module _ {text : List ℕ} {m : State} {input space room : List ℕ} (entry : Record) (line at : ℕ) (after : spec.Position)
     (starts : startOf (after .lines) ≡ line) (sound : Sound m input space room) where
@@ -45,7 +44,7 @@ module _ {text : List ℕ} {m : State} {input space room : List ℕ} (entry : Re
       (λ n. doStatement text at tree.wend n after) (turnedTo m (next.Fails WendWithoutWhile)) space room
   wend-missing =
       turns-fails (leaves-unprinted sound refl refl refl)
-      (λ rs l t n s.
+      (λ rs t n s.
       record {
         machine = n;
         is = ap (λ x. turnedBack n (spec.sought (isWhileOf x at) (n .records))) starts
@@ -57,9 +56,9 @@ module _ {text : List ℕ} {m : State} {input space room : List ℕ} (entry : Re
       → Turns text m input space room (Told text (m .tables .numbers .names) (isWhileOf line at) (m .depth) (found.At slot) entry)
       (λ n. doStatement text at tree.wend n after) (turnedTo (withDepth m (slot + 1)) (next.On (backOf entry))) space room
   wend-found slot b =
-      let d : slot + 1 ≤ mostRecords = omega (arith, sound .deep) in
+      let d : slot + 1 ≤ m .records = omega (arith, sound .deep) in
       turns-unwritten (leaves-unprinted (sound-depth (slot + 1) d sound) refl refl refl)
-      (λ rs l t n s.
+      (λ rs t n s.
       let r = recordOf text (m .tables .numbers .names) entry in
       let under = recordsIn text (m .tables .numbers .names) rs slot in
       let does : doStatement text at tree.wend n after ≡ goesOn (spec.withRecords n (r ∷ under)) (positionOf text (backOf entry)) =

@@ -19,7 +19,6 @@ use Rattle.variables.specs.declared.values.Worked.{Worked}
 use Rattle.variables.specs.declared.values.Worked.the-variants.{Whole}
 use Rattle.variables.proofs.Agreements.{workedTag}
 use Rattle.machine.specs.Machine as spec
-use Rattle.machine.specs.Machine.{mostRecords}
 use Rattle.machine.specs.Order.{Stand, past, Partner, none, some, wendFor}
 use Rattle.machine.specs.Repeats.{startOf, isWhile, wendOf}
 use Rattle.machine.specs.bridge.Holding.{linesAt, positionOf, Positioned, backOf, recordOf, recordsIn, whileRecord, Placed, Paired, Sound, Same, State}
@@ -51,7 +50,7 @@ turns-never : {text : List ℕ} {m : State} {input space room : List ℕ} {told 
     → Leaves m input space room r space′ room′
     → ((rs : List Record) → told rs → (n : spec.Machine) → Same text rs m input space room n → ⊥)
     → Turns text m input space room told does r space′ room′
-turns-never leaves h = record { leaves = leaves; comes = λ rs l t n s. absurd (h rs t n s) }
+turns-never leaves h = record { leaves = leaves; comes = λ rs t n s. absurd (h rs t n s) }
 
 by-partner : {P : Type 0} (p : Partner) → (p ≡ none → P) → ((w : Stand) → p ≡ some w → P) → P
 by-partner none n s = n refl
@@ -115,7 +114,7 @@ module _ {text line : List ℕ} {here at : Place} {first : Scanned} {c : Formula
       → Turns text m input space room (told f entry) does (turnedTo m (next.Fails WhileWithoutWend)) space room
   no-wend f entry e =
       turns-fails (leaves-unprinted sound refl refl refl)
-      (λ rs l t n s. record { machine = n; is = ap (λ p. whileBy p (at .0) c n back) e; same = s })
+      (λ rs t n s. record { machine = n; is = ap (λ p. whileBy p (at .0) c n back) e; same = s })
 
   -- ---- it has no record
 
@@ -136,7 +135,7 @@ module _ {text line : List ℕ} {here at : Place} {first : Scanned} {c : Formula
           turns-as (as-worked w e)
           (turns-whole (goes w) sound v
           (turns-on (leaves-unprinted (sound-kept (v .framed .long) sound) refl refl refl) p
-          (λ rs l t n s. record { machine = n; is = goes-missing t s ∙ rw (eq-eqb x 0 z) (ap (goesOn n) (sym there)); same = s })))
+          (λ rs t n s. record { machine = n; is = goes-missing t s ∙ rw (eq-eqb x 0 z) (ap (goesOn n) (sym there)); same = s })))
 
       -- a record is made, with the place of its WEND
       module _ {spot : Spot} {rest : List Stand} (ahead : Ahead text spot (w ∷ rest)) where
@@ -167,7 +166,7 @@ module _ {text line : List ℕ} {here at : Place} {first : Scanned} {c : Formula
             (turns-whole (goes w) sound v
             (turns-pushed held (next.On (afterOf here u)) (spec.again (hereOf (at .0) c back)) held-is (λ o. goesOn o back)
             (sound-kept (v .framed .long) sound) refl refl refl held-placed (λ o S s. (k .after, (refl, s)))
-            (λ rs l t n s. record { machine = n; is = goes-missing t s ∙ rw (ne-eqb x 0 z); same = s }))))
+            (λ rs t n s. record { machine = n; is = goes-missing t s ∙ rw (ne-eqb x 0 z); same = s }))))
 
   -- ---- its record is there
 
@@ -194,7 +193,7 @@ module _ {text line : List ℕ} {here at : Place} {first : Scanned} {c : Formula
         by-wend (leaves-unprinted (sound-kept long sound) long refl refl) (λ w e. turns-as (as-worked w e) (turns-none (goes w) sound r h v))
 
     module _ {space′ : List ℕ} {x : ℕ} {y : Scanned} (v : Valued m c u space (Whole x y) space′) where
-      sound-at : (d : ℕ) → d ≤ mostRecords → Sound (withDepth m d) input space′ room
+      sound-at : (d : ℕ) → d ≤ m .records → Sound (withDepth m d) input space′ room
       sound-at d h = sound-depth d h (sound-kept (v .framed .long) sound)
 
       goes-found : (w : Stand) {rs : List Record} {n : spec.Machine} → told (found.At slot) entry rs → Same text rs m input space′ room n
@@ -205,18 +204,18 @@ module _ {text line : List ℕ} {here at : Place} {first : Scanned} {c : Formula
       -- it stays, and the body is done
       pub found-true : (x ≡ 0 → ⊥) → Found-turns (turnedTo (withDepth m (slot + 1)) (next.On (afterOf here y))) space′
       found-true z =
-          let d : slot + 1 ≤ mostRecords = omega (arith, sound .deep) in
+          let d : slot + 1 ≤ m .records = omega (arith, sound .deep) in
           rw (v .goes)
           (by-wend (leaves-unprinted (sound-at (slot + 1) d) (v .framed .long) refl refl)
           (λ w e. turns-as (as-worked w e)
           (turns-whole (goes w) sound v
           (turns-on (leaves-unprinted (sound-at (slot + 1) d) refl refl refl) (k .after)
-          (λ rs l t n s. record { machine = _; is = goes-found w t s ∙ rw (ne-eqb x 0 z); same = same-found t s })))))
+          (λ rs t n s. record { machine = _; is = goes-found w t s ∙ rw (ne-eqb x 0 z); same = same-found t s })))))
 
       -- or is dropped, and the run goes on after the WEND
       pub found-false : x ≡ 0 → {nx : Next} → PastWend text nx (wendFor (at .0) lines) → Found-turns (turnedTo (withDepth m slot) nx) space′
       found-false z {nx} p =
-          let d : slot ≤ mostRecords = omega (arith, sound .deep) in
+          let d : slot ≤ m .records = omega (arith, sound .deep) in
           let b : slot ≤ m .depth = omega arith in
           by-wend (leaves-unprinted (sound-at slot d) (v .framed .long) refl refl)
           (λ w e.
@@ -225,7 +224,7 @@ module _ {text line : List ℕ} {here at : Place} {first : Scanned} {c : Formula
           (turns-as (as-worked w e)
           (turns-whole (goes w) sound v
           (turns-on (leaves-unprinted (sound-at slot d) refl refl refl) (g .placed)
-          (λ rs l t n s.
+          (λ rs t n s.
           record {
             machine = spec.withRecords n (recordsIn text (m .tables .numbers .names) rs slot);
             is = goes-found w t s

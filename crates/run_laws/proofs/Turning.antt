@@ -27,7 +27,7 @@ use Rattle.statements.proofs.Depths.{heads-append}
 use Rattle.variables.specs.Strings.{Value, whole, text, Outcome, value, fault, make}
 use Rattle.variables.specs.Variables.{wordOf, numbersFull, stringsFull}
 use Rattle.operators.specs.Values.{valueOf}
-use Rattle.machine.specs.Machine.{Position, Record, loop, call, again, Machine, mostRecords, roomOf, withRecords, withInput, write, commaBlanks, Search, missing, found, sought, passed, isCall, isLoop, isLoopOf, longestInputLine, withItems}
+use Rattle.machine.specs.Machine.{Position, Record, loop, call, again, Machine, roomOf, withRecords, withInput, write, commaBlanks, Search, missing, found, sought, passed, isCall, isLoop, isLoopOf, longestInputLine, withItems}
 use Rattle.machine.specs.Order.{Stand, Partner, none, some, past, pairsBy, nextFor, wendFor}
 use Rattle.machine.specs.Repeats.{startOf, isWhile, isWhileOf}
 use Rattle.order.proofs.Laws.{Every, every-front, every-back, Throughout, LinesThroughout}
@@ -154,7 +154,7 @@ records-sound rs s h = record { variables = s .variables; input = s .input; item
 pushed-sound : {m : Machine} (r : Record) (go : Machine → Next) → Sound m → ProperRecord r → ((n : Machine) → Sound n → ProperNext (go n))
     → ProperNext (pushed m r go)
 pushed-sound {m} r go s h k =
-    either-proper (leb mostRecords (length (m .records))) _ _ s (k _ (records-sound (r ∷ m .records) s (h, s .held)))
+    either-proper (leb (m .recordRoom) (length (m .records))) _ _ s (k _ (records-sound (r ∷ m .records) s (h, s .held)))
 
 returned-sound : {m : Machine} (x : Search) → Sound m → records.Found ProperRecord x → ProperNext (returned m x)
 returned-sound missing s h = s

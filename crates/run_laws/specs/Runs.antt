@@ -14,7 +14,7 @@ use Rattle.loader.specs.declared.loading.Loaded.the-variants.{Fine}
 use Rattle.grammar.specs.Trees.{Formula, Variable, assign}
 use Rattle.variables.specs.Strings.{Value, whole, text, longestSpace}
 use Rattle.machine.specs.Items.{fresh}
-use Rattle.machine.specs.Machine.{Position, Machine, roomOf}
+use Rattle.machine.specs.Machine.{Position, Machine, mostRecords, roomOf}
 use Rattle.runner.specs.Run.{entering}
 use Rattle.promises.specs.Calls.{RunCall, textOf, inputOf, lentOf, budgetOf}
 use Rattle.promises.specs.StringSpace.{Begins}
@@ -29,6 +29,7 @@ AreBytes s = (i : ℕ) → i < length s → getD s i 0 < 256
 pub record Assigns (c : RunCall) (v : Variable) (f : Formula) : Type 0 where
   pub input : AreBytes (inputOf c)
   pub small : lentOf c .space ≤ longestSpace
+  pub few : lentOf c .records ≤ mostRecords
   pub loads : loadOf (textOf c) ≡ Fine
   pub from : List Line
   pub place : ℕ

@@ -11,7 +11,7 @@ use index::Indexed;
 use index::index_of;
 use loader::refusal_number;
 use runner::Outcome;
-use runner::run;
+use runner::run_with;
 use variables::Tables;
 use whole::Text;
 use whole::number_of;
@@ -78,15 +78,25 @@ pub(crate) fn answer_of(
     space: &mut [u8],
     room: &mut [u8],
     budget: u32,
+    records: usize,
 ) -> Answer
     ensures { λ r. ⌜
-        Tells (runOf (now (text .entry)) (now (input .entry)) (lentBy (now (space .entry)) (now (room .entry))) budget)
+        Tells (runOf (now (text .entry)) (now (input .entry)) (lentBy (now (space .entry)) (now (room .entry)) records) budget)
         r (now (room .exit))
         ⌝ }
 {
     let mut index = [0; Indexed::WORDS];
     index_of(text, &mut index);
-    let ran = run(text, input, space, room, &index, budget, Tables::empty());
+    let ran = run_with(
+        text,
+        input,
+        space,
+        room,
+        &index,
+        records,
+        budget,
+        Tables::empty(),
+    );
     let outcome = ran.outcome;
     let line = line_of(outcome, ran.steps);
     Answer {

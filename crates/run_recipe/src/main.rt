@@ -1,4 +1,4 @@
-// run_recipe RECIPE INPUT [SPACE [ROOM [BUDGET]]]
+// run_recipe RECIPE INPUT [SPACE [ROOM [BUDGET [RECORDS]]]]
 // Runs a recipe on an input, and writes what it prints and then a line: outcome, number, line (place if refused) and steps.
 mod answers;
 
@@ -29,7 +29,10 @@ const ROOM: usize = 4;
 
 const BUDGET: usize = 5;
 
-// What is lent where an argument is left out, and the most that can be asked for. Over the usual space the runner refuses (106).
+const RECORDS: usize = 6;
+
+// What is lent where an argument is left out, and the most that can be asked for. Over the usual space the runner refuses (106),
+// and so it does over 256 records (107).
 const USUAL_SPACE: u32 = Machine::LONGEST_SPACE as u32;
 
 const MOST_SPACE: u32 = 32768;
@@ -42,11 +45,16 @@ const USUAL_BUDGET: u32 = 1000000;
 
 const MOST_BUDGET: u32 = 4294967295;
 
-// How many bytes of string space and of room for output are lent, and the budget.
+const USUAL_RECORDS: u32 = 32;
+
+const MOST_RECORDS: u32 = 257;
+
+// How many bytes of string space and of room for output are lent, the budget, and how many records there are.
 struct Limits {
     space: usize,
     room: usize,
     budget: u32,
+    records: usize,
 }
 
 // For the input, and for the output.
@@ -62,8 +70,15 @@ fn string_space() -> [u8; 32768]
     [0; 32768]
 }
 
-fn run_and_tell(text: &[u8], input: &[u8], space: &mut [u8], room: &mut [u8], budget: u32) {
-    let answer = answer_of(text, input, space, room, budget);
+fn run_and_tell(
+    text: &[u8],
+    input: &[u8],
+    space: &mut [u8],
+    room: &mut [u8],
+    budget: u32,
+    records: usize,
+) {
+    let answer = answer_of(text, input, space, room, budget, records);
     let written = answer.written;
     let line = answer.line;
     if write(&room[..written]) {
@@ -84,6 +99,7 @@ fn run_within(text: &[u8], input: &[u8], limits: Limits)
         &mut strings[..lent],
         &mut output[..most],
         limits.budget,
+        limits.records,
     );
 }
 
@@ -111,8 +127,8 @@ fn run_recipe(limits: Limits)
 
 fn main() {
     let count = os::arg_count();
-    if count <= INPUT || BUDGET < count - 1 {
-        complain(b"usage: run_recipe RECIPE INPUT [SPACE [ROOM [BUDGET]]]");
+    if count <= INPUT || RECORDS < count - 1 {
+        complain(b"usage: run_recipe RECIPE INPUT [SPACE [ROOM [BUDGET [RECORDS]]]]");
         return;
     }
     let space = number_argument(b"SPACE", SPACE, USUAL_SPACE, MOST_SPACE);
@@ -127,9 +143,14 @@ fn main() {
     let Setting::Is(budget) = steps else {
         return;
     };
+    let stack = number_argument(b"RECORDS", RECORDS, USUAL_RECORDS, MOST_RECORDS);
+    let Setting::Is(records) = stack else {
+        return;
+    };
     run_recipe(Limits {
         space: lent as usize,
         room: most as usize,
         budget,
+        records: records as usize,
     });
 }

@@ -5,7 +5,7 @@ use mathlib.Core.List.{List, []}
 use Prim.Native.Nat.{ℕ, zero, suc, _+_, _-_, _≤_, _<_}
 use native.Mathlib.Omega.{arith}
 use borrow.Author.Tests.{ltb-true, ltb-false}
-use lib.ListN.{length, drop, set, replicate, length-set, length-replicate}
+use lib.ListN.{length, drop, replicate}
 use lib.Seq.{drop-drop}
 use Rattle.loader.specs.Lines.{Line, linesOf}
 use Rattle.grammar.specs.Trees.{Part}
@@ -19,25 +19,23 @@ use Rattle.rows.proofs.Ordering.{row-lines}
 use Rattle.machine.specs.Machine.{lentBy, mostRecords}
 use Rattle.machine.specs.Machine as spec
 use Rattle.machine.specs.Items as text-items
-use Rattle.machine.specs.bridge.Holding.{linesAt, blankRecord, freshMachine, fromLine, State, stateOf, Sound, Same}
+use Rattle.machine.specs.bridge.Holding.{linesAt, freshMachine, fromLine, State, stateOf, Sound, Same}
 use Rattle.machine.specs.declared.records.Record.{Record}
-use Rattle.machine.specs.declared.records.Sought.{Sought}
 use Rattle.machine.specs.declared.state.Machine.{Machine}
 use Rattle.machine.proofs.Stacking.{records-none}
 use Rattle.runner.specs.Run as run
 use Rattle.runner.specs.Run.{finished, endsWith, running, entering, lineNumberOf, isRefused}
 use Rattle.runner.specs.bridge.Standings.{AtAs, StandsAs, Rowed, StandsIn}
-use Rattle.runner.specs.bridge.Acting.{goesOf, StandsAt, LooksUp, Ready, Acts, ActsAt}
+use Rattle.runner.specs.bridge.Acting.{goesOf, StandsAt, Acts}
 use Rattle.runner.specs.bridge.Endings.{runIn, outcomeOf, endedAs, RanAs, Blank}
+use Rattle.runner.specs.bridge.Lending.{Awaits, StepsAs}
 use Rattle.runner.specs.declared.going.Acted.{Acted}
-use Rattle.runner.specs.declared.going.Asked.{Asked}
-use Rattle.runner.specs.declared.going.Lookup.{Lookup}
+use Rattle.runner.specs.declared.going.Going.{Going}
 use Rattle.runner.specs.declared.running.Outcome.the-variants.{Out}
 use Rattle.runner.specs.declared.running.Ran.{Ran}
 use Rattle.runner.specs.declared.standing.Standing.{Standing}
 use Rattle.runner.specs.declared.standing.Standing.the-variants as standing
 use Rattle.runner.proofs.Entering.{row-numbered}
-use Rattle.runner.proofs.Turning.{looked-below}
 use Rattle.runner.proofs.Finishing.{ran-as}
 
 -- ---- the definition's run
@@ -63,13 +61,12 @@ running-turn k l text z m ls p e = rw (z, e)
 -- ---- what the loop keeps
 
 -- the code's machine and standing are a definition's, from which what is left of the run comes to the same
-pub record Kept (text rows input space₀ room₀ : List ℕ) (budget : ℕ) (space room : List ℕ) (m : State) (s : Standing) (rs : List Record) : Type 0 where
+pub record Kept (text rows input space₀ room₀ : List ℕ) (rs₀ : List Record) (budget : ℕ) (space room : List ℕ) (m : State) (s : Standing) (rs : List Record) : Type 0 where
   pub sound : Sound m input space room
   pub spaceLong : length space ≡ length space₀
   pub roomLong : length room ≡ length room₀
   -- output beyond the bytes written is unchanged
   pub beyond : drop (m .printer .written) room ≡ drop (m .printer .written) room₀
-  pub slots : length rs ≡ mostRecords
   pub within : m .steps ≤ budget
   pub rowed : Rowed rows s
   -- the definition's machine, and where its run stands
@@ -77,13 +74,13 @@ pub record Kept (text rows input space₀ room₀ : List ℕ) (budget : ℕ) (sp
   pub same : Same text rs m input space room machine
   pub place : run.Standing
   pub stands : StandsAs text rows s machine place
-  pub comes : running (budget - m .steps) text place ≡ runIn text input (lentBy space₀ room₀) budget
+  pub comes : running (budget - m .steps) text place ≡ runIn text input (lentBy space₀ room₀ (length rs₀)) budget
 
 -- it holds at the start
-module _ (text input space room : List ℕ) (small : length space ≤ longestSpace) where
+module _ (text input space room : List ℕ) (rs : List Record) (small : length space ≤ longestSpace) (few : length rs ≤ mostRecords) where
   abbrev fresh : State
   fresh =
-      stateOf freshMachine (replicate namesLong 0) (replicate mostVariables 0) (replicate namesLong 0) (replicate mostVariables 0)
+      stateOf (freshMachine (length rs)) (replicate namesLong 0) (replicate mostVariables 0) (replicate namesLong 0) (replicate mostVariables 0)
 
   fresh-sound : Sound fresh input space room
   fresh-sound =
@@ -94,11 +91,17 @@ module _ (text input space room : List ℕ) (small : length space ≤ longestSpa
         deep = omega arith;
       }
 
-  fresh-same : (rs : List Record) → Same text rs fresh input space room (text-items.fresh text input (lentBy space room))
-  fresh-same rs =
+  abbrev start : spec.Machine
+  start = text-items.fresh text input (lentBy space room (length rs))
+
+  fresh-same : Same text rs fresh input space room start
+  fresh-same =
       record {
         variables = rw (empty-numbers-held, empty-strings-held space);
         records = sym (records-none text (replicate namesLong 0) rs);
+        recordRoom = refl;
+        slots = refl;
+        few = few;
         column = refl;
         output = refl;
         outputRoom = refl;
@@ -110,24 +113,23 @@ module _ (text input space room : List ℕ) (small : length space ≤ longestSpa
         placed = λ i h. absurd (omega arith);
       }
 
-  pub kept-fresh : (budget : ℕ) {rows names words labels lengths : List ℕ} {machine : Machine} {s : Standing} {rs : List Record} → Tabled text rows
-      → Blank names words labels lengths → rs ≡ replicate mostRecords blankRecord
-      → (machine ≡ freshMachine) × StandsIn rows s (λ x. Unit {0}) (λ x n. entering n (linesOf x))
-      → Kept text rows input space room budget space room (stateOf machine names words labels lengths) s rs
-  kept-fresh budget {rows} {machine = machine} {s = s} {rs = rs} t blank f e =
+  pub kept-fresh : (budget : ℕ) {rows names words labels lengths : List ℕ} {machine : Machine} {s : Standing} → Tabled text rows
+      → Blank names words labels lengths
+      → (machine ≡ freshMachine (length rs)) × StandsIn rows s (λ x. Unit {0}) (λ x n. entering n (linesOf x))
+      → Kept text rows input space room rs budget space room (stateOf machine names words labels lengths) s rs
+  kept-fresh budget {rows} {machine = machine} {s = s} t blank e =
       rw (e .0, blank .noNames, blank .noWords, blank .noLabels, blank .noLengths)
       (record {
         sound = fresh-sound;
         spaceLong = refl;
         roomLong = refl;
         beyond = refl;
-        slots = rw f (length-replicate mostRecords blankRecord);
         within = omega arith;
         rowed = e .1 .rowed;
-        machine = text-items.fresh text input (lentBy space room);
-        same = fresh-same rs;
-        place = entering (text-items.fresh text input (lentBy space room)) (linesOf text);
-        stands = e .1 .stands text t tt (text-items.fresh text input (lentBy space room));
+        machine = start;
+        same = fresh-same;
+        place = entering start (linesOf text);
+        stands = e .1 .stands text t tt start;
         comes = let z : budget - 0 ≡ budget = omega arith in rw z;
       })
 
@@ -156,12 +158,12 @@ module _ {text rows : List ℕ} (t : Tabled text rows) (m : spec.Machine) (p : r
             ∙ ap (λ x. endsWith (Out x) m) (ap lineNumberOf (row-lines t (row .0) r) ∙ row-numbered t (row .0) r),
       )
 
-module _ {text rows input space₀ room₀ : List ℕ} {budget : ℕ} {space room : List ℕ} {m : State} {s : Standing} {rs : List Record}
-    (t : Tabled text rows) (k : Kept text rows input space₀ room₀ budget space room m s rs) where
+module _ {text rows input space₀ room₀ : List ℕ} {rs₀ : List Record} {budget : ℕ} {space room : List ℕ} {m : State} {s : Standing} {rs : List Record}
+    (t : Tabled text rows) (k : Kept text rows input space₀ room₀ rs₀ budget space room m s rs) where
   -- where no step is made any more, the answer is the run's
   pub kept-out : goesOf s (m .steps) budget ≡ false → {r : Ran} {space′ : List ℕ}
       → r ≡ endedAs (outcomeOf rows s) m → space′ ≡ cleared space (m .used)
-      → RanAs (runIn text input (lentBy space₀ room₀) budget) space₀ room₀ r space′ room
+      → RanAs (runIn text input (lentBy space₀ room₀ (length rs₀)) budget) space₀ room₀ r space′ room
   kept-out e a b =
       let o = stays-out t (k .machine) (k .place) s (k .rowed) (k .stands) (k .within) e in
       ran-as (k .sound) (k .same) (outcomeOf rows s) (o .0) (sym (o .1) ∙ k .comes) space₀ room₀ (k .spaceLong) (k .beyond) a b
@@ -174,33 +176,39 @@ module _ {text rows input space₀ room₀ : List ℕ} {budget : ℕ} {space roo
     left : m .steps < budget
     left = goes-at t (k .machine) (k .place) s (k .rowed) (k .stands) e .1
 
-    pub kept-ready : budget < 4294967296 → {sought : Sought} {lookup : Lookup} → LooksUp sought (m .depth) rs lookup
-        → Ready text m lookup input space room
-    kept-ready h w = record { below = looked-below w; sound = k .sound; few = omega (arith, left); fed = record { items = k .machine .items; feeds = k .same .feeds } }
+    pub kept-awaits : budget < 4294967296 → Awaits text rows input s m space room
+    kept-awaits h =
+        record {
+          stands = kept-at;
+          sound = k .sound;
+          few = omega (arith, left);
+          fed = record { items = k .machine .items; feeds = k .same .feeds };
+        }
 
-    module _ {asked : Asked} {lookup : Lookup} {r : Acted} {m′ : State} {space′ room′ : List ℕ} (acted : ActsAt text rows s m asked lookup input space room r m′ space′ room′) where
-      abbrev acts : Acts text rows (kept-at .row .0) (kept-at .at) m asked lookup input space room r m′ space′ room′
-      acts = acted .acts (kept-at .row) (kept-at .at) (kept-at .is)
+    module _ {r : Going} {m′ : State} {space′ room′ : List ℕ} {rs′ : List Record} (steps : StepsAs text rows input s m space room rs r m′ space′ room′ rs′) where
+      abbrev acted : Acted
+      acted = steps .acted
+
+      abbrev acts : Acts text rows (kept-at .row .0) (kept-at .at) m (steps .asked) (steps .lookup) input space room acted m′ space′ room′
+      acts = steps .acts .acts (kept-at .row) (kept-at .at) (kept-at .is)
 
       -- which takes a step,
       pub kept-less : budget - m′ .steps < budget - m .steps
       kept-less = omega (arith, left, acts .leaves .steps)
 
       -- and keeps all
-      pub kept-again : {rs′ : List Record} → LooksUp (asked .sought) (m .depth) rs lookup → rs′ ≡ set rs (r .slot) (r .held)
-          → Kept text rows input space₀ room₀ budget space′ room′ m′ (r .going .standing) rs′
-      kept-again look f =
+      pub kept-again : Kept text rows input space₀ room₀ rs₀ budget space′ room′ m′ (r .standing) rs′
+      kept-again =
           let l = acts .leaves in
           let w : AtAs text (spanIn rows (kept-at .row .0)) (kept-at .at) (k .machine) (k .place) = rw (kept-at .is) at (k .stands) in
-          let d = acts .went (w .stood) rs (k .slots) look (k .machine) (k .same) in
+          let d = acts .went (w .stood) rs (steps .looks) (k .machine) (k .same) in
           let one : budget - m .steps ≡ suc (budget - m′ .steps) = omega (arith, left, l .steps) in
-          rw f
+          rw (steps .left, steps .goes)
           (record {
             sound = l .sound;
             spaceLong = l .spaceLong ∙ k .spaceLong;
             roomLong = l .roomLong ∙ k .roomLong;
             beyond = l .beyond ∙ drop-more room room₀ _ _ (l .more) (k .beyond);
-            slots = length-set rs (r .slot) (r .held) ∙ k .slots;
             within = omega (arith, left, l .steps);
             rowed = acts .rowed;
             machine = d .machine;

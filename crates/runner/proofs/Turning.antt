@@ -1,16 +1,13 @@
 -- One turn: the machine that a statement begins with, the record that it asked for, the statement that is done, and where it leads.
 use mathlib.Core.Path.{_≡_, refl, ap, sym, subst, _∙_}
-use mathlib.Core.Bool.{true, false, false≢true}
+use mathlib.Core.Bool.{true}
 use mathlib.Core.List.{List}
-use Prim.Native.Nat.{ℕ, _-_, _≤_, _<_}
+use Prim.Native.Nat.{ℕ}
 use native.Mathlib.Omega.{arith}
-use borrow.Author.Tests.{eqb-true, eqb-false, ltb-false, not-false}
-use lib.Dec.{eqb}
-use lib.ListN.{length, getD, set, List·getD-eq-default}
+use lib.ListN.{getD}
 use Rattle.whole.proofs.Never.{never}
 use Rattle.words.specs.declared.places.Place.{Place}
 use Rattle.words.specs.declared.symbols.Scanned.{Scanned}
-use Rattle.words.proofs.Choices.{by-test}
 use Rattle.scanner.specs.Tokens.{tokenAt}
 use Rattle.loader.specs.declared.lines.LineSpan.{LineSpan}
 use Rattle.grammar.specs.Trees.{Part}
@@ -21,9 +18,8 @@ use Rattle.rows.specs.bridge.Rows.{spanIn, Tabled}
 use Rattle.rows.specs.declared.cells.Row.{Row}
 use Rattle.rows.proofs.Ordering.{row-lines}
 use Rattle.machine.specs.Machine as spec
-use Rattle.machine.specs.Machine.{mostRecords}
 use Rattle.machine.specs.bridge.Holding.{linesAt, blankRecord, Parted, Fed, State, stateOf, Sound, Same}
-use Rattle.machine.specs.bridge.Wanted.{isSought, foundIn, entryAt, Told}
+use Rattle.machine.specs.bridge.Wanted.{foundIn, entryAt, Told}
 use Rattle.machine.specs.bridge.Seeking.{Wish, wishOf, testOf, Seeks}
 use Rattle.machine.specs.declared.positions.Next.{Next}
 use Rattle.machine.specs.declared.positions.Turned.{Turned}
@@ -34,8 +30,6 @@ use Rattle.machine.specs.declared.records.Found.{Found}
 use Rattle.machine.specs.declared.records.Found.the-variants as found
 use Rattle.machine.specs.declared.records.Sought.{Sought}
 use Rattle.machine.proofs.Searching as search-laws
-use Rattle.machine.proofs.Searching.{nothing-found, ends-found}
-use Rattle.machine.proofs.Stacking.{getD-any, records-past}
 use Rattle.machine.proofs.Seeking.{part-seeks}
 use Rattle.machine.proofs.Standing as told
 use Rattle.machine.proofs.Standing.{told-as, part-place}
@@ -44,10 +38,10 @@ use Rattle.turns.specs.Steps.{doStatement}
 use Rattle.control.proofs.Jumps.{found-low}
 use Rattle.runner.specs.Run as run
 use Rattle.runner.specs.bridge.Standings.{lineIn, Stood, StandsAs, StandsIn, GoesTo, nextOf}
-use Rattle.runner.specs.bridge.Acting.{At, StandsAt, Asks, AsksAt, seeksOne, slotOf, noLookup, topLookup, looksOn, LooksUp, stepped, Ready, Acts, ActsAt, leavesOne}
+use Rattle.runner.specs.bridge.Acting.{At, StandsAt, Asks, AsksAt, slotOf, LooksUp, stepped, Ready, Acts, ActsAt}
+use Rattle.runner.specs.bridge.Lending.{lookupOf}
 use Rattle.runner.specs.declared.going.Acted.{Acted}
 use Rattle.runner.specs.declared.going.Asked.{Asked}
-use Rattle.runner.specs.declared.going.Going.{Going}
 use Rattle.runner.specs.declared.going.Lookup.{Lookup}
 use Rattle.runner.specs.declared.running.Outcome.{Outcome}
 use Rattle.runner.specs.declared.standing.Standing as code
@@ -77,6 +71,9 @@ same-stepped s =
     record {
       variables = s .variables;
       records = s .records;
+      recordRoom = s .recordRoom;
+      slots = s .slots;
+      few = s .few;
       column = s .column;
       output = s .output;
       outputRoom = s .outputRoom;
@@ -153,30 +150,15 @@ came text (next.Fails e) (step.fails f m) P h = record { machine = m; holds = h 
 pub looked-below : {k : Sought} {d : ℕ} {rs : List Record} {l : Lookup} → LooksUp k d rs l → FoundBelow d (l .found)
 looked-below {k} {d} {rs} w = rw (w .found) (found-low k rs d)
 
--- where none is asked for, none is found
-pub looked-none : (asked : Asked) (d : ℕ) (rs : List Record) {l : Lookup} → seeksOne asked ≡ false → l ≡ noLookup → LooksUp (asked .sought) d rs l
-looked-none asked d rs z e =
-    let k : asked .sought .kind ≡ 0 = eqb-true _ _ (not-false (eqb (asked .sought .kind) 0) z) in
-    rw e (record { found = nothing-found (asked .sought) rs d k; entry = refl })
-
--- the topmost is found where it is asked for
-pub looked-top : (k : Sought) (d : ℕ) (rs : List Record) (blank : Record) {l : Lookup} → d ≤ length rs → l ≡ topLookup k d (getD rs (d - 1) blank)
-    → looksOn l ≡ false → LooksUp k d rs l
-looked-top k d rs blank few e on =
-    by-test (eqb d 0) (λ z. absurd (false≢true (sym on ∙ rw (e, z)))) λ z.
-    by-test (isSought k (getD rs (d - 1) blank))
-    (λ t. let some : 0 < d = omega (arith, eqb-false d 0 z) in
-    rw (e, z, t) (record { found = ends-found k rs d blank some few t; entry = getD-any rs (d - 1) blank blankRecord (omega arith) }))
-    (λ t. absurd (false≢true (sym on ∙ rw (e, z, t))))
-
 -- what stands at the slot that was found is what was found
-pub looked-at : (f : Found) (rs : List Record) → length rs ≡ mostRecords → getD rs (slotOf f) blankRecord ≡ entryAt f rs
-looked-at (found.At i) rs h = refl
-looked-at found.None rs h = List·getD-eq-default rs blankRecord (omega arith)
+looked-by : (k : Sought) (d : ℕ) (rs : List Record) (f : Found) {slot : ℕ} {e : Record} → f ≡ foundIn k rs d → slot ≡ slotOf f → e ≡ getD rs slot blankRecord
+    → LooksUp k d rs (lookupOf f e)
+looked-by k d rs (found.At i) found slot entry = record { found = found; entry = entry ∙ ap (λ x. getD rs x blankRecord) slot }
+looked-by k d rs found.None found slot entry = record { found = found; entry = refl }
 
--- where none is left, none is written
-pub left-none : (r : Acted) (rs : List Record) → length rs ≡ mostRecords → leavesOne r ≡ false → rs ≡ set rs (r .slot) (r .held)
-left-none r rs h e = sym (records-past rs (r .slot) (r .held) (omega (arith, ltb-false (r .slot) mostRecords e)))
+pub looked-up : (k : Sought) (d : ℕ) (rs : List Record) {f : Found} {slot : ℕ} {e : Record} {l : Lookup} → f ≡ foundIn k rs d → slot ≡ slotOf f
+    → e ≡ getD rs slot blankRecord → l ≡ lookupOf f e → LooksUp k d rs l
+looked-up k d rs {f} found slot entry is = rw is (looked-by k d rs f found slot entry)
 
 -- ---- a turn
 
@@ -229,7 +211,7 @@ module _ {text rows : List ℕ} {row : ℕ} {at : Place} {m : State} {asked : As
       record {
         leaves = leaves-as (does _ _ (stood-reads (here .stood)) .leaves);
         rowed = follows .rowed;
-        went = λ w rs long look n same.
+        went = λ w rs look n same.
             let p = stood-reads w in
             let numbers = m .tables .numbers in
             let tidy = ready .sound .settled .numbers in
@@ -239,7 +221,7 @@ module _ {text rows : List ℕ} {row : ℕ} {at : Place} {m : State} {asked : As
             let told : Told text (numbers .names) (testOf (wish (placeOf (w .reads .of)))) (m .depth) (lookup .found) (lookup .entry) rs =
             rw (found, entry, part-place (lineIn text (spanIn rows row)) true (at .0) (w .reads .of) p)
             (search-laws.told text (numbers .names) (numbers .count) (tidy .few) (tidy .apart) (wish (at .0)) rs (m .depth) (same .placed)) in
-            let c = came text (turned .next) _ _ (does _ _ p .comes rs long told (spec.withStep n) (same-stepped same)) in
+            let c = came text (turned .next) _ _ (does _ _ p .comes rs told (spec.withStep n) (same-stepped same)) in
             let number : run.lineNumberOf (linesAt text (spanIn rows row .place .0)) ≡ spanIn rows row .number =
             ap run.lineNumberOf (row-lines (here .tabled) row (here .inside)) ∙ row-numbered (here .tabled) row (here .inside) in
             record {

@@ -42,9 +42,9 @@ pub record Run : Type 0 where
   pub steps : ℕ
   pub front : List ℕ
 
--- a string space of so many bytes, and room for all that the examples print
+-- a string space of so many bytes, room for all that the examples print, and document 01's 32 records
 abbrev pub lending : ℕ → Lent
-lending space = record { space = space; room = 1000 }
+lending space = record { space = space; room = 1000; records = 32 }
 
 abbrev summed : Ran → Run
 summed r = record {

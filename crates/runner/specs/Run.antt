@@ -13,7 +13,7 @@ use Rattle.loader.specs.Loading.{loadOf}
 use Rattle.loader.specs.Refusals.{refusalNumber}
 use Rattle.loader.specs.declared.loading.Loaded.{Loaded}
 use Rattle.loader.specs.declared.loading.Loaded.the-variants as loaded
-use Rattle.loader.specs.declared.refusals.Refusal.the-variants.{SpaceTooLong}
+use Rattle.loader.specs.declared.refusals.Refusal.the-variants.{SpaceTooLong, StackTooLong}
 use Rattle.words.specs.Places.{place, lineNumber}
 use Rattle.words.specs.declared.places.LineNumber.{LineNumber}
 use Rattle.grammar.specs.Trees.{Part}
@@ -23,11 +23,14 @@ use Rattle.variables.specs.Variables.{Variables, stringBytes, joinedStrings}
 use Rattle.variables.specs.Tables.{numbersTable, stringsTable}
 use Rattle.variables.specs.declared.tables.Tables.{Tables}
 use Rattle.variables.specs.Strings.{longestSpace}
+use Rattle.runner.specs.declared.running.Done.{Done}
 use Rattle.runner.specs.declared.running.Ran as code
 use Rattle.runner.specs.declared.running.Outcome.{Outcome}
 use Rattle.runner.specs.declared.running.Outcome.the-variants.{Ended, Stopped, Out, Failed, Refused}
 use Rattle.machine.specs.Items.{fresh}
-use Rattle.machine.specs.Machine.{Machine, Lent, withStep}
+use Rattle.machine.specs.Machine.{Machine, Lent, mostRecords, withStep}
+use Rattle.machine.specs.Records.{blankRecord}
+use Rattle.machine.specs.declared.records.Record.{Record}
 use Rattle.turns.specs.Steps.{Next, goesOn, enters, ends, stops, fails, doStatement}
 
 pub record Ran : Type 0 where
@@ -103,12 +106,13 @@ abbrev pub ifLoaded : Loaded → Machine → (Unit {0} → Ran) → Ran
 ifLoaded loaded.Fine m go = go tt
 ifLoaded (loaded.Refused refusal p) m go = endsWith (Refused refusal p) m
 
--- a run of a text on an input, with what it is lent and a budget of steps; a string space over 16,384 bytes is refused (106) before the
--- text is loaded
+-- a run of a text on an input, with what it is lent and a budget of steps; a string space over 16,384 bytes is refused (106), then a stack
+-- of over 256 records (107), before the text is loaded
 unfoldable pub runOf : List ℕ → List ℕ → Lent → ℕ → Ran
 runOf text input lent budget =
     cond (ltb longestSpace (lent .space)) (endsWith (Refused SpaceTooLong (place 0)) (fresh text input lent))
-    (ifLoaded (loadOf text) (fresh text input lent) (λ _. running budget text (entering (fresh text input lent) (linesOf text))))
+    (cond (ltb mostRecords (lent .records)) (endsWith (Refused StackTooLong (place 0)) (fresh text input lent))
+    (ifLoaded (loadOf text) (fresh text input lent) (λ _. running budget text (entering (fresh text input lent) (linesOf text)))))
 
 -- ---- what is answered: outcome word, number, line, place; what does not apply is 0
 
@@ -166,3 +170,26 @@ spaceAfter r space =
 -- the output, and the room beyond it unchanged
 abbrev pub roomAfter : Ran → List ℕ → List ℕ
 roomAfter r room = r .machine .output ++ drop (length (r .machine .output)) room
+
+-- all records are zeros, to the last byte; a refusal leaves them as they were
+abbrev pub stackAfter : Ran → List Record → List Record
+stackAfter r stack = cond (isRefused (r .ending)) stack (replicate (length stack) blankRecord)
+
+-- tables in four arrays, of which so many entries count
+abbrev pub tablesBy : List ℕ → List ℕ → ℕ → List ℕ → List ℕ → ℕ → Tables
+tablesBy names words numbers labels lengths strings =
+    record { numbers = record { names = names; words = words; count = numbers }; strings = record { names = labels; lengths = lengths; count = strings } }
+
+-- an answer with the tables that are lent beside it
+abbrev pub ranOf : Done → List ℕ → List ℕ → List ℕ → List ℕ → code.Ran
+ranOf d names words labels lengths = record {
+  outcome = d .outcome;
+  steps = d .steps;
+  written = d .written;
+  taken = d .taken;
+  tables = tablesBy names words (d .numbers) labels lengths (d .strings);
+}
+
+-- those that are lent, of which none counts as yet
+abbrev pub lentTables : List ℕ → List ℕ → List ℕ → List ℕ → Tables
+lentTables names words labels lengths = tablesBy names words 0 labels lengths 0

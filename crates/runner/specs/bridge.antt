@@ -1,3 +1,4 @@
 pub mod Standings
 pub mod Acting
 pub mod Endings
+pub mod Lending

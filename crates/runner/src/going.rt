@@ -1,13 +1,12 @@
 // A run on its way. What sees the records only calls these, and tests what they answer.
 ghost use mathlib.Core.Path.{_≡_};
-ghost use Prim.Native.Nat.{_-_};
 ghost use Rattle.space.specs.Moves.{cleared};
 ghost use Rattle.loader.specs.Lines.{linesOf};
 ghost use Rattle.rows.specs.bridge.Rows.{Ordered};
 ghost use Rattle.machine.specs.bridge.Holding.{freshMachine, stateOf};
 ghost use Rattle.runner.specs.Run as run;
 ghost use Rattle.runner.specs.bridge.Standings.{Rowed, StandsIn};
-ghost use Rattle.runner.specs.bridge.Acting.{goesOf, StandsAt, AsksAt, seeksOne, slotOf, noLookup, topLookup, looksOn, Ready, ActsAt, leavesOne};
+ghost use Rattle.runner.specs.bridge.Acting.{goesOf, StandsAt, AsksAt, slotOf, noLookup, Ready, ActsAt};
 ghost use Rattle.runner.specs.bridge.Endings.{outcomeOf, doneAs};
 use crate::running::Done;
 use crate::running::Outcome;
@@ -18,7 +17,6 @@ use machine::Found;
 use machine::Machine;
 use machine::Record;
 use machine::Sought;
-use machine::is_sought;
 use machine::sought_record;
 use rows::Row;
 use rows::Rows;
@@ -56,14 +54,14 @@ pub struct Acted {
 }
 
 // The run at its first line.
-pub(crate) fn begins(rows: &Rows) -> Going
+pub(crate) fn begins(rows: &Rows, records: usize) -> Going
     requires { ⌜ Ordered (now rows) ⌝ }
     ensures { λ r. ⌜
-        (r .machine ≡ freshMachine)
+        (r .machine ≡ freshMachine records)
         × StandsIn (now (rows .entry)) (r .standing) (λ text. Unit {0}) (λ text m. run.entering m (linesOf text))
         ⌝ }
 {
-    let machine = Machine::fresh();
+    let machine = Machine::fresh(records);
     let standing = entered(rows, Row(0));
     Going { machine, standing }
 }
@@ -104,14 +102,7 @@ pub(crate) fn asks(text: &[u8], rows: &Rows, going: Going, names: &NameTable) ->
     }
 }
 
-// Whether it asks for a record.
-pub(crate) fn seeks(asked: Asked) -> bool
-    ensures { λ r. ⌜ r ≡ seeksOne asked ⌝ }
-{
-    asked.sought.kind != Sought::NONE
-}
-
-// The slot that was found; past the last where none was.
+// The slot that was found; past the last of any stack where none was.
 pub(crate) fn slot_of(found: Found) -> usize
     ensures { λ r. ⌜ r ≡ slotOf found ⌝ }
 {
@@ -128,43 +119,6 @@ pub(crate) fn no_lookup() -> Lookup
     Lookup {
         found: Found::None,
         entry,
-    }
-}
-
-// The slot of the topmost record; 0 where there is none.
-pub(crate) fn topmost(depth: usize) -> usize
-    ensures { λ r. ⌜ r ≡ depth - 1 ⌝ }
-{
-    if depth == 0 {
-        return 0;
-    }
-    depth - 1
-}
-
-// The topmost record, if it is the one that is asked for: most often it is, and then the others are not touched.
-pub(crate) fn at_top(sought: Sought, depth: usize, top: Record) -> Lookup
-    ensures { λ r. ⌜ r ≡ topLookup sought depth top ⌝ }
-{
-    if depth == 0 {
-        return no_lookup();
-    }
-    if !is_sought(sought, top) {
-        return no_lookup();
-    }
-    Lookup {
-        found: Found::At(depth - 1),
-        entry: top,
-    }
-}
-
-// Whether the others are to be looked through.
-pub(crate) fn looks_on(lookup: Lookup) -> bool
-    ensures { λ r. ⌜ r ≡ looksOn lookup ⌝ }
-{
-    let found = lookup.found;
-    match found {
-        Found::At(_) => false,
-        Found::None => true,
     }
 }
 
@@ -238,13 +192,6 @@ pub(crate) fn act(
         slot,
         held,
     }
-}
-
-// Whether it leaves a record.
-pub(crate) fn leaves(acted: Acted) -> bool
-    ensures { λ r. ⌜ r ≡ leavesOne acted ⌝ }
-{
-    acted.slot < Machine::RECORDS
 }
 
 // How a run ends that makes no further step.

@@ -28,7 +28,7 @@ module _ (text : List ℕ) {m : State} {input space room space′ : List ℕ} {f
       (turnedTo m (next.Fails e)) space′ room
   assigned-fault v w =
       turns-fails (leaves-unprinted (sound-kept (w .framed .long) sound) (w .framed .long) refl refl)
-      (λ rs l t n s.
+      (λ rs t n s.
       leads-worked (sound .settled) w s (λ x o. assigned (v .kind) (v .telling) x o (λ o. goesOn o (positionOf text (afterOf here u)))))
 
   -- and so does another type
@@ -38,7 +38,7 @@ module _ (text : List ℕ) {m : State} {input space room space′ : List ℕ} {f
       (turnedTo m (next.Fails TypeMismatch)) space′ room
   assigned-whole-text name v =
       turns-fails (leaves-unprinted (sound-kept (v .framed .long) sound) (v .framed .long) refl refl)
-      (λ rs l t n s. leads-worked (sound .settled) v s (λ x o. assigned kind.Text name x o (λ o. goesOn o (positionOf text (afterOf here u)))))
+      (λ rs t n s. leads-worked (sound .settled) v s (λ x o. assigned kind.Text name x o (λ o. goesOn o (positionOf text (afterOf here u)))))
 
   pub assigned-text-whole : (name : Telling) {len : ℕ} {t : Scanned} → Valued m f u space (Text len t) space′
       → Turns text m input space room anyRecords
@@ -46,7 +46,7 @@ module _ (text : List ℕ) {m : State} {input space room space′ : List ℕ} {f
       (turnedTo m (next.Fails TypeMismatch)) space′ room
   assigned-text-whole name v =
       turns-fails (leaves-unprinted (sound-kept (v .framed .long) sound) (v .framed .long) refl refl)
-      (λ rs l t n s. leads-worked (sound .settled) v s (λ x o. assigned kind.Whole name x o (λ o. goesOn o (positionOf text (afterOf here u)))))
+      (λ rs t n s. leads-worked (sound .settled) v s (λ x o. assigned kind.Whole name x o (λ o. goesOn o (positionOf text (afterOf here u)))))
 
   -- otherwise the variable is set
   module _ (p : Positioned text (afterOf here u)) (name : Telling) (own : Tells name) where
@@ -58,7 +58,7 @@ module _ (text : List ℕ) {m : State} {input space room space′ : List ℕ} {f
         let k = settled-kept (v .framed .long) (sound .settled) in
         rw (v .goes)
         (turns-stored here u (numberSet m name w) (sound-tables sound (number-settled name own w k)) (v .framed .long) refl refl p
-        (λ rs l t n s.
+        (λ rs t n s.
         leads-on (leads-worked (sound .settled) v s (λ x o. assigned kind.Whole name x o (λ o. goesOn o (positionOf text (afterOf here u)))))
         (λ o e. leads-number name own w k e (λ o. goesOn o (positionOf text (afterOf here u))))))
 
@@ -71,6 +71,6 @@ module _ (text : List ℕ) {m : State} {input space room space′ : List ℕ} {f
         rw (v .goes)
         (turns-stored here u (stringSet m name len) (sound-tables sound (string-settled name own len k (v .framed .fits)))
         (string-long name own len k (v .framed .fits) ∙ v .framed .long) refl refl p
-        (λ rs l t n s.
+        (λ rs t n s.
         leads-on (leads-worked (sound .settled) v s (λ x o. assigned kind.Text name x o (λ o. goesOn o (positionOf text (afterOf here u)))))
         (λ o e. leads-string name own len k (v .framed .fits) e (λ o. goesOn o (positionOf text (afterOf here u))))))

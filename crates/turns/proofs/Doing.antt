@@ -30,22 +30,22 @@ module _ {text : List ℕ} {m : State} {input space room : List ℕ} where
   -- what holds whatever the records holds of those that meet what is told
   pub any-told : {told : List Record → Type 0} {does : spec.Machine → step.Next} {r : Turn} {space′ room′ : List ℕ}
       → Turns text m input space room anyRecords does r space′ room′ → Turns text m input space room told does r space′ room′
-  any-told t = record { leaves = t .leaves; comes = λ rs l h n s. t .comes rs l tt n s }
+  any-told t = record { leaves = t .leaves; comes = λ rs h n s. t .comes rs tt n s }
 
   module _ (sound : Sound m input space room) (told : List Record → Type 0) where
     -- the run goes on after a statement
     pub goes-turn : (here : Place) (u : Scanned) → Positioned text (afterOf here u)
         → Turns text m input space room told (λ n. goesOn n (positionOf text (afterOf here u))) (turnedTo m (next.On (afterOf here u))) space room
-    goes-turn here u p = turns-on (leaves-unprinted sound refl refl refl) p (λ rs l t n s. leads-self s)
+    goes-turn here u p = turns-on (leaves-unprinted sound refl refl refl) p (λ rs t n s. leads-self s)
 
     pub fails-turn : (e : Error) → Turns text m input space room told (fails e) (turnedTo m (next.Fails e)) space room
-    fails-turn e = turns-fails (leaves-unprinted sound refl refl refl) (λ rs l t n s. leads-self s)
+    fails-turn e = turns-fails (leaves-unprinted sound refl refl refl) (λ rs t n s. leads-self s)
 
     pub ends-turn : Turns text m input space room told ends (turnedTo m next.Ends) space room
-    ends-turn = turns-ends (leaves-unprinted sound refl refl refl) (λ rs l t n s. leads-self s)
+    ends-turn = turns-ends (leaves-unprinted sound refl refl refl) (λ rs t n s. leads-self s)
 
     pub stops-turn : Turns text m input space room told stops (turnedTo m next.Stops) space room
-    stops-turn = turns-stops (leaves-unprinted sound refl refl refl) (λ rs l t n s. leads-self s)
+    stops-turn = turns-stops (leaves-unprinted sound refl refl refl) (λ rs t n s. leads-self s)
 
 -- ---- from a name on
 

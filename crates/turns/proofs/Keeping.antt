@@ -30,6 +30,9 @@ same-tables {text} {rs} {m} h t used long vs e names more =
     record {
       variables = e;
       records = h .records ∙ sym (records-kept text (m .tables .numbers .names) (t .numbers .names) (m .tables .numbers .count) names rs (m .depth) known);
+      recordRoom = h .recordRoom;
+      slots = h .slots;
+      few = h .few;
       column = h .column;
       output = h .output;
       outputRoom = h .outputRoom;
@@ -72,6 +75,9 @@ same-noting h r =
     record {
       variables = h .variables;
       records = h .records;
+      recordRoom = h .recordRoom;
+      slots = h .slots;
+      few = h .few;
       column = h .column;
       output = h .output;
       outputRoom = h .outputRoom;

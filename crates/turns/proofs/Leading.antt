@@ -2,7 +2,7 @@
 use mathlib.Core.Path.{_≡_, refl, _∙_, sym, ap}
 use mathlib.Core.List.{List}
 use Prim.Native.Nat.{ℕ, _+_, _-_}
-use lib.ListN.{length, drop}
+use lib.ListN.{drop}
 use lib.Seq.{drop-drop}
 use native.Mathlib.Omega.{arith}
 use Rattle.whole.specs.declared.errors.Error.{Error}
@@ -40,49 +40,49 @@ module _ {text : List ℕ} {rs : List Record} {m : State} {input space room : Li
 abbrev pub Led : List ℕ → State → List ℕ → List ℕ → List ℕ → (List Record → Type 0) → (spec.Machine → step.Next) → State → List ℕ → List ℕ
     → (spec.Machine → step.Next) → Type 0
 Led text m input space room told does m′ space′ room′ go =
-    (rs : List Record) → length rs ≡ mostRecords → told rs → (n : spec.Machine) → Same text rs m input space room n
+    (rs : List Record) → told rs → (n : spec.Machine) → Same text rs m input space room n
     → Leads text rs m′ input space′ room′ (does n) go
 
 module _ {text : List ℕ} {m m′ : State} {input space room space′ room′ : List ℕ} {told : List Record → Type 0}
     {does : spec.Machine → step.Next} where
   pub turns-unwritten : {x : Next} → Leaves m input space room (turnedTo m′ x) space′ room′
-      → ((rs : List Record) → length rs ≡ mostRecords → told rs → (n : spec.Machine) → Same text rs m input space room n
+      → ((rs : List Record) → told rs → (n : spec.Machine) → Same text rs m input space room n
       → Comes text x (does n) (Same text rs m′ input space′ room′))
       → Turns text m input space room told does (turnedTo m′ x) space′ room′
   turns-unwritten leaves h =
       record {
         leaves = leaves;
-        comes = λ rs l t n s. rw (records-past rs mostRecords blankRecord (omega arith)) (h rs l t n s);
+        comes = λ rs t n s. rw (records-past rs mostRecords blankRecord (omega (arith, s .slots, s .few))) (h rs t n s);
       }
 
   -- it fails,
   pub turns-fails : {e : Error} → Leaves m input space room (turnedTo m′ (next.Fails e)) space′ room′
       → Led text m input space room told does m′ space′ room′ (fails e)
       → Turns text m input space room told does (turnedTo m′ (next.Fails e)) space′ room′
-  turns-fails leaves h = turns-unwritten leaves (λ rs l t n s. let k = h rs l t n s in rw (k .is) (refl, k .same))
+  turns-fails leaves h = turns-unwritten leaves (λ rs t n s. let k = h rs t n s in rw (k .is) (refl, k .same))
 
   -- goes on after a statement,
   pub turns-on : {q : Position} → Leaves m input space room (turnedTo m′ (next.On q)) space′ room′ → Positioned text q
       → Led text m input space room told does m′ space′ room′ (λ n. goesOn n (positionOf text q))
       → Turns text m input space room told does (turnedTo m′ (next.On q)) space′ room′
-  turns-on leaves p h = turns-unwritten leaves (λ rs l t n s. let k = h rs l t n s in rw (k .is) (p, (refl, k .same)))
+  turns-on leaves p h = turns-unwritten leaves (λ rs t n s. let k = h rs t n s in rw (k .is) (p, (refl, k .same)))
 
   -- goes on at a line's start,
   pub turns-enters : {l : Place} → Leaves m input space room (turnedTo m′ (next.Enter l)) space′ room′ → Begins text (l .0)
       → Led text m input space room told does m′ space′ room′ (λ n. enters n (linesAt text (l .0)))
       → Turns text m input space room told does (turnedTo m′ (next.Enter l)) space′ room′
-  turns-enters leaves p h = turns-unwritten leaves (λ rs l t n s. let k = h rs l t n s in rw (k .is) (p, (refl, k .same)))
+  turns-enters leaves p h = turns-unwritten leaves (λ rs t n s. let k = h rs t n s in rw (k .is) (p, (refl, k .same)))
 
   -- or ends the run
   pub turns-ends : Leaves m input space room (turnedTo m′ next.Ends) space′ room′
       → Led text m input space room told does m′ space′ room′ ends
       → Turns text m input space room told does (turnedTo m′ next.Ends) space′ room′
-  turns-ends leaves h = turns-unwritten leaves (λ rs l t n s. let k = h rs l t n s in rw (k .is) (k .same))
+  turns-ends leaves h = turns-unwritten leaves (λ rs t n s. let k = h rs t n s in rw (k .is) (k .same))
 
   pub turns-stops : Leaves m input space room (turnedTo m′ next.Stops) space′ room′
       → Led text m input space room told does m′ space′ room′ stops
       → Turns text m input space room told does (turnedTo m′ next.Stops) space′ room′
-  turns-stops leaves h = turns-unwritten leaves (λ rs l t n s. let k = h rs l t n s in rw (k .is) (k .same))
+  turns-stops leaves h = turns-unwritten leaves (λ rs t n s. let k = h rs t n s in rw (k .is) (k .same))
 
 -- ---- one step after another
 
@@ -109,5 +109,5 @@ module _ {m m′ : State} {input space room space′ room′ : List ℕ} {x : Ne
   turns-then led t =
       record {
         leaves = leaves-then (t .leaves);
-        comes = λ rs l u n s. let k = led rs l u n s in rw (k .is) (t .comes rs l u (k .machine) (k .same));
+        comes = λ rs u n s. let k = led rs u n s in rw (k .is) (t .comes rs u (k .machine) (k .same));
       }

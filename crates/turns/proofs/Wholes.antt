@@ -26,7 +26,7 @@ use Rattle.turns.proofs.Working.{leads-whole}
 pub turns-as : {text : List ℕ} {m : State} {input space room space′ room′ : List ℕ} {told : List Record → Type 0} {does does′ : spec.Machine → step.Next}
     {r : Turn} → ((n : spec.Machine) → does′ n ≡ does n) → Turns text m input space room told does r space′ room′
     → Turns text m input space room told does′ r space′ room′
-turns-as e t = record { leaves = t .leaves; comes = λ rs l x n s. rw (e n) (t .comes rs l x n s) }
+turns-as e t = record { leaves = t .leaves; comes = λ rs x n s. rw (e n) (t .comes rs x n s) }
 
 -- a whole number takes it on; what is none ends it
 module _ {text : List ℕ} {m : State} {f : Formula} {u : Scanned} {input space room space′ : List ℕ} {told : List Record → Type 0}
@@ -35,7 +35,7 @@ module _ {text : List ℕ} {m : State} {f : Formula} {u : Scanned} {input space 
       → Turns text m input space room told (λ n. workedWhole f n go) (turnedTo m (next.Fails e)) space′ room
   turns-fault v =
       let long = v .framed .long in
-      turns-fails (leaves-unprinted (sound-kept long sound) long refl refl) (λ rs l o n s. leads-whole (sound .settled) v s go)
+      turns-fails (leaves-unprinted (sound-kept long sound) long refl refl) (λ rs o n s. leads-whole (sound .settled) v s go)
 
   pub turns-whole : {w : ℕ} {x : Scanned} {space″ : List ℕ} {r : Turn} → Valued m f u space (Whole w x) space′
       → Turns text m input space′ room told (go w) r space″ room
@@ -43,13 +43,13 @@ module _ {text : List ℕ} {m : State} {f : Formula} {u : Scanned} {input space 
   turns-whole v t =
       let long = v .framed .long in
       turns-then (leaves-unprinted {r = turnedTo m next.Ends} (sound-kept long sound) long refl refl)
-      (λ rs l o n s. leads-whole (sound .settled) v s go) t
+      (λ rs o n s. leads-whole (sound .settled) v s go) t
 
   turns-text : {len : ℕ} {x : Scanned} → Valued m f u space (Text len x) space′
       → Turns text m input space room told (λ n. workedWhole f n go) (turnedTo m (next.Fails TypeMismatch)) space′ room
   turns-text v =
       let long = v .framed .long in
-      turns-fails (leaves-unprinted (sound-kept long sound) long refl refl) (λ rs l o n s. leads-whole (sound .settled) v s go)
+      turns-fails (leaves-unprinted (sound-kept long sound) long refl refl) (λ rs o n s. leads-whole (sound .settled) v s go)
 
   -- so what is none is its own error, or 13
   pub turns-none : (r : Worked) → (workedTag r ≡ 1) ⊎ (workedTag r ≡ 2) → Valued m f u space r space′

@@ -34,7 +34,7 @@ use Rattle.grammar.specs.Trees.{Formula, Variable, Item, Statement, Part}
 use Rattle.variables.specs.Strings.{Value, whole, text, Outcome, value, fault, make}
 use Rattle.variables.specs.Variables.{wordOf, setNumber, setString, numbersFull, stringsFull}
 use Rattle.operators.specs.Values.{valueOf}
-use Rattle.machine.specs.Machine.{Position, Record, loop, call, again, Machine, mostRecords, roomOf, withVariables, withRecords, withInput, withItems, noting, Printed, full, printed, write, commaBlanks, isCall, isLoop, isLoopOf, backOf, Search, missing, found, sought, below, passed, longestInputLine}
+use Rattle.machine.specs.Machine.{Position, Record, loop, call, again, Machine, roomOf, withVariables, withRecords, withInput, withItems, noting, Printed, full, printed, write, commaBlanks, isCall, isLoop, isLoopOf, backOf, Search, missing, found, sought, below, passed, longestInputLine}
 use Rattle.machine.specs.Order.{Stand, stands, Partner, none, some, past, nextFor, wendFor}
 use Rattle.machine.specs.Items.{itemsOf, itemsOfText}
 use Rattle.machine.specs.Repeats.{startOf, isWhile, isWhileOf}
@@ -116,7 +116,7 @@ toLine m (l ∷ ls) go = go (l ∷ ls)
 
 -- a record more, if there is room
 abbrev pub pushed : Machine → Record → (Machine → Next) → Next
-pushed m r go = cond (leb mostRecords (length (m .records))) (fails OutOfMemory m) (go (withRecords m (r ∷ m .records)))
+pushed m r go = cond (leb (m .recordRoom) (length (m .records))) (fails OutOfMemory m) (go (withRecords m (r ∷ m .records)))
 
 -- RETURN drops records through the nearest GOSUB's and goes on after it
 abbrev pub returned : Machine → Search → Next

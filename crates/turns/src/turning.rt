@@ -67,7 +67,7 @@ pub fn push(machine: Machine, held: Record, onward: Next) -> Turned
         ⌝ }
 {
     let slot = machine.depth;
-    if Machine::RECORDS <= slot {
+    if machine.records <= slot {
         return fails(machine, Error::OutOfMemory);
     }
     let mut deeper = machine;

@@ -1,5 +1,6 @@
-// Runs the stored cases. A case is a kind, five numbers of four bytes each, the low one first, and its recipe and input: how long the
-// recipe and the input are, how many bytes of string space and of room for output are lent, and the budget. Writes an answer a line.
+// Runs the stored cases. A case is a kind, six numbers of four bytes each, the low one first, and its recipe and input: how long the
+// recipe and the input are, how many bytes of string space and of room for output are lent, the budget, and how many records are lent.
+// Writes an answer a line.
 mod checks;
 mod runs;
 mod saying;
@@ -31,8 +32,8 @@ fn wide(byte: u8) -> u32
 }
 
 // The number at a place of a case's head.
-fn number_at(head: &[u8; 21], at: usize) -> u32 {
-    if 17 < at {
+fn number_at(head: &[u8; 25], at: usize) -> u32 {
+    if 21 < at {
         return 0;
     }
     let low = wide(head[at]) + wide(head[at + 1]) * 256;
@@ -49,8 +50,8 @@ fn take_in(bytes: &mut [u8], len: usize) {
 
 // Reads one case and writes its answer; false where none is left.
 fn next_case(text: &mut [u8], input: &mut [u8]) -> bool {
-    let mut head = [0u8; 21];
-    if io::read_full(STDIN_FILENO, &mut head) < 21 {
+    let mut head = [0u8; 25];
+    if io::read_full(STDIN_FILENO, &mut head) < 25 {
         return false;
     }
     let len = number_at(&head, 1) as usize;
@@ -62,7 +63,17 @@ fn next_case(text: &mut [u8], input: &mut [u8]) -> bool {
     } else {
         let space = number_at(&head, 9) as usize;
         let room = number_at(&head, 13) as usize;
-        runs::answer(text, len, input, count, space, room, number_at(&head, 17));
+        let records = number_at(&head, 21) as usize;
+        runs::answer(
+            text,
+            len,
+            input,
+            count,
+            space,
+            room,
+            number_at(&head, 17),
+            records,
+        );
     }
     true
 }

@@ -11,7 +11,7 @@ use crate::saying::word;
 use runner::Outcome;
 use runner::Ran;
 use runner::is_refused;
-use runner::run;
+use runner::run_with;
 use variables::Numbers;
 use variables::Strings;
 use variables::Tables;
@@ -170,13 +170,27 @@ fn old_tables() -> Tables {
     Tables { numbers, strings }
 }
 
-fn run_in(text: &[u8], input: &[u8], space: &mut [u8], room: &mut [u8], budget: u32) {
-    let ran = run(text, input, space, room, &[], budget, old_tables());
+fn run_in(
+    text: &[u8],
+    input: &[u8],
+    space: &mut [u8],
+    room: &mut [u8],
+    budget: u32,
+    records: usize,
+) {
+    let ran = run_with(text, input, space, room, &[], records, budget, old_tables());
     show(ran, space, room);
 }
 
 // Nothing where there is less room than asked for.
-fn run_case(text: &[u8], input: &[u8], space_len: usize, room_len: usize, budget: u32) {
+fn run_case(
+    text: &[u8],
+    input: &[u8],
+    space_len: usize,
+    room_len: usize,
+    budget: u32,
+    records: usize,
+) {
     let mut space = space_room();
     let mut room = output_room();
     if space_len <= 20480 {
@@ -187,6 +201,7 @@ fn run_case(text: &[u8], input: &[u8], space_len: usize, room_len: usize, budget
                 &mut space[..space_len],
                 &mut room[..room_len],
                 budget,
+                records,
             );
         }
     }
@@ -200,10 +215,18 @@ pub(crate) fn answer(
     space_len: usize,
     room_len: usize,
     budget: u32,
+    records: usize,
 ) {
     if len <= text.len() {
         if count <= input.len() {
-            run_case(&text[..len], &input[..count], space_len, room_len, budget);
+            run_case(
+                &text[..len],
+                &input[..count],
+                space_len,
+                room_len,
+                budget,
+                records,
+            );
         }
     }
 }

@@ -50,6 +50,7 @@ pub record Sets (m : State) (space : List ℕ) (m′ : State) (space′ : List �
   pub taken : m′ .taken ≡ m .taken
   pub steps : m′ .steps ≡ m .steps
   pub depth : m′ .depth ≡ m .depth
+  pub records : m′ .records ≡ m .records
   pub long : length space′ ≡ length space
 
 -- what the definition does with a variable comes to what is done next

@@ -26,6 +26,8 @@ use Rattle.items.specs.Items.{items, itemsFrom}
 use Rattle.reader.specs.bridge.Walking.{Onto}
 use Rattle.machine.specs.Items.{itemsOf}
 use Rattle.machine.specs.Order.{Stand, partsIn, placed, stands, some}
+-- it stands among what is to be believed, as the run's contract names it
+pub use Rattle.machine.specs.Records.{blankRecord}
 use Rattle.machine.specs.Repeats.{startOf, wendOf}
 use Rattle.statements.specs.Parts.{Rest, nothing, part, placeOf, statementsOf, deepestIn}
 use Rattle.expressions.specs.Types.{deepestNesting}
@@ -87,9 +89,6 @@ pub record Positioned (text : List ℕ) (q : Position) : Type 0 where
 
 -- ---- records
 
-abbrev pub blankRecord : Record
-blankRecord = record { kind = 0; over = 0; limit = 0; step = 0; slot = 0; line = place 0; at = place 0; ending = place 0; close = place 0 }
-
 abbrev callKind : ℕ
 callKind = 1
 
@@ -112,23 +111,23 @@ passes e = counts e || repeats e
 
 -- the place to come back to: any number but 0 says that the line is over
 abbrev pub backOf : Record → Position
-backOf e = record { line = e .line; at = e .at; over = not (eqb (e .over) 0) }
+backOf e = record { line = place (e .line); at = place (e .at); over = not (eqb (e .over) 0) }
 
 abbrev pub overNumber : Bool → ℕ
 overNumber over = cond over 1 0
 
 abbrev pub callRecord : Position → Record
 callRecord back =
-    record { kind = callKind; over = overNumber (back .over); limit = 0; step = 0; slot = 0; line = back .line; at = back .at; ending = place 0; close = place 0 }
+    record { kind = callKind; over = overNumber (back .over); limit = 0; step = 0; spare = 0; slot = 0; line = back .line .0; at = back .at .0; ending = 0; close = 0 }
 
 -- a WHILE's at a place of its line, whose WEND stands at a place of another
 abbrev pub whileRecord : Place → Place → Place → Place → Record
 whileRecord line at ending close =
-    record { kind = repeatKind; over = 0; limit = 0; step = 0; slot = 0; line = line; at = at; ending = ending; close = close }
+    record { kind = repeatKind; over = 0; limit = 0; step = 0; spare = 0; slot = 0; line = line .0; at = at .0; ending = ending .0; close = close .0 }
 
 abbrev pub loopRecord : ℕ → ℕ → ℕ → Position → Record
 loopRecord slot limit step back =
-    record { kind = countKind; over = overNumber (back .over); limit = limit; step = step; slot = slot; line = back .line; at = back .at; ending = place 0; close = place 0 }
+    record { kind = countKind; over = overNumber (back .over); limit = limit; step = step; spare = 0; slot = slot; line = back .line .0; at = back .at .0; ending = 0; close = 0 }
 
 -- a loop's variable is the one whose name stands at the entry
 abbrev pub recordOf : List ℕ → List ℕ → Record → spec.Record
@@ -207,8 +206,8 @@ pub record Fed (text : List ℕ) (f : Feed) : Type 0 where
 
 -- ---- the machine
 
-abbrev pub freshMachine : Machine
-freshMachine = record {
+abbrev pub freshMachine : ℕ → Machine
+freshMachine records = record {
   numbers = 0;
   strings = 0;
   used = record { 0 = 0 };
@@ -217,6 +216,7 @@ freshMachine = record {
   feed = feedFrom (place 0);
   steps = 0;
   depth = 0;
+  records = records;
 }
 
 -- the machine with the tables that are lent beside it
@@ -228,6 +228,8 @@ pub record State : Type 0 where
   pub feed : Feed
   pub steps : ℕ
   pub depth : ℕ
+  -- how many records there can be
+  pub records : ℕ
 
 -- number variables' names and words, string variables' names and lengths
 abbrev pub stateOf : Machine → List ℕ → List ℕ → List ℕ → List ℕ → State
@@ -239,6 +241,7 @@ stateOf m names words labels lengths = record {
   feed = m .feed;
   steps = m .steps;
   depth = m .depth;
+  records = m .records;
 }
 
 abbrev pub variablesOf : State → List ℕ → Variables
@@ -263,15 +266,15 @@ pub record Sound (m : State) (input space room : List ℕ) : Type 0 where
   pub settled : Settled m space
   pub fitting : Fitting (m .printer) room
   pub taken : m .taken ≤ length input
-  pub deep : m .depth ≤ mostRecords
+  pub deep : m .depth ≤ m .records
 
 -- a WHILE's record comes back to the WHILE itself, and has the place of its WEND
 pub record Paired (text : List ℕ) (e : Record) : Type 0 where
   pub ongoing : e .over ≡ 0
   pub wend : Stand
   pub is : wendOf (positionOf text (backOf e)) ≡ some wend
-  pub line : startOf (wend .lines) ≡ e .ending .0
-  pub at : placeOf (wend .part) ≡ e .close .0
+  pub line : startOf (wend .lines) ≡ e .ending
+  pub at : placeOf (wend .part) ≡ e .close
 
 -- a record comes back to a place where a statement stands, and a loop's variable is one of so many
 pub record Placed (text : List ℕ) (numbers : ℕ) (e : Record) : Type 0 where
@@ -283,6 +286,9 @@ pub record Placed (text : List ℕ) (numbers : ℕ) (e : Record) : Type 0 where
 pub record Same (text : List ℕ) (rs : List Record) (m : State) (input space room : List ℕ) (n : spec.Machine) : Type 0 where
   pub variables : n .variables ≡ variablesOf m space
   pub records : n .records ≡ recordsIn text (m .tables .numbers .names) rs (m .depth)
+  pub recordRoom : n .recordRoom ≡ m .records
+  pub slots : length rs ≡ m .records
+  pub few : m .records ≤ mostRecords
   pub column : n .column ≡ m .printer .column
   pub output : n .output ≡ take (m .printer .written) room
   pub outputRoom : n .outputRoom ≡ length room

@@ -43,7 +43,7 @@ isThere line at k = eqb line (k .line .0) && eqb at (k .at .0)
 -- a WHILE's that is asked for by its own place, or by that of its WEND
 abbrev pub isWhileSought : Sought → Record → Bool
 isWhileSought k e =
-    repeats e && cond (eqb (k .kind) 4) (isThere (e .line .0) (e .at .0) k) (isThere (e .ending .0) (e .close .0) k)
+    repeats e && cond (eqb (k .kind) 4) (isThere (e .line) (e .at) k) (isThere (e .ending) (e .close) k)
 
 -- a FOR's, any or that of a variable
 abbrev pub isLoopSought : Sought → Record → Bool

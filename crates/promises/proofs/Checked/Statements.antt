@@ -27,7 +27,7 @@ use Rattle.checker.specs.Check.{present}
 use Rattle.variables.specs.Strings.{Value, whole, text, Outcome, value, fault, make}
 use Rattle.variables.specs.Variables.{wordOf, numbersFull, stringsFull}
 use Rattle.operators.specs.Values.{valueOf}
-use Rattle.machine.specs.Machine.{Position, Record, loop, call, again, Machine, mostRecords, roomOf, withItems, noting, write, commaBlanks, isCall, isLoop, isLoopOf, Search, missing, found, sought, passed, longestInputLine}
+use Rattle.machine.specs.Machine.{Position, Record, loop, call, again, Machine, roomOf, withItems, noting, write, commaBlanks, isCall, isLoop, isLoopOf, Search, missing, found, sought, passed, longestInputLine}
 use Rattle.machine.specs.Order.{Stand, later, past, Bracket, Partner, none, some, partner, pairsBy, nextFor, wendFor}
 use Rattle.machine.specs.Repeats.{startOf, isWhile, isWhileOf}
 use Rattle.order.proofs.Laws.{later-throughout, later-lines, StandThroughout, partner-one}
@@ -146,7 +146,7 @@ module _ (all : List Line) where
 
   pushed-checked : (m : Machine) (r : Record) (go : Machine → Next) → MachineChecked m → RecordChecked all r → Continues go
       → NextChecked (pushed m r go)
-  pushed-checked m r go q p k = by-choice NextChecked (leb mostRecords (length (m .records))) refl (k _ (p, q))
+  pushed-checked m r go q p k = by-choice NextChecked (leb (m .recordRoom) (length (m .records))) refl (k _ (p, q))
 
   abbrev SearchChecked : Search → Type 0
   SearchChecked s = records.Found (RecordChecked all) s

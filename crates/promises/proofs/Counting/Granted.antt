@@ -21,6 +21,7 @@ use Rattle.promises.specs.StringSpace as asks
 use Rattle.promises.specs.StringSpace.{Ask, bytesIn, FormulaAsks, PrintAsks, ReadAsks, StatementAsks}
 use Rattle.promises.specs.Requests.{atOnce, Fits}
 use Rattle.promises.proofs.Limits.Keeping.{Leaves, Keeps, string-keeps, written-keeps, begun-keeps, tested-keeps, whole-keeps, items-keep, read-keeps}
+use Rattle.promises.proofs.Records.{sought-fewer}
 use Rattle.promises.proofs.Fourteen.Statements.{gave-space}
 use Rattle.promises.proofs.Counting.Rising.{highestOf, value-rises}
 use Rattle.promises.proofs.Counting.Formulas.{make-counts, formula-counts}
@@ -119,7 +120,7 @@ module _ (exact : LiveIsExact) where
   statement-counts program place (tree.while c) m after o k (asks.repeated {w = w} e d) h =
       rw e
       (whole-notes (counts k) c m _ (counted c m k d h) (λ v room f q.
-      tested-keeps (P k) (kept k .changes) (noting m room) (sought (isWhile (startOf (after .lines)) place) (m .records)) v w (hereOf place c after) after q))
+      tested-keeps (P k) (kept k .changes) (noting m room) (sought (isWhile (startOf (after .lines)) place) (m .records)) v w (hereOf place c after) after (sought-fewer (isWhile (startOf (after .lines)) place) (m .records)) q))
   statement-counts program place (tree.lineInput t v) m after o k (asks.input {n = n} {b = b} {s = s} w e short) h =
       let x = fits-later {m = m} {n = n} k (write-same m t n w) h in
       rw w (input-counts (n .input) n v _ b s e short (omega (arith, x)) (λ o q. q))

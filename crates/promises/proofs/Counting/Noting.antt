@@ -59,7 +59,7 @@ module _ (Q : ℕ → Type 0) where
   pub unnoted : Changes (λ m. Q (m .highest))
   unnoted = record {
     numbers = λ m name w full p. p;
-    records = λ m rs p. p;
+    records = λ m rs few p. p;
     prints = λ m bytes h p. p;
     takes = λ m left h p. p;
     feeds = λ m l p. p;

@@ -13,7 +13,7 @@ use Rattle.grammar.specs.Trees.{Statement, Part}
 use Rattle.variables.specs.Strings.{longestSpace}
 use Rattle.variables.specs.Variables.{stringBytes}
 use Rattle.machine.specs.Items.{fresh}
-use Rattle.machine.specs.Machine.{Position, Machine, Lent, withStep}
+use Rattle.machine.specs.Machine.{Position, Machine, Lent, mostRecords, withStep}
 use Rattle.statements.specs.Parts.{headOf, tailOf, placeOf}
 use Rattle.turns.specs.Steps.{doStatement}
 use Rattle.runner.specs.Run.{lineNumberOf, Standing, finished, at, entering, turn, running, runOf}
@@ -26,7 +26,7 @@ use Rattle.promises.specs.Requests.{atOnce, Fits, Request, Granted, fewR
 use Rattle.whole.proofs.Never.{never}
 use Rattle.promises.proofs.Waiting.Needs.{live-is-exact}
 use Rattle.promises.proofs.Waiting.Runs.{entering-fine, fresh-sound}
-use Rattle.promises.proofs.Limits.Bounds.{Stands, entering-stands, following-stands, turn-stands, running-keeps, RunView, long, unloaded, runs, run-view}
+use Rattle.promises.proofs.Limits.Bounds.{Stands, entering-stands, following-stands, turn-stands, running-keeps, RunView, long, tall, unloaded, runs, run-view}
 use Rattle.promises.proofs.Fourteen.Runs.{space-kept, begun-space}
 use Rattle.promises.proofs.Counting.Few.{begun-few}
 use Rattle.promises.proofs.Counting.Raising.{Raised, raised-on, raised-as}
@@ -131,17 +131,18 @@ module _ (text input : List ℕ) (lent : Lent) (budget : ℕ) where
   unfolding runOf
   counted-granted q h =
       let same = begun-space text (lent .space) budget start (q .from) (q .place) (q .statement) (q .machine) (q .begins) start-space in
-      rw (le-ltb longestSpace (lent .space) (q .small), q .loads)
+      rw (le-ltb longestSpace (lent .space) (q .small), le-ltb mostRecords (lent .records) (q .few), q .loads)
       (running-counts text budget start (q .from) (q .place) (q .statement) (q .machine) (q .asking) (q .ask) (q .begins) (q .asks) (rw same h))
 
-  reached-by : lent .space ≤ longestSpace → loadOf text ≡ Fine
+  reached-by : lent .space ≤ longestSpace → lent .records ≤ mostRecords → loadOf text ≡ Fine
       → {h : ℕ} → Raised (Counted text (lent .space) budget start) (highestAt text start) h → Reached text input lent budget h
-  reached-by small loads (inl e) =
+  reached-by small few loads (inl e) =
       requests.never (e ∙ stands-highest text (λ h. h ≡ 0) start (entering-stands (λ m. m .highest ≡ 0) (fresh text input lent) (linesOf text) refl))
-  reached-by small loads (inr y) =
+  reached-by small few loads (inr y) =
       requests.granted
       (record {
         small = small;
+        few = few;
         loads = loads;
         from = y .from;
         place = y .place;
@@ -156,8 +157,9 @@ module _ (text input : List ℕ) (lent : Lent) (budget : ℕ) where
 
   reached-view : RunView text input lent budget → Reached text input lent budget (runOf text input lent budget .machine .highest)
   reached-view (long h e) = rw e (requests.never refl)
-  reached-view (unloaded r p h l e) = rw e (requests.never refl)
-  reached-view (runs h l e) = rw e (reached-by h l (running-raises text (lent .space) budget start start-space))
+  reached-view (tall h k e) = rw e (requests.never refl)
+  reached-view (unloaded r p h k l e) = rw e (requests.never refl)
+  reached-view (runs h k l e) = rw e (reached-by h k l (running-raises text (lent .space) budget start start-space))
 
 pub highest-is-counted : highestIsCounted
 highest-is-counted text input lent budget =

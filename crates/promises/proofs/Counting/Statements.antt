@@ -29,6 +29,7 @@ use Rattle.promises.specs.StringSpace as asks
 use Rattle.promises.specs.StringSpace.{Ask, bytesIn, FormulaAsks, PrintAsks, Gave, ReadAsks, StatementAsks}
 use Rattle.promises.specs.Requests.{atOnce, Fits}
 use Rattle.promises.proofs.Limits.Keeping.{line-keeps, pushed-keeps, returned-keeps, begun-keeps, tested-keeps, back-keeps, next-keeps}
+use Rattle.promises.proofs.Records.{sought-fewer}
 use Rattle.promises.proofs.Counting.Rising.{highestOf}
 use Rattle.promises.proofs.Counting.Raising.{Raised, raised-on, raised-as, make-raised}
 use Rattle.promises.proofs.Counting.Asked.{AskedBy, formula-raised}
@@ -138,7 +139,7 @@ module _ (exact : LiveIsExact) (program : List ℕ) (place : ℕ) (m : Machine) 
       whole-notes (R s) c m _
       (told exact (AskedOf (after .lines) place s m) (m .highest) c m
       (λ k d x. record { asking = m; ask = k; asks = asks.repeated e d; fits = x; counted = refl }) (inl refl))
-      (λ v room f q. tested-keeps (Same s) (unnoted (R s)) (noting m room) (sought (isWhile (startOf (after .lines)) place) (m .records)) v w (hereOf place c after) after q)
+      (λ v room f q. tested-keeps (Same s) (unnoted (R s)) (noting m room) (sought (isWhile (startOf (after .lines)) place) (m .records)) v w (hereOf place c after) after (sought-fewer (isWhile (startOf (after .lines)) place) (m .records)) q)
 
   pub statement-raises : (s : Statement) → Notes (R s) (doStatement program place s m after)
   unfolding bytesIn
@@ -169,7 +170,7 @@ module _ (exact : LiveIsExact) (program : List ℕ) (place : ℕ) (m : Machine) 
       let s = tree.gosub l in
       line-keeps (Same s) (unnoted (R s)) m (fromNumber (l .0) (linesOf program)) _ (inl refl)
       (λ ls. pushed-keeps (Same s) (unnoted (R s)) m (call after) (λ n. enters n ls) (inl refl) (λ n q. q))
-  statement-raises tree.return = returned-keeps (Same tree.return) (unnoted (R tree.return)) m (sought isCall (m .records)) (inl refl)
+  statement-raises tree.return = returned-keeps (Same tree.return) (unnoted (R tree.return)) m (sought isCall (m .records)) (sought-fewer isCall (m .records)) (inl refl)
   statement-raises (tree.for v from to by) =
       let s = tree.for v from to by in
       by-test (isWholeKind (v .kind))
@@ -185,15 +186,15 @@ module _ (exact : LiveIsExact) (program : List ℕ) (place : ℕ) (m : Machine) 
       (λ k c x. record { asking = m; ask = k; asks = asks.stepped t e d c; fits = x; counted = refl }) q′) (λ w last c q″.
       begun-keeps (Same s) (unnoted (R s)) (v .telling) place after a b w (noting m last) q″)))))
       (λ t. rw t (inl refl))
-  statement-raises tree.next = next-keeps (Same tree.next) (unnoted (R tree.next)) m (sought isLoop (m .records)) after (inl refl)
+  statement-raises tree.next = next-keeps (Same tree.next) (unnoted (R tree.next)) m (sought isLoop (m .records)) after (sought-fewer isLoop (m .records)) (inl refl)
   statement-raises (tree.nextOf v) =
       let s = tree.nextOf v in
       by-test (isWholeKind (v .kind))
-      (λ t. rw t (next-keeps (Same s) (unnoted (R s)) m (sought (isLoopOf (v .telling)) (m .records)) after (inl refl)))
+      (λ t. rw t (next-keeps (Same s) (unnoted (R s)) m (sought (isLoopOf (v .telling)) (m .records)) after (sought-fewer (isLoopOf (v .telling)) (m .records)) (inl refl)))
       (λ t. rw t (inl refl))
   statement-raises (tree.while c) = while-raises c (wendFor place (after .lines)) refl
   statement-raises tree.wend =
-      back-keeps (Same tree.wend) (unnoted (R tree.wend)) m (sought (isWhileOf (startOf (after .lines)) place) (m .records)) (inl refl)
+      back-keeps (Same tree.wend) (unnoted (R tree.wend)) m (sought (isWhileOf (startOf (after .lines)) place) (m .records)) (sought-fewer (isWhileOf (startOf (after .lines)) place) (m .records)) (inl refl)
   statement-raises (tree.lineInput t v) =
       let s = tree.lineInput t v in
       written-notes (R s) m t _ (inl refl) (λ n w q.

@@ -12,7 +12,7 @@ use Rattle.reader.specs.Lines.{Judgement, unreadable, tooDeep, holds, judgement
 use Rattle.statements.specs.Parts.{Rest, nothing, part, headOf, tailOf, placeOf}
 use Rattle.variables.specs.Variables.{stringBytes}
 use Rattle.machine.specs.Items.{fresh}
-use Rattle.machine.specs.Machine.{Position, Machine, Lent, withStep}
+use Rattle.machine.specs.Machine.{Position, Machine, Lent, mostRecords, withStep}
 use Rattle.variables.specs.Strings.{longestSpace}
 use Rattle.turns.specs.Steps.{Next, goesOn, enters, ends, stops, fails, doStatement}
 use Rattle.runner.specs.Run.{Ran, endsWith, lineNumberOf, judgedLine, enter, Standing, finished, at, byEntered, entering, onward, following, turn, running, runOf}
@@ -22,7 +22,7 @@ use Rattle.promises.specs.StringSpace as asks
 use Rattle.promises.specs.StringSpace.{Ask, Exceeds, StatementAsks, Begins, AsksTooMuch}
 use Rattle.whole.proofs.Never.{never}
 use Rattle.promises.proofs.Limits.Keeping.{Keeps}
-use Rattle.promises.proofs.Limits.Bounds.{Stands, entering-stands, turn-stands, RunView, long, unloaded, runs, run-view}
+use Rattle.promises.proofs.Limits.Bounds.{Stands, entering-stands, turn-stands, RunView, long, tall, unloaded, runs, run-view}
 use Rattle.promises.proofs.Fourteen.Statements.{told, StatementOver, statement-tells, StatementFails, statement-fails}
 
 -- ---- a run that has not come to 14 yet
@@ -52,7 +52,7 @@ pub space-kept : (space : ℕ) → Keeps (λ m. m .space ≡ space)
 space-kept space = record {
   changes = record {
     numbers = λ m name w full p. p;
-    records = λ m rs p. p;
+    records = λ m rs few p. p;
     prints = λ m bytes h p. p;
     takes = λ m left h p. p;
     feeds = λ m l p. p;
@@ -172,11 +172,13 @@ module _ (exact : LiveIsExact) (text input : List ℕ) (lent : Lent) (budget : �
   asked-view : RunView text input lent budget → (l : LineNumber) → runOf text input lent budget .ending ≡ Failed OutOfStringSpace l
       → AsksTooMuch text input lent budget l
   asked-view (long h e) l f = let g = rw e at f in never (cc)
-  asked-view (unloaded r p h k e) l f = let g = rw e at f in never (cc)
-  asked-view (runs h k e) l f =
+  asked-view (tall h k e) l f = let g = rw e at f in never (cc)
+  asked-view (unloaded r p h s k e) l f = let g = rw e at f in never (cc)
+  asked-view (runs h s k e) l f =
       let a = running-asked exact text (lent .space) budget start l start-space (entering-unfailed (fresh text input lent) (linesOf text)) (rw e at f) in
       record {
         small = h;
+        few = s;
         loads = k;
         from = a .from;
         numbered = a .numbered;
@@ -194,7 +196,7 @@ module _ (exact : LiveIsExact) (text input : List ℕ) (lent : Lent) (budget : �
   unfolding runOf
   asked-fails l a =
       let same = begun-space text (lent .space) budget start (a .from) (a .place) (a .statement) (a .machine) (a .begins) start-space in
-      rw (le-ltb longestSpace (lent .space) (a .small), a .loads, ← (a .numbered))
+      rw (le-ltb longestSpace (lent .space) (a .small), le-ltb mostRecords (lent .records) (a .few), a .loads, ← (a .numbered))
       (running-fails exact text (lent .space) budget start (a .from) (a .place) (a .statement) (a .machine) (a .begins)
       (λ rest. statement-fails exact text (a .place) (a .statement) (a .machine) (record { lines = a .from; rest = rest }) (a .asking) (a .ask) (a .asks) (rw same (a .exceeds))))
 

@@ -23,7 +23,7 @@ use Rattle.grammar.specs.Trees.{Formula, Variable, Item, Statement}
 use Rattle.variables.specs.Strings.{Value, whole, text, Room, Outcome, value, fault, make}
 use Rattle.variables.specs.Variables.{Variables, wordOf, stringBytes, numbersFull, stringsFull}
 use Rattle.operators.specs.Values.{valueOf}
-use Rattle.machine.specs.Machine.{Position, Record, loop, call, again, Machine, mostRecords, roomOf, withRecords, withOutput, withInput, withItems, noting, columnAfter, Printed, full, printed, write, commaBlanks, isCall, isLoop, isLoopOf, Search, missing, found, sought, passed, longestInputLine}
+use Rattle.machine.specs.Machine.{Position, Record, loop, call, again, Machine, roomOf, withRecords, withOutput, withInput, withItems, noting, columnAfter, Printed, full, printed, write, commaBlanks, isCall, isLoop, isLoopOf, Search, missing, found, sought, passed, longestInputLine}
 use Rattle.machine.specs.Order.{Stand, Partner, none, some, nextFor, wendFor}
 use Rattle.machine.specs.Repeats.{startOf, isWhile, isWhileOf}
 use Rattle.statements.specs.Parts.{headOf}
@@ -124,7 +124,7 @@ module _ (X : Type 0) where
 
   pushed-tells : (m : Machine) (r : Record) (go : Machine → Next) → ((n : Machine) → Tells X (go n)) → Tells X (pushed m r go)
   pushed-tells m r go h =
-      by-test (leb mostRecords (length (m .records)))
+      by-test (leb (m .recordRoom) (length (m .records)))
       (λ e. rw e (λ t. never (cc))) (λ e. rw e (h (withRecords m (r ∷ m .records))))
 
   returned-tells : (m : Machine) (s : Search) → Tells X (returned m s)

@@ -16,14 +16,14 @@ use Rattle.loader.specs.Loading.{loadOf}
 use Rattle.loader.specs.declared.loading.Loaded.{Loaded}
 use Rattle.loader.specs.declared.loading.Loaded.the-variants as loaded
 use Rattle.loader.specs.declared.refusals.Refusal.{Refusal}
-use Rattle.loader.specs.declared.refusals.Refusal.the-variants.{SpaceTooLong}
+use Rattle.loader.specs.declared.refusals.Refusal.the-variants.{SpaceTooLong, StackTooLong}
 use Rattle.grammar.specs.Trees.{Formula, Part}
 use Rattle.variables.specs.Strings as string
 use Rattle.variables.specs.Strings.{Room, value, longestSpace}
 use Rattle.variables.specs.Variables.{stringBytes}
 use Rattle.operators.specs.Values.{valueOf}
 use Rattle.machine.specs.Items.{fresh}
-use Rattle.machine.specs.Machine.{Machine, Lent, roomOf, withStep}
+use Rattle.machine.specs.Machine.{Machine, Lent, mostRecords, roomOf, withStep}
 use Rattle.statements.specs.Parts.{placeOf}
 use Rattle.statements.specs.Parts.{Rest, nothing, part, headOf, tailOf}
 use Rattle.turns.specs.Steps.{Next, goesOn, enters, ends, stops, fails, doStatement}
@@ -80,27 +80,31 @@ running-keeps P k step (suc n) program (at m lines p) h =
 pub data RunView (text input : List ℕ) (lent : Lent) (budget : ℕ) : Type 0 where
   long : longestSpace < lent .space → runOf text input lent budget ≡ endsWith (Refused SpaceTooLong (place 0)) (fresh text input lent)
       → RunView text input lent budget
-  unloaded : (r : Refusal) (p : Place) → lent .space ≤ longestSpace → loadOf text ≡ loaded.Refused r p
+  tall : lent .space ≤ longestSpace → mostRecords < lent .records → runOf text input lent budget ≡ endsWith (Refused StackTooLong (place 0)) (fresh text input lent)
+      → RunView text input lent budget
+  unloaded : (r : Refusal) (p : Place) → lent .space ≤ longestSpace → lent .records ≤ mostRecords → loadOf text ≡ loaded.Refused r p
       → runOf text input lent budget ≡ endsWith (Refused r p) (fresh text input lent) → RunView text input lent budget
-  runs : lent .space ≤ longestSpace → loadOf text ≡ loaded.Fine
+  runs : lent .space ≤ longestSpace → lent .records ≤ mostRecords → loadOf text ≡ loaded.Fine
       → runOf text input lent budget ≡ running budget text (entering (fresh text input lent) (linesOf text))
       → RunView text input lent budget
 
 pub run-view : (text input : List ℕ) (lent : Lent) (budget : ℕ) → RunView text input lent budget
 unfolding runOf
 run-view text input lent budget =
-    by-test (ltb longestSpace (lent .space)) (λ t. long (ltb-true _ _ t) (rw t)) (λ t. loads (loadOf text) refl t)
+    by-test (ltb longestSpace (lent .space)) (λ t. long (ltb-true _ _ t) (rw t)) λ t.
+    by-test (ltb mostRecords (lent .records)) (λ u. tall (ltb-false _ _ t) (ltb-true _ _ u) (rw (t, u))) (λ u. loads (loadOf text) refl t u)
   where
-    loads : (x : Loaded) → loadOf text ≡ x → ltb longestSpace (lent .space) ≡ false → RunView text input lent budget
-    loads loaded.Fine e t = runs (ltb-false _ _ t) e (rw (t, e))
-    loads (loaded.Refused r p) e t = unloaded r p (ltb-false _ _ t) e (rw (t, e))
+    loads : (x : Loaded) → loadOf text ≡ x → ltb longestSpace (lent .space) ≡ false → ltb mostRecords (lent .records) ≡ false → RunView text input lent budget
+    loads loaded.Fine e t u = runs (ltb-false _ _ t) (ltb-false _ _ u) e (rw (t, u, e))
+    loads (loaded.Refused r p) e t u = unloaded r p (ltb-false _ _ t) (ltb-false _ _ u) e (rw (t, u, e))
 
 run-from : (P : Machine → Type 0) (text input : List ℕ) (lent : Lent) (budget : ℕ) → RunView text input lent budget
     → P (fresh text input lent) → P (running budget text (entering (fresh text input lent) (linesOf text)) .machine)
     → P (runOf text input lent budget .machine)
 run-from P text input lent budget (long h e) p q = rw e p
-run-from P text input lent budget (unloaded r l h f e) p q = rw e p
-run-from P text input lent budget (runs h f e) p q = rw e q
+run-from P text input lent budget (tall h k e) p q = rw e p
+run-from P text input lent budget (unloaded r l h k f e) p q = rw e p
+run-from P text input lent budget (runs h k f e) p q = rw e q
 
 pub run-keeps : (P : Machine → Type 0) → Keeps P → ((m : Machine) → P m → P (withStep m))
     → (text input : List ℕ) (lent : Lent) (budget : ℕ) → P (fresh text input lent) → P (runOf text input lent budget .machine)
@@ -115,7 +119,7 @@ pub steps-kept : (n : ℕ) → Keeps (λ m. m .steps ≡ n)
 steps-kept n = record {
   changes = record {
     numbers = λ m name w full p. p;
-    records = λ m rs p. p;
+    records = λ m rs few p. p;
     prints = λ m bytes h p. p;
     takes = λ m left h p. p;
     feeds = λ m l p. p;
@@ -150,7 +154,7 @@ output-kept : (room : ℕ) → Keeps (Printable room)
 output-kept room = record {
   changes = record {
     numbers = λ m name w full p. record { lent = p .lent; within = p .within };
-    records = λ m rs p. record { lent = p .lent; within = p .within };
+    records = λ m rs few p. record { lent = p .lent; within = p .within };
     prints = λ m bytes h p. record { lent = p .lent; within = omega (arith, length-append (m .output) bytes) };
     takes = λ m left h p. record { lent = p .lent; within = p .within };
     feeds = λ m l p. record { lent = p .lent; within = p .within };
@@ -171,7 +175,7 @@ input-kept : (n : ℕ) → Keeps (λ m. m .taken + length (m .input) ≡ n)
 input-kept n = record {
   changes = record {
     numbers = λ m name w full p. p;
-    records = λ m rs p. p;
+    records = λ m rs few p. p;
     prints = λ m bytes h p. p;
     takes = λ m left h p. omega arith;
     feeds = λ m l p. omega arith;
@@ -203,7 +207,7 @@ module _ (exact : LiveIsExact) where
   strings-kept space = record {
     changes = record {
       numbers = λ m name w full p. record { lent = p .lent; within = p .within };
-      records = λ m rs p. record { lent = p .lent; within = p .within };
+      records = λ m rs few p. record { lent = p .lent; within = p .within };
       prints = λ m bytes h p. record { lent = p .lent; within = p .within };
       takes = λ m left h p. record { lent = p .lent; within = p .within };
       feeds = λ m l p. record { lent = p .lent; within = p .within };

@@ -2,9 +2,9 @@
 use mathlib.Core.Path.{_≡_, refl}
 use mathlib.Core.Bool.{Bool, true, false, cond}
 use mathlib.Core.List.{List, [], _∷_, _++_}
-use Prim.Native.Nat.{ℕ, _+_, _-_, _≤_}
+use Prim.Native.Nat.{ℕ, _+_, _-_, _≤_, _<_}
 use native.Mathlib.Omega.{arith}
-use borrow.Author.Tests.{ltb-false}
+use borrow.Author.Tests.{ltb-false, leb-false}
 use lib.Dec.{ltb, leb, eqb}
 use lib.ListN.{length, length-drop}
 use Rattle.whole.specs.Digits.{numberItem}
@@ -22,7 +22,7 @@ use Rattle.grammar.specs.Trees.{Formula, Variable, Item, Statement}
 use Rattle.variables.specs.Strings.{Value, whole, text, Room, Outcome, value, fault, make}
 use Rattle.variables.specs.Variables.{Variables, wordOf, numbersFull, stringsFull}
 use Rattle.operators.specs.Values.{valueOf}
-use Rattle.machine.specs.Machine.{Position, Record, loop, call, again, Machine, mostRecords, roomOf, withRecords, withOutput, withInput, withItems, noting, columnAfter, write, commaBlanks, isCall, isLoop, isLoopOf, Search, missing, found, sought, below, passed, longestInputLine}
+use Rattle.machine.specs.Machine.{Position, Record, loop, call, again, Machine, roomOf, withRecords, withOutput, withInput, withItems, noting, columnAfter, write, commaBlanks, isCall, isLoop, isLoopOf, Search, missing, found, sought, below, passed, longestInputLine}
 use Rattle.machine.specs.Order.{Stand, Partner, none, some, nextFor, wendFor}
 use Rattle.machine.specs.Repeats.{startOf, isWhile, isWhileOf}
 use Rattle.statements.specs.Parts.{headOf}
@@ -30,6 +30,7 @@ use Rattle.turns.specs.Steps.{Next, goesOn, enters, ends, stops, fails, worked,
 use Rattle.whole.proofs.Never.{never}
 use Rattle.promises.proofs.Counting.Rising.{highestOf, make-rises, value-rises}
 use Rattle.promises.proofs.Loops.{looped}
+use Rattle.promises.proofs.Records.{Fewer, sought-fewer, below-fewer}
 
 -- what holds of the machine that a statement leaves, wherever it leads
 abbrev pub Leaves : (Machine → Type 0) → Next → Type 0
@@ -39,10 +40,15 @@ Leaves P (ends m) = P m
 Leaves P (stops m) = P m
 Leaves P (fails e m) = P m
 
--- each change that a statement makes without working anything out; a number is stored only where there is room for its variable
+-- there are no more of them than there can be, if there were not before
+abbrev pub Roomy : Machine → List Record → Type 0
+Roomy m rs = length (m .records) ≤ m .recordRoom → length rs ≤ m .recordRoom
+
+-- each change that a statement makes without working anything out; a number is stored only where there is room for its variable, and a record
+-- made only where there is room for it
 pub record Changes (P : Machine → Type 0) : Type 0 where
   pub numbers : (m : Machine) (name : Telling) (w : ℕ) → numbersFull (m .variables .numbers) name ≡ false → P m → P (withNumber m name w)
-  pub records : (m : Machine) (rs : List Record) → P m → P (withRecords m rs)
+  pub records : (m : Machine) (rs : List Record) → Roomy m rs → P m → P (withRecords m rs)
   pub prints : (m : Machine) (bytes : List ℕ) → length (m .output) + length bytes ≤ m .outputRoom
       → P m → P (withOutput m (m .output ++ bytes) (columnAfter (m .column) bytes))
   pub takes : (m : Machine) (left : List ℕ) → length left ≤ length (m .input)
@@ -74,6 +80,12 @@ module _ (P : Machine → Type 0) (k : Changes P) where
   number-keeps m name w go p h =
       by-test (numbersFull (m .variables .numbers) name) (λ e. rw e p) (λ e. rw e (h (withNumber m name w) (k .numbers m name w e p)))
 
+  -- where what is done next goes by the machine that stored it
+  stored-keeps : (m : Machine) (name : Telling) (w : ℕ) (go : Machine → Next) → P m → (P (withNumber m name w) → Leaves P (go (withNumber m name w)))
+      → Leaves P (storeNumber m name w go)
+  stored-keeps m name w go p h =
+      by-test (numbersFull (m .variables .numbers) name) (λ e. rw e p) (λ e. rw e (h (k .numbers m name w e p)))
+
   pub string-keeps : (m : Machine) (name : Telling) (b : List ℕ) (go : Machine → Next) → P m
       → (stringsFull (m .variables .strings) name ≡ false → P (withString m name b)) → ((n : Machine) → P n → Leaves P (go n)) → Leaves P (storeString m name b go)
   string-keeps m name b go p q h =
@@ -92,12 +104,12 @@ module _ (P : Machine → Type 0) (k : Changes P) where
 
   pub pushed-keeps : (m : Machine) (r : Record) (go : Machine → Next) → P m → ((n : Machine) → P n → Leaves P (go n)) → Leaves P (pushed m r go)
   pushed-keeps m r go p h =
-      by-test (leb mostRecords (length (m .records))) (λ e. rw e p)
-      (λ e. rw e (h (withRecords m (r ∷ m .records)) (k .records m (r ∷ m .records) p)))
+      by-test (leb (m .recordRoom) (length (m .records))) (λ e. rw e p)
+      (λ e. rw e (h (withRecords m (r ∷ m .records)) (k .records m (r ∷ m .records) (λ _. leb-false _ _ e) p)))
 
-  pub returned-keeps : (m : Machine) (s : Search) → P m → Leaves P (returned m s)
-  returned-keeps m missing p = p
-  returned-keeps m (found r under) p = k .records m under p
+  pub returned-keeps : (m : Machine) (s : Search) → Fewer (length (m .records)) s → P m → Leaves P (returned m s)
+  returned-keeps m missing f p = p
+  returned-keeps m (found r under) f p = k .records m under (λ l. omega arith) p
 
   skipped-keeps : (name : Telling) (s : Partner) (m : Machine) → P m → Leaves P (skipped name s m)
   skipped-keeps name none m p = p
@@ -108,35 +120,41 @@ module _ (P : Machine → Type 0) (k : Changes P) where
   begun-keeps name at after start limit step m p =
       number-keeps m name start (looped name at after start limit step) p (λ n q.
       by-test (passed start limit step)
-      (λ e. rw e (skipped-keeps name (nextFor at (after .lines)) (cleared name n) (k .records n _ q)))
-      (λ e. rw e (pushed-keeps (cleared name n) (loop name limit step after) (λ o. goesOn o after) (k .records n _ q) (λ o r. r))))
+      (λ e. rw e (skipped-keeps name (nextFor at (after .lines)) (cleared name n) (k .records n _ (cleared-roomy n) q)))
+      (λ e. rw e (pushed-keeps (cleared name n) (loop name limit step after) (λ o. goesOn o after) (k .records n _ (cleared-roomy n) q) (λ o r. r))))
+    where
+      cleared-roomy : (n : Machine) → Roomy n (cleared name n .records)
+      cleared-roomy n l = omega (arith, below-fewer (n .records) (sought (isLoopOf name) (n .records)) (sought-fewer (isLoopOf name) (n .records)))
 
-  pub turned-keeps : (m : Machine) (v : Telling) (limit step : ℕ) (back : Position) (under : List Record) (after : Position) (a : Answer) → P m
-      → Leaves P (turned m v limit step back under after a)
-  turned-keeps m v limit step back under after (Whole w) p =
-      number-keeps m v w
-      (λ n. cond (passed w limit step) (goesOn (withRecords n under) after) (goesOn (withRecords n (loop v limit step back ∷ under)) back)) p (λ n q.
-      by-test (passed w limit step) (λ e. rw e (k .records n under q)) (λ e. rw e (k .records n (loop v limit step back ∷ under) q)))
-  turned-keeps m v limit step back under after (Fault e) p = p
+  pub turned-keeps : (m : Machine) (v : Telling) (limit step : ℕ) (back : Position) (under : List Record) (after : Position) (a : Answer)
+      → length under < length (m .records) → P m → Leaves P (turned m v limit step back under after a)
+  turned-keeps m v limit step back under after (Whole w) f p =
+      stored-keeps m v w
+      (λ n. cond (passed w limit step) (goesOn (withRecords n under) after) (goesOn (withRecords n (loop v limit step back ∷ under)) back)) p (λ q.
+      by-test (passed w limit step) (λ e. rw e (k .records (withNumber m v w) under (λ l. omega arith) q))
+      (λ e. rw e (k .records (withNumber m v w) (loop v limit step back ∷ under) (λ l. omega arith) q)))
+  turned-keeps m v limit step back under after (Fault e) f p = p
 
-  pub next-keeps : (m : Machine) (s : Search) (after : Position) → P m → Leaves P (nextOn m s after)
-  next-keeps m missing after p = p
-  next-keeps m (found (loop v limit step back) under) after p =
-      turned-keeps m v limit step back under after (applied Add (wordOf (m .variables .numbers) v) step) p
-  next-keeps m (found (call q) under) after p = p
-  next-keeps m (found (again q) under) after p = p
+  pub next-keeps : (m : Machine) (s : Search) (after : Position) → Fewer (length (m .records)) s → P m → Leaves P (nextOn m s after)
+  next-keeps m missing after f p = p
+  next-keeps m (found (loop v limit step back) under) after f p =
+      turned-keeps m v limit step back under after (applied Add (wordOf (m .variables .numbers) v) step) f p
+  next-keeps m (found (call q) under) after f p = p
+  next-keeps m (found (again q) under) after f p = p
 
-  repeated-keeps : (m : Machine) (s : Search) (here after : Position) → P m → Leaves P (repeated m s here after)
-  repeated-keeps m missing here after p = pushed-keeps m (again here) (λ n. goesOn n after) p (λ n q. q)
-  repeated-keeps m (found r under) here after p = k .records m (r ∷ under) p
+  repeated-keeps : (m : Machine) (s : Search) (here after : Position) → Fewer (length (m .records)) s → P m → Leaves P (repeated m s here after)
+  repeated-keeps m missing here after f p = pushed-keeps m (again here) (λ n. goesOn n after) p (λ n q. q)
+  repeated-keeps m (found r under) here after f p = k .records m (r ∷ under) (λ l. omega arith) p
 
-  pub tested-keeps : (m : Machine) (s : Search) (v : ℕ) (w : Stand) (here after : Position) → P m → Leaves P (tested m s v w here after)
-  tested-keeps m s v w here after p =
-      by-test (eqb v 0) (λ e. rw e (k .records m (below (m .records) s) p)) (λ e. rw e (repeated-keeps m s here after p))
+  pub tested-keeps : (m : Machine) (s : Search) (v : ℕ) (w : Stand) (here after : Position) → Fewer (length (m .records)) s → P m
+      → Leaves P (tested m s v w here after)
+  tested-keeps m s v w here after f p =
+      by-test (eqb v 0) (λ e. rw e (k .records m (below (m .records) s) (λ l. omega (arith, below-fewer (m .records) s f)) p))
+      (λ e. rw e (repeated-keeps m s here after f p))
 
-  pub back-keeps : (m : Machine) (s : Search) → P m → Leaves P (turnedBack m s)
-  back-keeps m missing p = p
-  back-keeps m (found r under) p = k .records m (r ∷ under) p
+  pub back-keeps : (m : Machine) (s : Search) → Fewer (length (m .records)) s → P m → Leaves P (turnedBack m s)
+  back-keeps m missing f p = p
+  back-keeps m (found r under) f p = k .records m (r ∷ under) (λ l. omega arith) p
 
 module _ (P : Machine → Type 0) (k : Keeps P) where
   -- ---- working out
@@ -238,7 +256,8 @@ module _ (P : Machine → Type 0) (k : Keeps P) where
   while-keeps : (s : Partner) (at : ℕ) (c : Formula) (m : Machine) (after : Position) → P m → Leaves P (whileBy s at c m after)
   while-keeps none at c m after p = p
   while-keeps (some w) at c m after p =
-      whole-keeps c m _ p (λ v n q. tested-keeps P (k .changes) n (sought (isWhile (startOf (after .lines)) at) (n .records)) v w (hereOf at c after) after q)
+      whole-keeps c m _ p (λ v n q. tested-keeps P (k .changes) n (sought (isWhile (startOf (after .lines)) at) (n .records)) v w (hereOf at c after) after
+      (sought-fewer (isWhile (startOf (after .lines)) at) (n .records)) q)
 
   -- ---- all statements
 
@@ -253,19 +272,19 @@ module _ (P : Machine → Type 0) (k : Keeps P) where
   statement-keeps program at (tree.goto l) m after p = line-keeps P (k .changes) m (fromNumber (l .0) (linesOf program)) _ p (λ ls. p)
   statement-keeps program at (tree.gosub l) m after p =
       line-keeps P (k .changes) m (fromNumber (l .0) (linesOf program)) _ p (λ ls. pushed-keeps P (k .changes) m (call after) (λ n. enters n ls) p (λ n q. q))
-  statement-keeps program at tree.return m after p = returned-keeps P (k .changes) m (sought isCall (m .records)) p
+  statement-keeps program at tree.return m after p = returned-keeps P (k .changes) m (sought isCall (m .records)) (sought-fewer isCall (m .records)) p
   statement-keeps program at (tree.for v from to by) m after p =
       by-test (isWholeKind (v .kind))
       (λ e. rw e
       (whole-keeps from m _ p (λ a n q. whole-keeps to n _ q (λ b o r. whole-keeps by o _ r (λ s x y.
       begun-keeps P (k .changes) (v .telling) at after a b s x y)))))
       (λ e. rw e p)
-  statement-keeps program at tree.next m after p = next-keeps P (k .changes) m (sought isLoop (m .records)) after p
+  statement-keeps program at tree.next m after p = next-keeps P (k .changes) m (sought isLoop (m .records)) after (sought-fewer isLoop (m .records)) p
   statement-keeps program at (tree.nextOf v) m after p =
-      by-test (isWholeKind (v .kind)) (λ e. rw e (next-keeps P (k .changes) m (sought (isLoopOf (v .telling)) (m .records)) after p)) (λ e. rw e p)
+      by-test (isWholeKind (v .kind)) (λ e. rw e (next-keeps P (k .changes) m (sought (isLoopOf (v .telling)) (m .records)) after (sought-fewer (isLoopOf (v .telling)) (m .records)) p)) (λ e. rw e p)
   statement-keeps program at (tree.while c) m after p = while-keeps (wendFor at (after .lines)) at c m after p
   statement-keeps program at tree.wend m after p =
-      back-keeps P (k .changes) m (sought (isWhileOf (startOf (after .lines)) at) (m .records)) p
+      back-keeps P (k .changes) m (sought (isWhileOf (startOf (after .lines)) at) (m .records)) (sought-fewer (isWhileOf (startOf (after .lines)) at) (m .records)) p
   statement-keeps program at (tree.lineInput t v) m after p = written-keeps P (k .changes) m t _ p (λ n q. input-keeps (n .input) n v _ refl q (λ o r. r))
   statement-keeps program at (tree.dataOf l) m after p = p
   statement-keeps program at (tree.read vs) m after p = read-keeps vs m _ p (λ n q. q)

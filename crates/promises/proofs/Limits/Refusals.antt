@@ -1,4 +1,4 @@
--- A run is refused exactly for its string space or its text: one that was begun never is.
+-- A run is refused exactly for its string space, its records or its text: one that was begun never is.
 use mathlib.Core.Path.{_≡_, refl, ap}
 use mathlib.Core.Bool.{false}
 use mathlib.Core.List.{List}
@@ -13,9 +13,9 @@ use Rattle.loader.specs.Loading.{loadOf}
 use Rattle.loader.specs.Refusals.{refusalNumber}
 use Rattle.loader.specs.declared.loading.Loaded.the-variants as loaded
 use Rattle.loader.specs.declared.refusals.Refusal.{Refusal}
-use Rattle.loader.specs.declared.refusals.Refusal.the-variants.{SpaceTooLong}
+use Rattle.loader.specs.declared.refusals.Refusal.the-variants.{SpaceTooLong, StackTooLong}
 use Rattle.machine.specs.Items.{fresh}
-use Rattle.machine.specs.Machine.{Machine, Lent, withStep}
+use Rattle.machine.specs.Machine.{Machine, Lent, mostRecords, withStep}
 use Rattle.statements.specs.Parts.{placeOf}
 use Rattle.statements.specs.Parts.{Rest, nothing, part, headOf, tailOf}
 use Rattle.turns.specs.Steps.{Next, goesOn, enters, ends, stops, fails, doStatement}
@@ -26,7 +26,7 @@ use Rattle.promises.specs.Demands as demands
 use Rattle.promises.specs.Demands.{WasRefused}
 use Rattle.promises.proofs.Numbers.{refused-told}
 use Rattle.whole.proofs.Never.{never}
-use Rattle.promises.proofs.Limits.Bounds.{RunView, long, unloaded, runs, run-view}
+use Rattle.promises.proofs.Limits.Bounds.{RunView, long, tall, unloaded, runs, run-view}
 use Rattle.variables.specs.Strings.{longestSpace}
 
 -- ---- a run that was begun
@@ -68,17 +68,20 @@ running-begun (suc n) program (at m lines p) h =
 -- what a run is refused for, by its case
 pub data RefusedFor (text : List ℕ) (lent : Lent) : Refusal → Place → Type 0 where
   longSpace : longestSpace < lent .space → RefusedFor text lent SpaceTooLong (place 0)
-  notLoaded : {r : Refusal} {p : Place} → lent .space ≤ longestSpace → loadOf text ≡ loaded.Refused r p → RefusedFor text lent r p
+  longStack : lent .space ≤ longestSpace → mostRecords < lent .records → RefusedFor text lent StackTooLong (place 0)
+  notLoaded : {r : Refusal} {p : Place} → lent .space ≤ longestSpace → lent .records ≤ mostRecords → loadOf text ≡ loaded.Refused r p → RefusedFor text lent r p
 
 -- by its case, and by its number and place
 refused-for : {text : List ℕ} {lent : Lent} {r : Refusal} {p : Place} → RefusedFor text lent r p → demands.RefusedFor text lent (refusalNumber r) (p .0)
 refused-for (longSpace h) = demands.longSpace h
-refused-for {r = r} (notLoaded h l) = demands.notLoaded h (record { refusal = r; numbered = refl; loads = l })
+refused-for (longStack h k) = demands.longStack h k
+refused-for {r = r} (notLoaded h k l) = demands.notLoaded h k (record { refusal = r; numbered = refl; loads = l })
 
 refused-by : {text : List ℕ} {lent : Lent} {number at : ℕ} → demands.RefusedFor text lent number at
     → (r : Refusal) × (refusalNumber r ≡ number) × RefusedFor text lent r (place at)
 refused-by (demands.longSpace h) = (SpaceTooLong, refl, longSpace h)
-refused-by (demands.notLoaded h l) = (l .refusal, l .numbered, notLoaded h (l .loads))
+refused-by (demands.longStack h k) = (StackTooLong, refl, longStack h k)
+refused-by (demands.notLoaded h k l) = (l .refusal, l .numbered, notLoaded h k (l .loads))
 
 module _ (text input : List ℕ) (lent : Lent) (budget : ℕ) where
   not-begun : {o : Outcome} (r : Refusal) (p : Place) → isRefused o ≡ false → o ≡ Refused r p → ⊥
@@ -90,8 +93,9 @@ module _ (text input : List ℕ) (lent : Lent) (budget : ℕ) where
   refused-view : RunView text input lent budget → (r : Refusal) (p : Place) → runOf text input lent budget .ending ≡ Refused r p
       → RefusedFor text lent r p
   refused-view (long h e) r p o = same-refusal (rw e at o) (longSpace h)
-  refused-view (unloaded s q h l e) r p o = same-refusal (rw e at o) (notLoaded h l)
-  refused-view (runs h l e) r p o =
+  refused-view (tall h k e) r p o = same-refusal (rw e at o) (longStack h k)
+  refused-view (unloaded s q h k l e) r p o = same-refusal (rw e at o) (notLoaded h k l)
+  refused-view (runs h k l e) r p o =
       absurd
       (not-begun r p
       (running-begun budget text (entering (fresh text input lent) (linesOf text)) (entering-begun (fresh text input lent) (linesOf text)))
@@ -101,7 +105,8 @@ module _ (text input : List ℕ) (lent : Lent) (budget : ℕ) where
       → runOf text input lent budget ≡ endsWith (Refused r p) (fresh text input lent)
   unfolding runOf
   for-view r p (longSpace h) = rw (lt-ltb longestSpace (lent .space) h)
-  for-view r p (notLoaded h l) = rw (le-ltb longestSpace (lent .space) h, l)
+  for-view r p (longStack h k) = rw (le-ltb longestSpace (lent .space) h, lt-ltb mostRecords (lent .records) k)
+  for-view r p (notLoaded h k l) = rw (le-ltb longestSpace (lent .space) h, le-ltb mostRecords (lent .records) k, l)
 
   pub refused-exactly : (r : Refusal) (p : Place) → (runOf text input lent budget .ending ≡ Refused r p) ↔ RefusedFor text lent r p
   refused-exactly r p = (refused-view (run-view text input lent budget) r p, λ h. ap (λ x. x .ending) (for-view r p h))

@@ -23,7 +23,7 @@ use Rattle.asking.specs.declared.questions.Asked.the-variants.{Refused}
 use Rattle.runner.specs.Run as run
 use Rattle.runner.specs.Run.{isRefused, tablesOf, answerOf, runOf}
 use Rattle.runner.specs.declared.running.Ran.{Ran}
-use Rattle.promises.specs.Calls.{textOf, inputOf, lentOf, budgetOf, spaceBefore, roomBefore, tablesBefore, spaceHanded, nameAsked}
+use Rattle.promises.specs.Calls.{textOf, inputOf, lentOf, budgetOf, spaceBefore, roomBefore, stackBefore, tablesBefore, spaceHanded, nameAsked}
 use Rattle.promises.specs.Questions.{Reply, noName, answerFor, Says, refused, Holds, askedOverVariables, answersAfterRuns, asksAfterRuns}
 use Rattle.promises.proofs.Limits.Keeping.{Keeps}
 use Rattle.promises.proofs.Limits.Bounds.{run-keeps}
@@ -93,7 +93,7 @@ countable-kept = record {
           numbers = rw (number-length (m .variables .numbers) name w) (room-left (hasNumber (m .variables .numbers) name) (length (m .variables .numbers)) full (p .numbers));
           strings = p .strings;
         };
-    records = λ m rs p. record { numbers = p .numbers; strings = p .strings };
+    records = λ m rs few p. record { numbers = p .numbers; strings = p .strings };
     prints = λ m bytes h p. record { numbers = p .numbers; strings = p .strings };
     takes = λ m left h p. record { numbers = p .numbers; strings = p .strings };
     feeds = λ m l p. record { numbers = p .numbers; strings = p .strings };
@@ -114,11 +114,11 @@ run-countable text input lent budget =
 -- ---- after a run
 
 -- the tables and the space that it leaves hold its variables
-pub run-holds : (text input space room : List ℕ) (budget : ℕ) → isRefused (runOf text input (lentBy space room) budget .ending) ≡ false
-    → Holds (runOf text input (lentBy space room) budget .machine .variables) (run.spaceAfter (runOf text input (lentBy space room) budget) space)
-run-holds text input space room budget taken =
-    let k = run-countable text input (lentBy space room) budget in
-    let vs = runOf text input (lentBy space room) budget .machine .variables .strings in
+pub run-holds : (text input space room : List ℕ) (records budget : ℕ) → isRefused (runOf text input (lentBy space room records) budget .ending) ≡ false
+    → Holds (runOf text input (lentBy space room records) budget .machine .variables) (run.spaceAfter (runOf text input (lentBy space room records) budget) space)
+run-holds text input space room records budget taken =
+    let k = run-countable text input (lentBy space room records) budget in
+    let vs = runOf text input (lentBy space room records) budget .machine .variables .strings in
     record {
       numbers = k .numbers;
       strings = k .strings;
@@ -127,9 +127,9 @@ run-holds text input space room budget taken =
     }
 
 pub answers-after-runs : answersAfterRuns
-answers-after-runs text input space room budget tables given taken =
-    let ran = runOf text input (lentBy space room) budget in
-    let holds = run-holds text input space room budget taken in
+answers-after-runs text input space room records budget tables given taken =
+    let ran = runOf text input (lentBy space room records) budget in
+    let holds = run-holds text input space room records budget taken in
     let told = asked-over-variables (ran .machine .variables) (run.spaceAfter ran space) given holds in
     let left : answerOf ran tables .tables ≡ tablesOf (ran .machine .variables) =
     ap (λ t. cond t tables (tablesOf (ran .machine .variables))) taken in
@@ -145,4 +145,4 @@ asks-after-runs c a h =
     (a .allowed
     ∙ ap (λ t. askOf t (length (spaceHanded a)) (nameAsked a)) tables
     ∙ ap (λ s. askOf (answerOf ran (tablesBefore c) .tables) (length s) (nameAsked a)) space)
-    (answers-after-runs (textOf c) (inputOf c) (spaceBefore c) (roomBefore c) (budgetOf c) (tablesBefore c) (nameAsked a) taken)
+    (answers-after-runs (textOf c) (inputOf c) (spaceBefore c) (roomBefore c) (length (stackBefore c)) (budgetOf c) (tablesBefore c) (nameAsked a) taken)

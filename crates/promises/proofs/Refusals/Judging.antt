@@ -17,7 +17,7 @@ use Rattle.loader.specs.Loading.{isPlain, mostLines, numbered, withNumber, judg
 use Rattle.loader.specs.declared.loading.Judged.{Judged}
 use Rattle.loader.specs.declared.loading.Judged.the-variants.{Good, Bad}
 use Rattle.loader.specs.declared.refusals.Refusal.{Refusal}
-use Rattle.loader.specs.declared.refusals.Refusal.the-variants.{NoVariable, SpaceTooLong, TextTooLong, LineTooLong, ForeignByte, BadNumber, NotRising, TooManyLines, ShortGroup, TooManyPairs, NoRoom}
+use Rattle.loader.specs.declared.refusals.Refusal.the-variants.{NoVariable, SpaceTooLong, StackTooLong, TextTooLong, LineTooLong, ForeignByte, BadNumber, NotRising, TooManyLines, ShortGroup, TooManyPairs, NoRoom}
 use Rattle.promises.specs.Refusals.{Plain, AllPlain, beginsWithDigit, Applies, tooLong, foreign, unnumbered, numberTooLarge, notRising, tooMany, rowOf, NoneApplies}
 use Rattle.promises.proofs.Refusals.Rows.{front-of, front-counted, digits-first, floorOf, floor-last, below-floor}
 
@@ -33,6 +33,7 @@ Judges before l (Bad r q) =
 abbrev pub offsetIn : Line → Refusal → ℕ
 offsetIn l NoVariable = 0
 offsetIn l SpaceTooLong = 0
+offsetIn l StackTooLong = 0
 offsetIn l TextTooLong = 0
 offsetIn l LineTooLong = 0
 offsetIn l ForeignByte = length (leading isPlain (l .bytes))
@@ -64,7 +65,7 @@ module _ (before : List Line) (l : Line) where
   applies-at TooManyLines p (tooMany h) = start-same
 
   -- which rows are left after each test
-  pub first-row : (r : Refusal) (p : Place) → Applies before l r p → 4 ≤ rowOf r
+  pub first-row : (r : Refusal) (p : Place) → Applies before l r p → 5 ≤ rowOf r
   first-row LineTooLong p (tooLong h) = omega arith
   first-row ForeignByte p (foreign front b back e h k) = omega arith
   first-row BadNumber p (unnumbered h) = omega arith
@@ -73,7 +74,7 @@ module _ (before : List Line) (l : Line) where
   first-row TooManyLines p (tooMany h) = omega arith
 
   module _ (short : length (l .bytes) ≤ longestLine) where
-    after-103 : (r : Refusal) (p : Place) → Applies before l r p → 5 ≤ rowOf r
+    after-103 : (r : Refusal) (p : Place) → Applies before l r p → 6 ≤ rowOf r
     after-103 LineTooLong p (tooLong h) = absurd (omega (arith, short, h))
     after-103 ForeignByte p (foreign front b back e h k) = omega arith
     after-103 BadNumber p (unnumbered h) = omega arith
@@ -82,7 +83,7 @@ module _ (before : List Line) (l : Line) where
     after-103 TooManyLines p (tooMany h) = omega arith
 
     module _ (plain : length (l .bytes) ≤ length (leading isPlain (l .bytes))) where
-      after-104 : (r : Refusal) (p : Place) → Applies before l r p → 6 ≤ rowOf r
+      after-104 : (r : Refusal) (p : Place) → Applies before l r p → 7 ≤ rowOf r
       after-104 LineTooLong p (tooLong h) = absurd (omega (arith, short, h))
       after-104 ForeignByte p (foreign front b back e h k) =
           let f = front-same front b back e h k in
@@ -94,7 +95,7 @@ module _ (before : List Line) (l : Line) where
       after-104 TooManyLines p (tooMany h) = omega arith
 
       module _ (digit : beginsWithDigit (l .bytes) ≡ true) (fits : leadingValue (l .bytes) ≤ largestLineNumber) where
-        after-101 : (r : Refusal) (p : Place) → Applies before l r p → 7 ≤ rowOf r
+        after-101 : (r : Refusal) (p : Place) → Applies before l r p → 8 ≤ rowOf r
         after-101 LineTooLong p a = absurd (omega (arith, after-104 LineTooLong p a))
         after-101 ForeignByte p a = absurd (omega (arith, after-104 ForeignByte p a))
         after-101 BadNumber p (unnumbered h) = absurd (false≢true (sym h ∙ digit))
@@ -103,6 +104,7 @@ module _ (before : List Line) (l : Line) where
         after-101 TooManyLines p a = omega arith
         after-101 NoVariable p a = absurd (omega (arith, after-104 NoVariable p a))
         after-101 SpaceTooLong p a = absurd (omega (arith, after-104 SpaceTooLong p a))
+        after-101 StackTooLong p a = absurd (omega (arith, after-104 StackTooLong p a))
         after-101 TextTooLong p a = absurd (omega (arith, after-104 TextTooLong p a))
         after-101 ShortGroup p a = absurd (omega (arith, after-104 ShortGroup p a))
         after-101 TooManyPairs p a = absurd (omega (arith, after-104 TooManyPairs p a))
@@ -113,7 +115,7 @@ module _ (before : List Line) (l : Line) where
           not-102 p (notRising earlier last e h) =
               let f = ap floorOf e ∙ floor-last earlier last in omega (arith, f, h, rises)
 
-          after-102 : (r : Refusal) (p : Place) → Applies before l r p → 8 ≤ rowOf r
+          after-102 : (r : Refusal) (p : Place) → Applies before l r p → 9 ≤ rowOf r
           after-102 LineTooLong p a = absurd (omega (arith, after-101 LineTooLong p a))
           after-102 ForeignByte p a = absurd (omega (arith, after-101 ForeignByte p a))
           after-102 BadNumber p a = absurd (omega (arith, after-101 BadNumber p a))
@@ -121,6 +123,7 @@ module _ (before : List Line) (l : Line) where
           after-102 TooManyLines p a = omega arith
           after-102 NoVariable p a = absurd (omega (arith, after-101 NoVariable p a))
           after-102 SpaceTooLong p a = absurd (omega (arith, after-101 SpaceTooLong p a))
+          after-102 StackTooLong p a = absurd (omega (arith, after-101 StackTooLong p a))
           after-102 TextTooLong p a = absurd (omega (arith, after-101 TextTooLong p a))
           after-102 ShortGroup p a = absurd (omega (arith, after-101 ShortGroup p a))
           after-102 TooManyPairs p a = absurd (omega (arith, after-101 TooManyPairs p a))
@@ -137,6 +140,7 @@ module _ (before : List Line) (l : Line) where
           after-105 few TooManyLines p a = not-105 few p a
           after-105 few NoVariable p a = omega (arith, after-102 NoVariable p a)
           after-105 few SpaceTooLong p a = omega (arith, after-102 SpaceTooLong p a)
+          after-105 few StackTooLong p a = omega (arith, after-102 StackTooLong p a)
           after-105 few TextTooLong p a = omega (arith, after-102 TextTooLong p a)
           after-105 few ShortGroup p a = omega (arith, after-102 ShortGroup p a)
           after-105 few TooManyPairs p a = omega (arith, after-102 TooManyPairs p a)

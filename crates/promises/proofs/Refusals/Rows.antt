@@ -13,7 +13,7 @@ use Rattle.words.proofs.Choices.{by-test, both}
 use Rattle.loader.specs.Lines.{Line}
 use Rattle.loader.specs.Loading.{isPlain}
 use Rattle.loader.specs.declared.refusals.Refusal.{Refusal}
-use Rattle.loader.specs.declared.refusals.Refusal.the-variants.{NoVariable, SpaceTooLong, TextTooLong, LineTooLong, ForeignByte, BadNumber, NotRising, TooManyLines, ShortGroup, TooManyPairs, NoRoom}
+use Rattle.loader.specs.declared.refusals.Refusal.the-variants.{NoVariable, SpaceTooLong, StackTooLong, TextTooLong, LineTooLong, ForeignByte, BadNumber, NotRising, TooManyLines, ShortGroup, TooManyPairs, NoRoom}
 use Rattle.promises.specs.Refusals.{Plain, AllPlain, beginsWithDigit, rowOf}
 
 -- ---- rows
@@ -23,12 +23,13 @@ abbrev rowAt : ℕ → Refusal
 rowAt zero = NoRoom
 rowAt (suc zero) = NoVariable
 rowAt (suc (suc zero)) = SpaceTooLong
-rowAt (suc (suc (suc zero))) = TextTooLong
-rowAt (suc (suc (suc (suc zero)))) = LineTooLong
-rowAt (suc (suc (suc (suc (suc zero))))) = ForeignByte
-rowAt (suc (suc (suc (suc (suc (suc zero)))))) = BadNumber
-rowAt (suc (suc (suc (suc (suc (suc (suc zero))))))) = NotRising
-rowAt (suc (suc (suc (suc (suc (suc (suc (suc n)))))))) = TooManyLines
+rowAt (suc (suc (suc zero))) = StackTooLong
+rowAt (suc (suc (suc (suc zero)))) = TextTooLong
+rowAt (suc (suc (suc (suc (suc zero))))) = LineTooLong
+rowAt (suc (suc (suc (suc (suc (suc zero)))))) = ForeignByte
+rowAt (suc (suc (suc (suc (suc (suc (suc zero))))))) = BadNumber
+rowAt (suc (suc (suc (suc (suc (suc (suc (suc zero)))))))) = NotRising
+rowAt (suc (suc (suc (suc (suc (suc (suc (suc (suc n))))))))) = TooManyLines
 
 row-back : (r : Refusal) → 0 < rowOf r → rowAt (rowOf r) ≡ r
 row-back ShortGroup h = absurd (omega arith)
@@ -36,6 +37,7 @@ row-back TooManyPairs h = absurd (omega arith)
 row-back NoRoom h = absurd (omega arith)
 row-back NoVariable h = refl
 row-back SpaceTooLong h = refl
+row-back StackTooLong h = refl
 row-back TextTooLong h = refl
 row-back LineTooLong h = refl
 row-back ForeignByte h = refl

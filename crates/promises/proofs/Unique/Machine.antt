@@ -46,17 +46,8 @@ sought-while-of κs a p z z′ ws ws′ e e′ = (same e e′, refl)
 pub is-sought : Unique machine.is_sought.Kinds.ps machine.is_sought.Kinds.r machine.is_sought.Reads.Pre machine.is_sought.Reads.Post
 is-sought κs a p z z′ ws ws′ e e′ = (same e e′, refl)
 
-pub stack-empty : Unique machine.records.Stack.empty.Kinds.ps machine.records.Stack.empty.Kinds.r machine.records.Stack.empty.Reads.Pre machine.records.Stack.empty.Reads.Post
-stack-empty κs a p z z′ ws ws′ e e′ = (λ i. record { records = same e e′ i }, refl)
-
-pub find-record : Unique machine.find_record.Kinds.ps machine.find_record.Kinds.r machine.find_record.Reads.Pre machine.find_record.Reads.Post
-find-record κs a p z z′ ws ws′ e e′ = (same e e′, refl)
-
-pub record-at : Unique machine.record_at.Kinds.ps machine.record_at.Kinds.r machine.record_at.Reads.Pre machine.record_at.Reads.Post
-record-at κs a p z z′ ws ws′ e e′ = (same e e′, refl)
-
-pub with-record : Unique machine.with_record.Kinds.ps machine.with_record.Kinds.r machine.with_record.Reads.Pre machine.with_record.Reads.Post
-with-record κs a p z z′ ws ws′ e e′ = (λ i. record { records = same e e′ i }, refl)
+pub passes : Unique machine.passes.Kinds.ps machine.passes.Kinds.r machine.passes.Reads.Pre machine.passes.Reads.Post
+passes κs a p z z′ ws ws′ e e′ = (same e e′, refl)
 
 pub take-line : Unique machine.take_line.Kinds.ps machine.take_line.Kinds.r machine.take_line.Reads.Pre machine.take_line.Reads.Post
 take-line κs a p z z′ ws ws′ e e′ = (same e e′, refl)

@@ -21,6 +21,7 @@ machineFrom s = record {
   feed = s .feed;
   steps = s .steps;
   depth = s .depth;
+  records = s .records;
 }
 
 -- and its answers, by the storage and the turn that they are

@@ -13,7 +13,7 @@ use Rattle.loader.specs.declared.loading.Loaded.the-variants as loaded
 use Rattle.grammar.specs.Trees.{Part, last, more}
 use Rattle.statements.specs.Parts.{formulasOf, headOf, tailOf, Rest, nothing, part, partsOf, partsWithin, heads, placeOf}
 use Rattle.machine.specs.Items.{fresh}
-use Rattle.machine.specs.Machine.{Position, Machine, Lent, withStep}
+use Rattle.machine.specs.Machine.{Position, Machine, Lent, mostRecords, withStep}
 use Rattle.turns.specs.Steps.{Next, goesOn, enters, ends, stops, fails, doStatement}
 use Rattle.runner.specs.Run.{Ran, lineNumberOf, Entered, over, faulty, opened, enter, Standing, finished, at, byEntered, entering, onward, following, turn, running, ifLoaded, runOf}
 use Rattle.runner.specs.Examples.{lending, nested, nested-highest}
@@ -80,7 +80,8 @@ run-few text input lent budget =
     let m = fresh text input lent in
     let s = fresh-sound text input lent in
     by-test (ltb longestSpace (lent .space)) (λ e. rw e (s .few)) λ e. rw e
-    (loaded-few (loadOf text) m _ (s .few) (running-few budget text (entering m (linesOf text)) (entering-fine m (linesOf text) s)))
+    (by-test (ltb mostRecords (lent .records)) (λ f. rw f (s .few)) λ f. rw f
+    (loaded-few (loadOf text) m _ (s .few) (running-few budget text (entering m (linesOf text)) (entering-fine m (linesOf text) s))))
 
 pub few-unfinished : fewUnfinished
 few-unfinished text input lent budget =

@@ -23,7 +23,7 @@ use Rattle.statements.specs.Parts.{itemFormulas, formulasOf, headOf, tailOf, Re
 use Rattle.variables.specs.Strings.{Value, whole, text, Room, Outcome, value, fault, make}
 use Rattle.variables.specs.Variables.{wordOf, numbersFull, stringsFull}
 use Rattle.operators.specs.Values.{valueOf}
-use Rattle.machine.specs.Machine.{Position, Record, loop, call, again, Machine, mostRecords, roomOf, withInput, withItems, noting, write, commaBlanks, Search, missing, found, sought, passed, isCall, isLoop, isLoopOf, backOf, longestInputLine}
+use Rattle.machine.specs.Machine.{Position, Record, loop, call, again, Machine, roomOf, withInput, withItems, noting, write, commaBlanks, Search, missing, found, sought, passed, isCall, isLoop, isLoopOf, backOf, longestInputLine}
 use Rattle.machine.specs.Order.{Stand, later, Bracket, Partner, none, some, partner, pairsBy, nextFor, wendFor}
 use Rattle.machine.specs.Repeats.{startOf, isWhile, isWhileOf}
 use Rattle.order.proofs.Laws.{later-throughout, StandThroughout, partner-one}
@@ -136,7 +136,7 @@ line-sound (l ∷ ls) go s k = k (l ∷ ls)
 pushed-sound : {m : Machine} (r : Record) (go : Machine → Next) → Sound m → RecordFine r → ((n : Machine) → Sound n → NextFine (go n))
     → NextFine (pushed m r go)
 pushed-sound {m} r go s h k =
-    either-fine (leb mostRecords (length (m .records))) _ _ s (k _ (record { few = s .few; held = (h, s .held) }))
+    either-fine (leb (m .recordRoom) (length (m .records))) _ _ s (k _ (record { few = s .few; held = (h, s .held) }))
 
 abbrev SearchFine : Search → Type 0
 SearchFine s = records.Found RecordFine s

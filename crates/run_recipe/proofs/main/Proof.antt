@@ -6,7 +6,7 @@ use Rattle.run_recipe.proofs.main.Tie as tie
 
 run-recipe-requires : tie.Need-run-recipe-requires
 run-recipe-requires c κs =
-    let r = c .before .before .before .before .before .before in
+    let r = c .before .before .before .before .before .before .before .before .before .before .before in
     let s = r .before .before .before .before .before in (
       rw (s .space .given .1) at (s .before .before .number-argument .ensures (omega arith)),
       rw (r .room .given .1) at (r .before .before .number-argument2 .ensures (omega arith)),
@@ -33,6 +33,12 @@ main-spec =
     (λ c. search needs)
     (λ c. search needs)
     (λ c κs. search needs)
+    (λ c. search needs)
+    (λ c. search needs)
+    (λ c. search needs)
+    (λ c. search needs)
+    (λ c κs. search needs)
+    (λ c. search needs)
     (λ c. search needs)
     (λ c. search needs)
     (λ c. search needs)

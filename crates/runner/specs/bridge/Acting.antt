@@ -1,11 +1,11 @@
 -- Bridge: one turn of a run: what the statement asks for, what was looked up for it, and what it leaves.
 -- The contracts of functions inside this crate cite it; no demand and no promise of run, check_recipe or ask rests on it.
 use mathlib.Core.Path.{_≡_}
-use mathlib.Core.Bool.{Bool, true, false, not, cond}
+use mathlib.Core.Bool.{Bool, true, false}
 use mathlib.Core.List.{List}
-use Prim.Native.Nat.{ℕ, _+_, _-_, _<_}
-use lib.Dec.{eqb, ltb}
-use lib.ListN.{length, set}
+use Prim.Native.Nat.{ℕ, _+_, _<_}
+use lib.Dec.{ltb}
+use lib.ListN.{set}
 use Rattle.words.specs.declared.places.Place.{Place}
 use Rattle.scanner.specs.Tokens.{tokenAt}
 use Rattle.statements.specs.Statements.{leadOf, begunBy}
@@ -15,7 +15,7 @@ use Rattle.machine.specs.Machine.{mostRecords}
 use Rattle.machine.specs.Machine as spec
 use Rattle.machine.specs.bridge.Holding.{linesAt, blankRecord, Fed, State, Sound, Same}
 use Rattle.machine.specs.bridge.Seeking.{Seeks}
-use Rattle.machine.specs.bridge.Wanted.{isSought, foundIn, entryAt}
+use Rattle.machine.specs.bridge.Wanted.{foundIn, entryAt}
 use Rattle.machine.specs.declared.positions.Next.the-variants as next
 use Rattle.machine.specs.declared.records.Record.{Record}
 use Rattle.machine.specs.declared.records.Found.{Found}
@@ -59,29 +59,15 @@ pub record Asks (names : List ℕ) (numbers : ℕ) (line : List ℕ) (here at : 
 pub record AsksAt (text rows names : List ℕ) (numbers : ℕ) (s : Standing) (asked : Asked) : Type 0 where
   pub asks : (row : Row) (at : Place) → s ≡ standing.At row at → Asks names numbers (lineIn text (spanIn rows (row .0))) (spanIn rows (row .0) .place) at asked
 
-abbrev pub seeksOne : Asked → Bool
-seeksOne asked = not (eqb (asked .sought .kind) 0)
-
 -- ---- what was looked up
 
+-- the slot that was found; past the last of any stack where none was
 abbrev pub slotOf : Found → ℕ
 slotOf (found.At i) = i
 slotOf found.None = mostRecords
 
 abbrev pub noLookup : Lookup
 noLookup = record { found = found.None; entry = blankRecord }
-
--- the topmost record, if it is asked for; whether the others are to be looked through
-abbrev pub topLookup : Sought → ℕ → Record → Lookup
-topLookup k depth top =
-    cond (eqb depth 0) noLookup (cond (isSought k top) (record { found = found.At (depth - 1); entry = top }) noLookup)
-
-abbrev pub looksOnFor : Found → Bool
-looksOnFor (found.At i) = false
-looksOnFor found.None = true
-
-abbrev pub looksOn : Lookup → Bool
-looksOn l = looksOnFor (l .found)
 
 -- in some records, down from a depth
 pub record LooksUp (sought : Sought) (depth : ℕ) (rs : List Record) (lookup : Lookup) : Type 0 where
@@ -93,7 +79,7 @@ pub record LooksUp (sought : Sought) (depth : ℕ) (rs : List Record) (lookup : 
 -- the machine that it begins with
 abbrev pub stepped : State → State
 stepped m =
-    record { tables = m .tables; used = m .used; printer = m .printer; taken = m .taken; feed = m .feed; steps = m .steps + 1; depth = m .depth }
+    record { tables = m .tables; used = m .used; printer = m .printer; taken = m .taken; feed = m .feed; steps = m .steps + 1; depth = m .depth; records = m .records }
 
 -- what it needs
 pub record Ready (text : List ℕ) (m : State) (lookup : Lookup) (input space room : List ℕ) : Type 0 where
@@ -112,14 +98,10 @@ pub record Went (text rows : List ℕ) (rs : List Record) (m : State) (input spa
 pub record Acts (text rows : List ℕ) (row : ℕ) (at : Place) (m : State) (asked : Asked) (lookup : Lookup) (input space room : List ℕ) (r : Acted) (m′ : State) (space′ room′ : List ℕ) : Type 0 where
   pub leaves : Leaves (stepped m) input space room (turnedTo m′ next.Ends) space′ room′
   pub rowed : Rowed rows (r .going .standing)
-  pub went : (w : Stood text (spanIn rows row) at) (rs : List Record) → length rs ≡ mostRecords → LooksUp (asked .sought) (m .depth) rs lookup
+  pub went : (w : Stood text (spanIn rows row) at) (rs : List Record) → LooksUp (asked .sought) (m .depth) rs lookup
       → (n : spec.Machine) → Same text rs m input space room n
       → Went text rows rs m′ input space′ room′ r (run.turn text n (linesAt text (spanIn rows row .place .0)) (w .reads .of))
 
 pub record ActsAt (text rows : List ℕ) (s : Standing) (m : State) (asked : Asked) (lookup : Lookup) (input space room : List ℕ) (r : Acted) (m′ : State) (space′ room′ : List ℕ) : Type 0 where
   pub acts : (row : Row) (at : Place) → s ≡ standing.At row at
       → Acts text rows (row .0) at m asked lookup input space room r m′ space′ room′
-
--- whether a record is written
-abbrev pub leavesOne : Acted → Bool
-leavesOne r = ltb (r .slot) mostRecords

@@ -11,21 +11,23 @@ use Rattle.loader.specs.Lines.{linesOf}
 use Rattle.loader.specs.declared.loading.Loaded.{Loaded}
 use Rattle.loader.specs.declared.loading.Loaded.the-variants as loaded
 use Rattle.loader.specs.declared.refusals.Refusal.{Refusal}
-use Rattle.loader.specs.declared.refusals.Refusal.the-variants.{SpaceTooLong}
+use Rattle.loader.specs.declared.refusals.Refusal.the-variants.{SpaceTooLong, StackTooLong}
 use Rattle.rows.specs.bridge.Rows.{spanIn}
 use Rattle.variables.specs.Strings.{longestSpace}
 use Rattle.variables.specs.declared.tables.Tables.{Tables}
 use Rattle.machine.specs.Items.{fresh}
 use Rattle.machine.specs.Machine as spec
+use Rattle.machine.specs.Machine.{mostRecords}
 use Rattle.machine.specs.bridge.Holding.{State}
 use Rattle.machine.specs.declared.state.Machine.{Machine}
 use Rattle.variables.specs.Tables.{namesLong}
 use Rattle.variables.specs.Variables.{mostVariables}
-use Rattle.variables.specs.bridge.Memory.{numbersOf, stringsOf}
 use lib.ListN.{replicate}
 use Rattle.runner.specs.declared.running.Done.{Done}
 use Rattle.runner.specs.Run as run
-use Rattle.runner.specs.Run.{entering, running, answerOf, spaceAfter, roomAfter}
+-- they stand among what is to be believed, as the run's contract names them
+pub use Rattle.runner.specs.Run.{ranOf, lentTables}
+use Rattle.runner.specs.Run.{entering, running, isRefused, answerOf, spaceAfter, roomAfter}
 use Rattle.runner.specs.declared.running.Before.{Before}
 use Rattle.runner.specs.declared.running.Outcome.{Outcome}
 use Rattle.runner.specs.declared.running.Outcome.the-variants.{Out, Refused}
@@ -42,23 +44,10 @@ abbrev pub outcomeOf : List ℕ → Standing → Outcome
 outcomeOf rows (standing.Over o) = o
 outcomeOf rows (standing.At row at) = Out (spanIn rows (row .0) .number)
 
--- what the loop answers, and with the tables what the run does
+-- what the loop answers
 abbrev pub doneAs : Outcome → Machine → Done
 doneAs o m =
     record { outcome = o; steps = m .steps; written = m .printer .written; taken = m .taken .0; numbers = m .numbers; strings = m .strings }
-
-abbrev pub ranOf : Done → List ℕ → List ℕ → List ℕ → List ℕ → Ran
-ranOf d names words labels lengths = record {
-  outcome = d .outcome;
-  steps = d .steps;
-  written = d .written;
-  taken = d .taken;
-  tables = record { numbers = numbersOf names words (d .numbers); strings = stringsOf labels lengths (d .strings) };
-}
-
--- tables that are lent, of which none is counted
-abbrev pub lentTables : List ℕ → List ℕ → List ℕ → List ℕ → Tables
-lentTables names words labels lengths = record { numbers = numbersOf names words 0; strings = stringsOf labels lengths 0 }
 
 abbrev pub endedAs : Outcome → State → Ran
 endedAs o m =
@@ -73,6 +62,7 @@ pub record Blank (names words labels lengths : List ℕ) : Type 0 where
 
 -- the memory and the answer are those of a run that was not refused
 pub record RanAs (ran : run.Ran) (space room : List ℕ) (r : Ran) (space′ room′ : List ℕ) : Type 0 where
+  pub begun : isRefused (ran .ending) ≡ false
   pub answers : (tables : Tables) → r ≡ answerOf ran tables
   pub spaced : space′ ≡ spaceAfter ran space
   pub roomy : room′ ≡ roomAfter ran room
@@ -90,5 +80,7 @@ abbrev pub beforeLoaded : Loaded → Before
 beforeLoaded loaded.Fine = record { fine = true; refusal = SpaceTooLong; place = place 0 }
 beforeLoaded (loaded.Refused refusal p) = refusing refusal p
 
-abbrev pub beforeOf : ℕ → Loaded → Before
-beforeOf space l = cond (ltb longestSpace space) (refusing SpaceTooLong (place 0)) (beforeLoaded l)
+abbrev pub beforeOf : ℕ → ℕ → Loaded → Before
+beforeOf space records l =
+    cond (ltb longestSpace space) (refusing SpaceTooLong (place 0))
+    (cond (ltb mostRecords records) (refusing StackTooLong (place 0)) (beforeLoaded l))

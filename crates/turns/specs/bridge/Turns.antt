@@ -113,7 +113,7 @@ pub record Leaves (m : State) (input space room : List ℕ) (r : Turn) (space′
 -- it does what the definition does, whatever records there are that meet what it was told of them
 pub record Turns (text : List ℕ) (m : State) (input space room : List ℕ) (told : List Record → Type 0) (does : spec.Machine → step.Next) (r : Turn) (space′ room′ : List ℕ) : Type 0 where
   pub leaves : Leaves m input space room r space′ room′
-  pub comes : (rs : List Record) → length rs ≡ mostRecords → told rs → (n : spec.Machine) → Same text rs m input space room n
+  pub comes : (rs : List Record) → told rs → (n : spec.Machine) → Same text rs m input space room n
       → Comes text (r .next) (does n) (Same text (set rs (r .slot) (r .held)) (r .state) input space′ room′)
 
 -- nothing is told of the records
@@ -148,23 +148,23 @@ FoundBelow depth found.None = Unit {0}
 
 abbrev pub withTables : State → Tables → ℕ → State
 withTables m t used =
-    record { tables = t; used = used; printer = m .printer; taken = m .taken; feed = m .feed; steps = m .steps; depth = m .depth }
+    record { tables = t; used = used; printer = m .printer; taken = m .taken; feed = m .feed; steps = m .steps; depth = m .depth; records = m .records }
 
 abbrev pub withPrinter : State → Printer → State
 withPrinter m p =
-    record { tables = m .tables; used = m .used; printer = p; taken = m .taken; feed = m .feed; steps = m .steps; depth = m .depth }
+    record { tables = m .tables; used = m .used; printer = p; taken = m .taken; feed = m .feed; steps = m .steps; depth = m .depth; records = m .records }
 
 abbrev pub withTaken : State → ℕ → State
 withTaken m n =
-    record { tables = m .tables; used = m .used; printer = m .printer; taken = n; feed = m .feed; steps = m .steps; depth = m .depth }
+    record { tables = m .tables; used = m .used; printer = m .printer; taken = n; feed = m .feed; steps = m .steps; depth = m .depth; records = m .records }
 
 abbrev pub withFeed : State → Feed → State
 withFeed m f =
-    record { tables = m .tables; used = m .used; printer = m .printer; taken = m .taken; feed = f; steps = m .steps; depth = m .depth }
+    record { tables = m .tables; used = m .used; printer = m .printer; taken = m .taken; feed = f; steps = m .steps; depth = m .depth; records = m .records }
 
 abbrev pub withDepth : State → ℕ → State
 withDepth m d =
-    record { tables = m .tables; used = m .used; printer = m .printer; taken = m .taken; feed = m .feed; steps = m .steps; depth = d }
+    record { tables = m .tables; used = m .used; printer = m .printer; taken = m .taken; feed = m .feed; steps = m .steps; depth = d; records = m .records }
 
 -- a variable is set, at an entry, or there is no room for it
 pub record Storage : Type 0 where
@@ -204,7 +204,7 @@ storedTurn s line ahead =
 -- written above the others, if there is room
 abbrev pub pushedTurn : State → Record → Next → Turn
 pushedTurn m held n =
-    cond (leb mostRecords (m .depth)) (turnedTo m (next.Fails OutOfMemory))
+    cond (leb (m .records) (m .depth)) (turnedTo m (next.Fails OutOfMemory))
     (record { state = withDepth m (m .depth + 1); next = n; slot = m .depth; held = held })
 
 -- ---- on after a statement of the text

@@ -7,4 +7,4 @@ is-there-spec =
     tie.close
     (tie.spec
     (λ c. rw (ne-eqb _ _ (c .if1 .taken)))
-    (λ c. rw (eq-eqb _ _ (c .before .before .if1 .left))))
+    (λ c. rw (eq-eqb _ _ (c .before .if1 .left))))

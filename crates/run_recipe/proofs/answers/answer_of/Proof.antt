@@ -7,23 +7,23 @@ use Rattle.run_recipe.proofs.Answering.{handed-long, tells}
 use Rattle.run_recipe.proofs.answers.answer_of.Statement.{statement}
 use Rattle.run_recipe.proofs.answers.answer_of.Tie as tie
 
-slice-aggregate-run : tie.Need-slice-aggregate-run
-slice-aggregate-run c =
+slice-aggregate-run-with : tie.Need-slice-aggregate-run-with
+slice-aggregate-run-with c =
     let i = c .before .before .before in sym (handed-long (i .before .before .before .before .before .before .args .text .now) _ refl (i .index-of .ensures .1))
 
 returns : tie.Need-returns
 returns c =
     let r = c .before .before .before .before .before in
     let p = r .before .before .before .before .before .before .before .before .before .before .before .args in
-    tells (runOf (p .text .now) (p .input .now) (lentBy (p .space .now) (p .room .now)) (p .budget)) _ (p .room .now) _ _ _
-    (r .run .ensures .0) (r .run .ensures .1 .1) (c .line-of .ensures)
+    tells (runOf (p .text .now) (p .input .now) (lentBy (p .space .now) (p .room .now) (p .records)) (p .budget)) _ (p .room .now) _ _ _
+    (r .run-with .ensures .0) (r .run-with .ensures .1 .1) (c .line-of .ensures)
 
 pub answer-of-spec : {M : Type 1} → statement M
 answer-of-spec =
     tie.close
     (tie.spec
     (λ c κs. search needs)
-    slice-aggregate-run
+    slice-aggregate-run-with
     (λ c κs. search needs)
     (λ c κs. search needs)
     (λ c κs. search needs)
