@@ -6,7 +6,7 @@ use native.Mathlib.Omega.{arith}
 use lib.ListN.{length, getD, take, drop, length-append, drop-of-length-le}
 use Rattle.whole.specs.Texts.{held}
 use Rattle.whole.specs.declared.texts.Text.{Text}
-use Rattle.whole.proofs.Numerals.{held-front}
+use Rattle.whole.proofs.Numerals.{held-front, held-count}
 use Rattle.whole.proofs.Reading.{drop-next}
 use Rattle.words.specs.declared.places.LineNumber.{LineNumber}
 use Rattle.words.specs.declared.places.Place.{Place}
@@ -16,7 +16,6 @@ use Rattle.console.specs.Lines.{refusedLine}
 use Rattle.space.specs.Moves.{overlaid, copied}
 use Rattle.space.proofs.Frames.{copied-lies}
 use Rattle.space.proofs.Overlaid.{overlaid-length, overlaid-front, overlaid-after}
-use Rattle.compare.proofs.Laid.{held-count}
 use Rattle.index.specs.Index.{indexedOf, indexAfter, heldAfter}
 use Rattle.index.specs.declared.making.Indexed.the-variants.{Fine, Refused}
 use Rattle.index.proofs.Answering.{answers-as-the-text}

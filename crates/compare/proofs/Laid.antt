@@ -20,10 +20,6 @@ use Rattle.compare.specs.declared.merging.Said.the-variants.{Nothing, Is
 
 -- ---- a held text
 
-pub held-count : {t : Text} (l : List ℕ) → t ≡ held l → t .len ≡ length l
-unfolding held
-held-count l e = rw e
-
 pub held-long : {t : Text} (l : List ℕ) → t ≡ held l → length l ≤ longestString → length (t .bytes) ≡ longestString
 unfolding held
 held-long l e h =

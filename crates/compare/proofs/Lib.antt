@@ -1,4 +1,3 @@
-pub mod Bytes
 pub mod Laid
 pub mod Firsts
 pub mod Turning

@@ -6,11 +6,10 @@ use native.Mathlib.Omega.{arith}
 use lib.ListN.{length, take, length-append}
 use Rattle.whole.specs.Texts.{held}
 use Rattle.whole.specs.declared.texts.Text.{Text}
-use Rattle.whole.proofs.Numerals.{held-front}
+use Rattle.whole.proofs.Numerals.{held-front, held-count}
 use Rattle.space.specs.Moves.{overlaid, copied}
 use Rattle.space.proofs.Frames.{copied-lies}
 use Rattle.space.proofs.Overlaid.{overlaid-length, overlaid-none, overlaid-after}
-use Rattle.compare.proofs.Laid.{held-count}
 
 -- what is written, and what is still to be
 pub record Written (report rest room out : List ℕ) (at : ℕ) : Type 0 where

@@ -1,6 +1,6 @@
 -- A body that is skipped: the NEXT of its FOR, what that names, and where the run goes on.
-use mathlib.Core.Path.{_≡_, refl, sym, _∙_}
-use mathlib.Core.Bool.{Bool, true, false, false≢true}
+use mathlib.Core.Path.{_≡_, refl}
+use mathlib.Core.Bool.{true, false, false≢true}
 use mathlib.Core.List.{List, _∷_}
 use Prim.Native.Nat.{ℕ}
 use Rattle.whole.proofs.Never.{never}
@@ -26,7 +26,7 @@ use Rattle.machine.specs.Machine as spec
 use Rattle.machine.specs.bridge.Holding.{bodyOf}
 use Rattle.machine.specs.declared.positions.Next as code
 use Rattle.machine.specs.declared.positions.Next.the-variants as next
-use Rattle.machine.specs.Order.{Stand, later, Partner, none, some, partner, closes, wordOf, isLed, pairsBy, nextFor}
+use Rattle.machine.specs.Order.{Stand, later, Partner, none, some, closes, wordOf, isLed, pairsBy, nextFor}
 use Rattle.order.specs.bridge.Walking.{linesFrom, Ahead, leadAt, PartnerAs}
 use Rattle.order.specs.declared.texts.Spot.{Spot}
 use Rattle.order.specs.declared.texts.Walk.the-variants as walk

@@ -5,7 +5,6 @@ use mathlib.Core.List.{List, [], _∷_}
 use Prim.Native.Nat.{ℕ, zero, suc, _+_, _-_, _≤_, _<_}
 use native.Mathlib.Omega.{arith}
 use borrow.Author.Tests.{le-ltb, lt-ltb}
-use native.Mathlib.Nat.{le-refl}
 use types.Run.{OneOf, miss}
 use lib.ListN.{length, take, drop, length-drop, drop-of-length-le}
 use lib.Seq.{drop-drop, length-take-le}
@@ -26,7 +25,7 @@ use Rattle.words.specs.declared.symbols.Token.the-variants.{Named, Quoted}
 use Rattle.words.proofs.Choices.{by-test}
 use Rattle.scanner.proofs.Ends.{scanned-ends}
 use Rattle.space.specs.Moves.{copied}
-use Rattle.space.proofs.Frames.{copied-length, copied-below, copied-bytes, copied-past}
+use Rattle.space.proofs.Frames.{copied-length, copied-bytes, copied-past}
 use Rattle.loader.specs.Lines.{extentOr, endingOf, extentAt}
 use Rattle.loader.specs.declared.lines.Extent.{Extent}
 use Rattle.loader.proofs.Extents.{walked}
@@ -35,12 +34,12 @@ use Rattle.grammar.specs.Trees.{Variable, lineInput}
 use Rattle.grammar.specs.Formulas.{after, quotedBytes}
 use Rattle.statements.specs.Statements.{Begun, bad, done, variableOf, targetAt, inputAt}
 use Rattle.statements.proofs.Findings.{by-name, by-text}
-use Rattle.variables.specs.Strings.{Room, make, fault, value, text, withString}
-use Rattle.variables.specs.bridge.Memory.{Held, Tells, Storable, spaceStored}
+use Rattle.variables.specs.Strings.{text}
+use Rattle.variables.specs.bridge.Memory.{Tells, Storable, spaceStored}
 use Rattle.variables.specs.Tables.{sumOf}
 use Rattle.formulas.specs.bridge.Memory.{Scans}
 use Rattle.machine.specs.Machine as spec
-use Rattle.machine.specs.Machine.{roomOf, withInput, noting, longestInputLine}
+use Rattle.machine.specs.Machine.{withInput, longestInputLine}
 use Rattle.machine.specs.bridge.Holding.{positionOf, Positioned, printedAs, stateOf, Sound, Same, State}
 use Rattle.machine.specs.declared.state.Machine.{Machine}
 use Rattle.machine.specs.bridge.Taking.{takenAt}
@@ -55,7 +54,7 @@ use Rattle.machine.proofs.Writing.{not-printed, room-length, written-grows, roo
 use Rattle.turns.specs.Steps as step
 use Rattle.turns.specs.Steps.{goesOn, fails, firstLine, takeLine, lineTaken, inputLine, filled, doStatement}
 use Rattle.dialogue.specs.bridge.Asking.{Laid, takesLine, fillsIn}
-use Rattle.turns.proofs.Keeping.{settled-kept, sound-kept, same-kept, same-noting, room-held, leaves-unprinted}
+use Rattle.turns.proofs.Keeping.{settled-kept, sound-kept, leaves-unprinted}
 use Rattle.turns.proofs.Leading.{leads-on, turns-fails, turns-then}
 use Rattle.turns.proofs.Making.{leads-unmade, leads-made}
 use Rattle.turns.proofs.Storing.{string-settled, string-long, leads-string, sound-tables, turns-stored}

@@ -1,13 +1,13 @@
 -- The cursor law: where the items of a text go on, and those that are left from there.
 use mathlib.Core.Path.{_≡_, refl, sym, ap, _∙_}
 use mathlib.Core.Logic.{⊎-elim}
-use mathlib.Core.Bool.{Bool, true, false, cond, _||_, false≢true}
+use mathlib.Core.Bool.{true, false, _||_, false≢true}
 use mathlib.Core.List.{List, [], _∷_, _++_}
 use Prim.Native.Nat.{ℕ, suc, _+_, _-_, _≤_}
 use native.Mathlib.Omega.{arith}
-use lib.ListN.{length, take, drop}
+use lib.ListN.{length}
 use Rattle.whole.proofs.Never.{never}
-use Rattle.words.specs.Places.{place, longestLine}
+use Rattle.words.specs.Places.{place}
 use Rattle.words.specs.declared.places.Place.{Place}
 use Rattle.words.specs.declared.symbols.Scanned.{Scanned}
 use Rattle.words.specs.declared.symbols.Sign.the-variants.{Open, Close, Comma, Semicolon, Colon, Question, Equal, Minus}
@@ -26,22 +26,22 @@ use Rattle.items.proofs.After.{over-token}
 use Rattle.loader.specs.Lines.{Line, linesOf, lineAt}
 use Rattle.loader.specs.Loading.{loadOf}
 use Rattle.loader.specs.declared.lines.LineSpan.{LineSpan}
-use Rattle.loader.specs.declared.lines.LineFound.the-variants.{Is, None}
+use Rattle.loader.specs.declared.lines.LineFound.the-variants.{Is}
 use Rattle.loader.specs.declared.loading.Loaded.the-variants.{Fine}
 use Rattle.grammar.specs.Tests.{isSymbol, isKeyword}
 use Rattle.grammar.specs.Trees.{Statement, empty, assign, print, ifThen, ifElse, goto, gosub, return, for, next, nextOf, while, wend, lineInput, dataOf, read, restore, restoreTo, end, stop, remark, Part, last, more}
 use Rattle.statements.specs.Parts.{headOf}
-use Rattle.statements.specs.Statements.{Begun, bad, done, choice, held, dataAt, ledByWord, ledByToken, leadOf, begunAt, goodPart, partOf}
+use Rattle.statements.specs.Statements.{bad, done, choice, held, dataAt, ledByWord, ledByToken, leadOf, begunAt, goodPart, partOf}
 use Rattle.statements.specs.bridge.Answers.{begunAnswer}
 use Rattle.statements.specs.declared.leading.Lead.{Lead}
 use Rattle.statements.specs.declared.leading.Lead.the-variants.{By, Nothing}
 use Rattle.statements.proofs.Views.{Final, plain, thens, elses, more-view, final-view}
-use Rattle.reader.specs.bridge.Walking.{followsDone, startOf, Onto, StartsAs}
+use Rattle.reader.specs.bridge.Walking.{followsDone, startOf, StartsAs}
 use Rattle.machine.specs.Items.{itemsIn, itemsOf}
 use Rattle.machine.specs.Order.{Stand, stands, wordOf}
-use Rattle.machine.specs.bridge.Holding.{linesAt, bodyOf, feedFrom, feedAt, feedAfter, feedPast, startAfter, StandsFrom, Outside, fromLine, fromStatement, Inside, Feeds}
+use Rattle.machine.specs.bridge.Holding.{linesAt, bodyOf, feedAfter, startAfter, StandsFrom, Outside, fromLine, fromStatement, Inside, Feeds}
 use Rattle.machine.proofs.Standing.{told-as}
-use Rattle.order.specs.bridge.Walking.{Reached, linesFrom, Ahead, leadAt}
+use Rattle.order.specs.bridge.Walking.{linesFrom, Ahead, leadAt}
 use Rattle.order.specs.declared.texts.Spot.{Spot}
 use Rattle.order.proofs.Lining.{steps}
 use Rattle.order.proofs.Texting.{bodyAt, here-ahead, told, reached-next, Parting, not-over, parting, onward-at, onward-over}

@@ -1,6 +1,6 @@
 -- The code's loop over the variables of a READ.
 use mathlib.Core.Path.{_≡_, refl, sym, ap, _∙_}
-use mathlib.Core.Bool.{Bool, true, false}
+use mathlib.Core.Bool.{true, false}
 use mathlib.Core.List.{List, [], _∷_}
 use Prim.Native.Nat.{ℕ}
 use Rattle.whole.specs.declared.errors.Error.{Error}
@@ -28,7 +28,7 @@ use Rattle.turns.specs.Steps.{goesOn, given, nextItem, readItems, doStatement}
 use Rattle.turns.specs.bridge.Turns.{turnedTo, afterOf, Leads, Leaves, Turns, anyRecords}
 use Rattle.turns.proofs.Keeping.{leaves-unprinted}
 use Rattle.turns.proofs.Leading.{leads-self, leads-on, turns-fails, turns-on}
-use Rattle.feeding.specs.bridge.Giving.{Listed, Sets, Gives}
+use Rattle.feeding.specs.bridge.Giving.{Sets, Gives}
 use Rattle.feeding.specs.declared.reading.Given.the-variants as answer
 
 -- ---- what stands at a token: a variable, and the others after its comma

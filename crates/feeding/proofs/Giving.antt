@@ -1,7 +1,6 @@
 -- One variable of a READ is set to an item.
-use mathlib.Core.Path.{_≡_, refl, sym, ap, _∙_}
-use mathlib.Core.Bool.{true, false}
-use mathlib.Core.List.{List, [], _∷_}
+use mathlib.Core.Path.{_≡_, refl, ap, _∙_}
+use mathlib.Core.List.{List, []}
 use Prim.Native.Nat.{ℕ, _+_, _≤_, _<_}
 use native.Mathlib.Omega.{arith}
 use lib.ListN.{length, take, drop}
@@ -21,19 +20,18 @@ use Rattle.variables.specs.Tables.{sumOf}
 use Rattle.variables.specs.bridge.Memory.{Tells, Storable, spaceStored}
 use Rattle.machine.specs.Machine as spec
 use Rattle.machine.specs.Machine.{withItems}
-use Rattle.machine.specs.bridge.Holding.{Settled, Feeds, Fed, Same, State, stateOf}
-use Rattle.machine.specs.declared.records.Record.{Record}
+use Rattle.machine.specs.bridge.Holding.{Settled, Feeds, State, stateOf}
 use Rattle.machine.specs.declared.state.Feed.{Feed}
 use Rattle.machine.specs.declared.state.Machine.{Machine}
 use Rattle.turns.specs.Steps as step
 use Rattle.turns.specs.Steps.{given, nextItem, storeString}
-use Rattle.turns.specs.bridge.Turns.{storageOf, withFeed, numberSet, stringSet, Storage, Leads}
+use Rattle.turns.specs.bridge.Turns.{storageOf, withFeed, numberSet, stringSet, Storage}
 use Rattle.turns.specs.declared.setting.Stored.{Stored}
 use Rattle.turns.proofs.Keeping.{settled-kept}
 use Rattle.turns.proofs.Leading.{leads-on}
 use Rattle.turns.proofs.Making.{leads-unmade, leads-made}
 use Rattle.turns.proofs.Storing.{storedMet, number-settled, leads-number, string-settled, string-long, leads-string}
-use Rattle.feeding.specs.bridge.Taking.{Took, TakenAs}
+use Rattle.feeding.specs.bridge.Taking.{Took}
 use Rattle.feeding.specs.bridge.Giving.{setAs, machineOf, givenMet, Sets, Gives}
 use Rattle.feeding.specs.declared.reading.Given.{Given}
 use Rattle.feeding.specs.declared.reading.Given.the-variants as answer

@@ -1,6 +1,6 @@
 -- RESTORE: the items that are left anew; and DATA, which leaves all as it is.
-use mathlib.Core.Path.{_≡_, refl, sym, _∙_}
-use mathlib.Core.List.{List, []}
+use mathlib.Core.Path.{_≡_, refl}
+use mathlib.Core.List.{List}
 use Prim.Native.Nat.{ℕ}
 use Rattle.whole.specs.declared.errors.Error.the-variants.{UndefinedLine}
 use Rattle.words.specs.Places.{place}
@@ -13,7 +13,6 @@ use Rattle.scanner.specs.Tokens.{tokenAt}
 use Rattle.statements.specs.Statements.{Begun, byWord}
 use Rattle.statements.specs.bridge.Answers.{begunAnswer}
 use Rattle.statements.specs.declared.reading.Own.{Own}
-use Rattle.statements.specs.declared.reading.StatementRead.{StatementRead}
 use Rattle.statements.specs.declared.reading.StatementRead.the-variants as statement
 use Rattle.statements.proofs.Ways.{by-data}
 use Rattle.machine.specs.declared.records.Found.{Found}

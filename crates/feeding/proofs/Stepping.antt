@@ -1,13 +1,13 @@
 -- One item of a line is taken: its bytes stand in the text, and the others go on after it.
 use mathlib.Core.Path.{_≡_, refl, sym, ap, _∙_}
-use mathlib.Core.Bool.{Bool, true, false}
+use mathlib.Core.Bool.{true, false}
 use mathlib.Core.List.{List, [], _∷_, _++_}
 use Prim.Native.Nat.{ℕ, zero, suc, _+_, _-_, _≤_}
 use native.Mathlib.Omega.{arith}
 use lib.ListN.{length, take, drop, length-drop}
 use lib.Seq.{take-take, drop-drop, length-take-le}
 use Rattle.whole.proofs.Never.{never}
-use Rattle.words.specs.Places.{place, longestLine}
+use Rattle.words.specs.Places.{place}
 use Rattle.words.specs.declared.places.Place.{Place}
 use Rattle.words.proofs.Choices.{by-test}
 use Rattle.scanner.specs.Tokens.{tokenAt}
@@ -23,7 +23,7 @@ use Rattle.loader.specs.Loading.{loadOf}
 use Rattle.loader.specs.declared.lines.LineSpan.{LineSpan}
 use Rattle.loader.specs.declared.lines.LineFound.the-variants.{Is}
 use Rattle.loader.specs.declared.loading.Loaded.the-variants.{Fine}
-use Rattle.machine.specs.bridge.Holding.{linesAt, bodyOf, feedAfter, feedPast, startAfter, Outside, Inside, Feeds}
+use Rattle.machine.specs.bridge.Holding.{linesAt, feedAfter, startAfter, Outside, Inside, Feeds}
 use Rattle.machine.proofs.Standing.{Told, told-as}
 use Rattle.order.proofs.Texting.{bodyAt}
 use Rattle.feeding.specs.bridge.Taking.{feedOf, Took}

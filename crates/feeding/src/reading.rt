@@ -6,8 +6,6 @@ ghost use lib.ListN.{length};
 ghost use Rattle.words.specs.Names.{nameBytes, tellingOf};
 ghost use Rattle.words.specs.Places.{longestLine};
 ghost use Rattle.words.specs.declared.names.Kind.the-variants as kind;
-ghost use Rattle.loader.specs.Loading.{loadOf};
-ghost use Rattle.loader.specs.declared.loading.Loaded.the-variants.{Fine};
 ghost use Rattle.grammar.specs.Trees as tree;
 ghost use Rattle.grammar.specs.Trees.{Variable};
 ghost use Rattle.grammar.specs.Formulas.{enough};

@@ -8,7 +8,7 @@ use lib.ListN.{length, replicate, length-append, length-map}
 use Rattle.words.specs.Names.{Telling, nameWidth, entryOf}
 use Rattle.words.proofs.Tellings.{entry-length}
 use Rattle.variables.specs.Tables.{namesLong, nameBytes, numbersTable, stringsTable}
-use Rattle.variables.specs.Variables.{NumberVariable, StringVariable, mostVariables}
+use Rattle.variables.specs.Variables.{NumberVariable, StringVariable}
 use Rattle.variables.specs.declared.tables.Tables.{Tables}
 use Rattle.runner.specs.Run.{Ran, isRefused, tablesOf, answerOf}
 use Rattle.runner.specs.declared.running.Ran as code

@@ -19,7 +19,6 @@ use Rattle.statements.specs.declared.reading.StatementRead.{StatementRead}
 use Rattle.statements.proofs.Views.{Final, plain, thens, elses, more-view, final-view}
 use Rattle.statements.specs.Parts.{Rest, nothing, tailOf, formulasOf, deepest, deepestIn, partsOf, statementsOf}
 use Rattle.statements.proofs.Depths.{rest-shallow}
-use Rattle.machine.specs.Machine as spec
 use Rattle.machine.specs.bridge.Holding.{linesAt, bodyOf, Shallow, positionOf, Begins, Positioned}
 use Rattle.machine.specs.declared.positions.Position.{Position}
 use Rattle.statements.proofs.Firsts.{true-part}

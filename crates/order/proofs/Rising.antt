@@ -27,7 +27,6 @@ use Rattle.statements.proofs.Beginning.{begun-within}
 use Rattle.statements.proofs.Parts.{weightAt}
 use Rattle.reader.specs.Lines.{Judgement, unreadable, tooDeep, holds, judgement}
 use Rattle.reader.specs.bridge.Walking.{followsDone, followOf, startOf, Onto, StartsAs}
-use Rattle.reader.specs.declared.branches.Start.the-variants as start
 use Rattle.reader.specs.declared.walking.Follow.{Follow}
 use Rattle.reader.specs.declared.walking.Follow.the-variants as follow
 use Rattle.machine.specs.Order.{beyond, partsHeld}

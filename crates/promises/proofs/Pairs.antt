@@ -4,11 +4,10 @@ use mathlib.Core.List.{List, [], _∷_}
 use Prim.Native.Nat.{ℕ, zero, suc, _≤_}
 use native.Mathlib.Omega.{arith}
 use borrow.Author.Tests.{eq-eqb, ne-eqb}
-use lib.Dec.{eqb}
 use Rattle.grammar.specs.Trees.{Statement}
 use Rattle.statements.specs.Parts.{headOf}
-use Rattle.machine.specs.Order.{Stand, Bracket, opens, closes, neither, Partner, some, paired, partner}
-use Rattle.promises.specs.Pairs.{Pair, Closing, nowhere, at, closedBy, closingAt, withPair, pairedFrom, pairsOf, stackedBy, stackPairs, OfAll, numbered, standing, partnersAreNumbered, SamePairs, pairsAreStacked, Closed, noTwoHaveOne}
+use Rattle.machine.specs.Order.{Stand, Bracket, opens, closes, neither, paired, partner}
+use Rattle.promises.specs.Pairs.{Pair, Closing, nowhere, at, closedBy, closingAt, withPair, pairedFrom, pairsOf, stackedBy, stackPairs, OfAll, numbered, standing, partnersAreNumbered, pairsAreStacked, Closed, noTwoHaveOne}
 
 -- ---- numbers
 

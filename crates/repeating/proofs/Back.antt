@@ -2,15 +2,14 @@
 use mathlib.Core.Path.{_≡_, refl, sym, ap, _∙_}
 use mathlib.Core.Bool.{Bool}
 use mathlib.Core.List.{List, _∷_}
-use Prim.Native.Nat.{ℕ, suc, _+_, _≤_, _<_}
+use Prim.Native.Nat.{ℕ, _+_, _≤_, _<_}
 use native.Mathlib.Omega.{arith}
 use native.Mathlib.Numerals.{add-one}
-use lib.ListN.{getD}
 use Rattle.whole.specs.declared.errors.Error.the-variants.{WendWithoutWhile}
 use Rattle.grammar.specs.Trees as tree
 use Rattle.machine.specs.Machine as spec
 use Rattle.machine.specs.Repeats.{startOf, isWhileOf}
-use Rattle.machine.specs.bridge.Holding.{positionOf, Positioned, blankRecord, backOf, recordOf, recordsIn, Sound, Same, State}
+use Rattle.machine.specs.bridge.Holding.{positionOf, Positioned, backOf, recordOf, recordsIn, Sound, Same, State}
 use Rattle.machine.specs.bridge.Wanted.{FoundAt, Told}
 use Rattle.machine.specs.declared.positions.Next.the-variants as next
 use Rattle.machine.specs.declared.records.Record.{Record}

@@ -21,7 +21,7 @@ use Rattle.variables.proofs.Agreements.{workedTag}
 use Rattle.machine.specs.Machine as spec
 use Rattle.machine.specs.Order.{Stand, past, Partner, none, some, wendFor}
 use Rattle.machine.specs.Repeats.{startOf, isWhile, wendOf}
-use Rattle.machine.specs.bridge.Holding.{linesAt, positionOf, Positioned, backOf, recordOf, recordsIn, whileRecord, Placed, Paired, Sound, Same, State}
+use Rattle.machine.specs.bridge.Holding.{linesAt, positionOf, Positioned, recordOf, recordsIn, whileRecord, Placed, Paired, Sound, Same, State}
 use Rattle.machine.specs.bridge.Wanted.{Told}
 use Rattle.machine.specs.declared.positions.Position.{Position}
 use Rattle.machine.specs.declared.positions.Next.{Next}
@@ -42,7 +42,7 @@ use Rattle.turns.proofs.Keeping.{sound-kept, leaves-unprinted}
 use Rattle.turns.proofs.Leading.{turns-fails, turns-on}
 use Rattle.turns.proofs.Pushing.{sound-depth, same-fewer, turns-pushed}
 use Rattle.turns.proofs.Wholes.{turns-as, turns-none, turns-whole}
-use Rattle.repeating.specs.bridge.Repeating.{spotOf, WhileStands, PastWend}
+use Rattle.repeating.specs.bridge.Repeating.{WhileStands, PastWend}
 use Rattle.repeating.proofs.Back.{same-found}
 
 -- a turn of which what was told of the records can't be

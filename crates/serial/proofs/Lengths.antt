@@ -9,7 +9,7 @@ use Rattle.space.proofs.Frames.{copied-length, cleared-length}
 use Rattle.loader.specs.Loading.{longestText}
 use Rattle.serial.specs.declared.receiving.Receipt.{Receipt}
 use Rattle.serial.specs.declared.receiving.Receipt.the-variants.{Holds, TooMuch}
-use Rattle.serial.specs.Receiving.{Held, Ended, taken, withPart, atEnd, finished}
+use Rattle.serial.specs.Receiving.{Held, Ended, withPart, atEnd}
 use Rattle.serial.specs.Received.{buffersStayAsLong}
 use Rattle.serial.proofs.Steps.{placed-past, placed-lies, taken-short, taken-more, loaded-long, loaded-cleared, finished-short, finished-more}
 

@@ -20,7 +20,6 @@ use Rattle.statements.specs.declared.leading.Lead.the-variants.{Nothing}
 use Rattle.statements.specs.Parts.{deepest}
 use Rattle.statements.specs.bridge.Answers.{nameOf, isQuoted, formedRead, begunAnswer}
 use Rattle.statements.specs.declared.reading.NameFound.the-variants.{None}
-use Rattle.statements.specs.declared.reading.StatementRead.the-variants as statement
 use Rattle.statements.proofs.Findings.{jump-same}
 
 -- ---- tokens

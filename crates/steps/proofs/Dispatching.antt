@@ -20,7 +20,7 @@ use Rattle.grammar.specs.Tests.{isSymbol, isKeyword, endsStatement}
 use Rattle.grammar.specs.Trees as tree
 use Rattle.grammar.specs.Trees.{Part, last, more}
 use Rattle.grammar.specs.Formulas.{good, after, enough, formulaOf}
-use Rattle.statements.specs.Statements.{Begun, bad, done, choice, items, printAt, ifAt, inputAt, listed, namesAt, readAt, byWord, ledBySign, ledByToken, leadOf, begunBy, begunAt, PartReading, goodPart, partOf}
+use Rattle.statements.specs.Statements.{Begun, done, items, printAt, ifAt, inputAt, listed, namesAt, readAt, byWord, ledBySign, ledByToken, leadOf, begunBy, begunAt, PartReading, goodPart, partOf}
 use Rattle.statements.specs.bridge.Answers.{itemsOf}
 use Rattle.statements.proofs.Parts.{partBy, unrolled}
 use Rattle.statements.proofs.Views.{Final, plain, thens, elses, more-view, final-view}

@@ -24,6 +24,11 @@ pub held-front : {t : Text} (l : List ℕ) → t ≡ held l → take (t .len) (t
 unfolding held
 held-front l e = rw e (take-append-seam l _)
 
+-- and their number beside them
+pub held-count : {t : Text} (l : List ℕ) → t ≡ held l → t .len ≡ length l
+unfolding held
+held-count l e = rw e
+
 -- a byte more, where there is room
 pub held-put : (l : List ℕ) (b : ℕ) → length l < longestString → withByte (held l) b ≡ held (l ++ (b ∷ []))
 unfolding held withByte

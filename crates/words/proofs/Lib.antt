@@ -1,4 +1,5 @@
 pub mod Choices
+pub mod Comparing
 pub mod Tables
 pub mod Classing
 pub mod Packing

@@ -3,18 +3,15 @@
 use mathlib.Core.Path.{_≡_}
 use mathlib.Core.Bool.{cond}
 use mathlib.Core.List.{List}
-use Prim.Native.Nat.{ℕ, _≤_}
+use Prim.Native.Nat.{ℕ}
 use lib.ListN.{length}
 use Rattle.whole.specs.declared.errors.Error.the-variants.{OutOfMemory}
-use Rattle.words.specs.Places.{longestLine}
 use Rattle.words.specs.declared.symbols.Scanned.{Scanned}
-use Rattle.loader.specs.Loading.{loadOf}
-use Rattle.loader.specs.declared.loading.Loaded.the-variants.{Fine}
 use Rattle.grammar.specs.Trees.{Variable}
 use Rattle.grammar.specs.Formulas.{enough}
 use Rattle.statements.specs.Statements.{listed, namesAt}
 use Rattle.machine.specs.Machine as spec
-use Rattle.machine.specs.bridge.Holding.{Fed, Settled, Same, State}
+use Rattle.machine.specs.bridge.Holding.{Settled, Same, State}
 use Rattle.machine.specs.declared.state.Machine.{Machine}
 use Rattle.machine.specs.declared.records.Record.{Record}
 use Rattle.turns.specs.Steps as step

@@ -18,7 +18,7 @@ use Rattle.grammar.specs.Formulas as formulas
 use Rattle.grammar.specs.Formulas.{Reading, good, after, enough, formulaOf}
 use Rattle.statements.specs.Statements.{Begun, bad, done, choice, Items, noItems, items, withItem, isSeparator, afterShown, itemsAt, begunAt, PartReading, badPart, goodPart, mappedPart, following, branched, partAt, whole, readLine}
 use Rattle.statements.specs.bridge.Answers.{itemsOf}
-use Rattle.reader.specs.Lines.{holds, judgedRead, judgement}
+use Rattle.reader.specs.Lines.{judgedRead, judgement}
 use Rattle.statements.proofs.Depths.{heads-append}
 use Rattle.statements.specs.Parts.{itemFormulas, formulasOf, deepest, partsOf, partsWithin, heads, statementsOf, deepestIn}
 use Rattle.expressions.proofs.Levelled.{Levelled, levelled}

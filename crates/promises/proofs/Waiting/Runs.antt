@@ -10,8 +10,8 @@ use Rattle.loader.specs.Lines.{Line, linesOf, afterNumber, nextLine}
 use Rattle.loader.specs.Loading.{loadOf}
 use Rattle.loader.specs.declared.loading.Loaded.{Loaded}
 use Rattle.loader.specs.declared.loading.Loaded.the-variants as loaded
-use Rattle.grammar.specs.Trees.{Part, last, more}
-use Rattle.statements.specs.Parts.{formulasOf, headOf, tailOf, Rest, nothing, part, partsOf, partsWithin, heads, placeOf}
+use Rattle.grammar.specs.Trees.{Part}
+use Rattle.statements.specs.Parts.{headOf, tailOf, Rest, nothing, part, placeOf}
 use Rattle.machine.specs.Items.{fresh}
 use Rattle.machine.specs.Machine.{Position, Machine, Lent, mostRecords, withStep}
 use Rattle.turns.specs.Steps.{Next, goesOn, enters, ends, stops, fails, doStatement}
@@ -19,7 +19,7 @@ use Rattle.runner.specs.Run.{Ran, lineNumberOf, Entered, over, faulty, opened, 
 use Rattle.runner.specs.Examples.{lending, nested, nested-highest}
 use Rattle.promises.specs.Unfinished.{mostUnfinished, fewUnfinished, mostIsReached}
 use Rattle.promises.proofs.Waiting.Nesting.{Fine}
-use Rattle.promises.proofs.Waiting.Reading.{Each, Every, parts-split, PartFine, EnteredFine, line-fine}
+use Rattle.promises.proofs.Waiting.Reading.{PartFine, EnteredFine, line-fine}
 use Rattle.promises.proofs.Waiting.Turns.{RestFine, head-fine, Sound, NextFine, statement-sound}
 use Rattle.variables.specs.Strings.{longestSpace}
 

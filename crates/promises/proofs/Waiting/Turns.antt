@@ -27,7 +27,7 @@ use Rattle.machine.specs.Machine.{Position, Record, loop, call, again, Machine,
 use Rattle.machine.specs.Order.{Stand, later, Bracket, Partner, none, some, partner, pairsBy, nextFor, wendFor}
 use Rattle.machine.specs.Repeats.{startOf, isWhile, isWhileOf}
 use Rattle.order.proofs.Laws.{later-throughout, StandThroughout, partner-one}
-use Rattle.turns.specs.Steps.{Next, goesOn, enters, ends, stops, fails, worked, wholeOnly, workedWhole, withNumber, withString, assigned, written, shownValue, printItems, toLine, pushed, returned, turned, nextOn, takeLine, filled, inputLine, givenNumber, given, nextItem, readItems, isWholeKind, doStatement, cleared, begun, namesOther, skipped, partBegun, hereOf, repeated, tested, whileBy, turnedBack}
+use Rattle.turns.specs.Steps.{Next, goesOn, enters, ends, stops, fails, worked, wholeOnly, workedWhole, withNumber, withString, assigned, written, shownValue, printItems, toLine, pushed, returned, turned, nextOn, takeLine, filled, inputLine, givenNumber, given, nextItem, readItems, isWholeKind, doStatement, cleared, begun, namesOther, skipped, partBegun, hereOf, repeated, whileBy, turnedBack}
 use Rattle.promises.specs.Unfinished.{mostUnfinished}
 use Rattle.promises.proofs.Records as records
 use Rattle.promises.proofs.Records.{sought-each, below-each}

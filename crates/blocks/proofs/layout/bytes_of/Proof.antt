@@ -5,7 +5,6 @@ use native.Mathlib.Omega.{arith}
 use lib.ListN.{length, take, length-set}
 use lib.Seq.{take-all}
 use Rattle.blocks.specs.Blocks.{wordBytes}
-use borrow.Author.Needs.{needs}
 use Rattle.blocks.proofs.Words.{word-written}
 use Rattle.blocks.proofs.layout.bytes_of.Statement.{statement}
 use Rattle.blocks.proofs.layout.bytes_of.Tie as tie

@@ -1,12 +1,10 @@
 -- The words of the part of the block.
-use mathlib.Core.Path.{_≡_, ap, _∙_}
+use mathlib.Core.Path.{_≡_}
 use Prim.Native.Nat.{ℕ, _+_, _*_, _-_}
 use native.Mathlib.Omega.{arith}
 use borrow.Author.Needs.{needs}
-use lib.ListN.{take, drop}
 use Rattle.variables.specs.Variables.{mostVariables}
 use Rattle.variables.proofs.Bytewise.{part-length}
-use Rattle.blocks.specs.Blocks.{wordsFrom}
 use Rattle.blocks.proofs.layout.words_at.Statement.{statement}
 use Rattle.blocks.proofs.layout.words_at.Tie as tie
 

@@ -5,8 +5,8 @@ use native.Mathlib.Omega.{arith}
 use borrow.Author.Needs.{needs}
 use borrow.Author.Tests.{le-leb, lt-leb}
 use lib.ListN.{length}
+use Rattle.whole.proofs.Numerals.{held-count}
 use Rattle.compare.specs.Records.{reportOf}
-use Rattle.compare.proofs.Laid.{held-count}
 use Rattle.compare.proofs.Turning.{leftOf, recordsAhead, Standing, lies, all-ahead, turn-ahead, all-said}
 use Rattle.compare.proofs.comparing.report_fits.Statement.{statement}
 use Rattle.compare.proofs.comparing.report_fits.Tie as tie

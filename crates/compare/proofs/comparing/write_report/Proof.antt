@@ -4,10 +4,9 @@ use Prim.Native.Nat.{_≤_}
 use native.Mathlib.Omega.{arith}
 use borrow.Author.Needs.{needs}
 use lib.ListN.{length}
-use Rattle.whole.proofs.Numerals.{held-front}
+use Rattle.whole.proofs.Numerals.{held-front, held-count}
 use Rattle.compare.specs.Records.{reportOf}
 use Rattle.compare.specs.bridge.Turns.{recordsIn}
-use Rattle.compare.proofs.Laid.{held-count}
 use Rattle.compare.proofs.Turning.{leftOf, recordsAhead, Standing, lies, all-ahead, turn-ahead, all-said}
 use Rattle.compare.proofs.Written.{Written, none-written, written-within, written-long, written-held, all-written}
 use Rattle.compare.proofs.comparing.write_report.Statement.{statement}

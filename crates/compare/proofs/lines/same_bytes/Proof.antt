@@ -4,7 +4,7 @@ use Prim.Native.Nat.{_-_}
 use native.Mathlib.Omega.{arith}
 use lib.ListN.{length, drop}
 use Rattle.words.specs.Spellings.{sameBytes}
-use Rattle.compare.proofs.Bytes.{same-next, same-differ, same-shorter, same-ended}
+use Rattle.words.proofs.Comparing.{same-next, same-differ, same-shorter, same-ended}
 use Rattle.compare.proofs.lines.same_bytes.Statement.{statement}
 use Rattle.compare.proofs.lines.same_bytes.Tie as tie
 

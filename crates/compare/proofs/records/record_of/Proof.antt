@@ -3,9 +3,9 @@ use mathlib.Core.Path.{sym, ap, _∙_}
 use native.Mathlib.Omega.{arith}
 use borrow.Author.Needs.{needs}
 use lib.ListN.{length}
-use Rattle.whole.proofs.Numerals.{held-front, numeral-length}
+use Rattle.whole.proofs.Numerals.{held-front, numeral-length, held-count}
 use Rattle.space.proofs.Overlaid.{overlaid-length}
-use Rattle.compare.proofs.Laid.{held-count, held-long, before-end, word-leaves, record-laid}
+use Rattle.compare.proofs.Laid.{held-long, before-end, word-leaves, record-laid}
 use Rattle.compare.proofs.records.record_of.Statement.{statement}
 use Rattle.compare.proofs.records.record_of.Tie as tie
 

@@ -1,10 +1,9 @@
 -- What the NEXT at the spot names, and what is left of its part.
-use mathlib.Core.Path.{refl, sym, ap, _∙_}
+use mathlib.Core.Path.{refl, sym, _∙_}
 use native.Mathlib.Omega.{arith}
 use borrow.Author.Needs.{needs}
 use Rattle.words.specs.Names.{nameBytes, tellingOf}
 use Rattle.order.proofs.Texting.{here-ahead, told}
-use Rattle.control.specs.bridge.Skipping.{otherLed}
 use Rattle.control.proofs.Skips.{spot-names}
 use Rattle.control.proofs.skipping.past_next.Statement.{statement}
 use Rattle.control.proofs.skipping.past_next.Tie as tie

@@ -1,7 +1,7 @@
-use mathlib.Core.Path.{_≡_, refl, sym, ap, _∙_}
+use mathlib.Core.Path.{_≡_}
 use native.Mathlib.Omega.{arith}
 use Prim.Native.Nat.{_+_, _-_}
-use lib.ListN.{take, drop, length-drop}
+use lib.ListN.{drop, length-drop}
 use lib.Seq.{length-take-le}
 use Rattle.words.specs.Names.{nameBytes, tellingOf}
 use Rattle.words.specs.declared.names.Kind.the-variants as kind
@@ -9,11 +9,6 @@ use Rattle.feeding.proofs.Giving.{sets-none, gives-none, gives-taken, s
 use borrow.Author.Needs.{needs}
 use Rattle.feeding.proofs.reading.give.Statement.{statement}
 use Rattle.feeding.proofs.reading.give.Tie as tie
-use Rattle.feeding.proofs.reading.give.Reads as reads
-use Rattle.feeding.proofs.reading.give.Lts as lts
-use Rattle.feeding.proofs.reading.give_number.Reads as give-number-reads
-use Rattle.feeding.proofs.reading.give_string.Reads as give-string-reads
-use Rattle.feeding.proofs.taking.take_item.Reads as take-item-reads
 
 take-item-requires : tie.Need-take-item-requires
 take-item-requires c κs = search needs

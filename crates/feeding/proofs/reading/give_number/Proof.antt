@@ -1,14 +1,9 @@
 use mathlib.Core.List.{[]}
-use mathlib.Core.Path.{_≡_, refl, sym, ap, _∙_}
+use mathlib.Core.Path.{refl, sym, ap, _∙_}
 use Rattle.feeding.proofs.Giving.{set-state, sets-none, gives-fault, sets-number, gives-number}
 use borrow.Author.Needs.{needs}
 use Rattle.feeding.proofs.reading.give_number.Statement.{statement}
 use Rattle.feeding.proofs.reading.give_number.Tie as tie
-use Rattle.feeding.proofs.reading.give_number.Reads as reads
-use Rattle.feeding.proofs.reading.give_number.Lts as lts
-use Rattle.feeding.proofs.reading.set_or_full.Reads as set-or-full-reads
-use Rattle.turns.proofs.with_number.Reads as with-number-reads
-use Rattle.whole.proofs.number_item.Reads as number-item-reads
 use Rattle.words.proofs.Tellings.{telling-told}
 
 number-item-requires : tie.Need-number-item-requires

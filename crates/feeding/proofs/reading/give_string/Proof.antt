@@ -1,17 +1,11 @@
 use mathlib.Core.List.{[]}
 use Rattle.feeding.proofs.Giving.{made-storable}
-use mathlib.Core.Path.{_≡_, refl, sym, ap, _∙_}
+use mathlib.Core.Path.{refl, sym, ap, _∙_}
 use borrow.Author.Tests.{not-true, not-false, leb-true, leb-false}
 use Rattle.feeding.proofs.Giving.{set-state, sets-none, gives-full, sets-string, gives-string}
 use borrow.Author.Needs.{needs}
 use Rattle.feeding.proofs.reading.give_string.Statement.{statement}
 use Rattle.feeding.proofs.reading.give_string.Tie as tie
-use Rattle.feeding.proofs.reading.give_string.Reads as reads
-use Rattle.feeding.proofs.reading.give_string.Lts as lts
-use Rattle.feeding.proofs.reading.set_or_full.Reads as set-or-full-reads
-use Rattle.space.proofs.copy_in.Reads as copy-in-reads
-use Rattle.turns.proofs.with_string.Reads as with-string-reads
-use Rattle.variables.proofs.has_room.Reads as has-room-reads
 use Rattle.words.proofs.Tellings.{telling-told}
 
 has-room-requires : tie.Need-has-room-requires

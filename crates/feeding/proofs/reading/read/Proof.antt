@@ -1,5 +1,5 @@
 use borrow.Author.Needs.{needs}
-use mathlib.Core.Path.{_≡_, refl, sym, ap, _∙_}
+use mathlib.Core.Path.{_≡_, sym, ap, _∙_}
 use native.Mathlib.Omega.{arith}
 use mathlib.Core.List.{List}
 use borrow.Author.Tests.{not-true, not-false}
@@ -22,13 +22,6 @@ use Rattle.feeding.proofs.Giving.{sets-none}
 use Rattle.feeding.proofs.Filling.{first, first-more, sets-then, Fills, fills-begin, fills-on, fills-last, fills-fails}
 use Rattle.feeding.proofs.reading.read.Statement.{statement}
 use Rattle.feeding.proofs.reading.read.Tie as tie
-use Rattle.feeding.proofs.reading.read.Reads as reads
-use Rattle.feeding.proofs.reading.read.Lts as lts
-use Rattle.feeding.proofs.reading.give.Reads as give-reads
-use Rattle.grammar.proofs.is_symbol.Reads as is-symbol-reads
-use Rattle.scanner.proofs.token_at.Reads as token-at-reads
-use Rattle.turns.proofs.fails.Reads as fails-reads
-use Rattle.turns.proofs.goes_on.Reads as goes-on-reads
 
 abbrev Inv-loop : tie.InvT-loop
 Inv-loop text line here names₀ words₀ labels₀ lengths₀ space₀ m₀ target₀ names words labels lengths space m target =

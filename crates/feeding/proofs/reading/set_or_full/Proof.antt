@@ -1,8 +1,6 @@
 use borrow.Author.Tests.{not-true, not-false}
 use Rattle.feeding.proofs.reading.set_or_full.Statement.{statement}
 use Rattle.feeding.proofs.reading.set_or_full.Tie as tie
-use Rattle.feeding.proofs.reading.set_or_full.Reads as reads
-use Rattle.feeding.proofs.reading.set_or_full.Lts as lts
 
 returns : tie.Need-returns
 returns c = rw (not-true (c .before .before .before .args .stored .ok) (c .if1 .taken))

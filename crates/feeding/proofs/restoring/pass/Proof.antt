@@ -1,16 +1,10 @@
-use mathlib.Core.Path.{_≡_, refl, sym, ap, _∙_}
-use mathlib.Core.List.{[]}
+use mathlib.Core.Path.{sym, ap, _∙_}
 use Rattle.statements.specs.Statements.{begunBy}
 use Rattle.statements.specs.bridge.Answers.{begunAnswer}
 use Rattle.feeding.proofs.Lines.{data-passes, data-unread, data-no-choice}
 use borrow.Author.Needs.{needs}
 use Rattle.feeding.proofs.restoring.pass.Statement.{statement}
 use Rattle.feeding.proofs.restoring.pass.Tie as tie
-use Rattle.feeding.proofs.restoring.pass.Reads as reads
-use Rattle.feeding.proofs.restoring.pass.Lts as lts
-use Rattle.statements.proofs.statement_led.Reads as statement-led-reads
-use Rattle.turns.proofs.fails.Reads as fails-reads
-use Rattle.turns.proofs.goes_on.Reads as goes-on-reads
 
 statement-led-requires : tie.Need-statement-led-requires
 statement-led-requires c κs = search needs

@@ -1,18 +1,10 @@
-use mathlib.Core.Path.{_≡_, refl, sym, ap, _∙_}
+use mathlib.Core.Path.{sym, _∙_}
 use Rattle.turns.proofs.Beginning.{on-line, no-line}
 use Rattle.turns.proofs.Doing.{any-told}
 use Rattle.feeding.proofs.Lines.{restores-all}
 use borrow.Author.Needs.{needs}
 use Rattle.feeding.proofs.restoring.restore.Statement.{statement}
 use Rattle.feeding.proofs.restoring.restore.Tie as tie
-use Rattle.feeding.proofs.restoring.restore.Reads as reads
-use Rattle.feeding.proofs.restoring.restore.Lts as lts
-use Rattle.feeding.proofs.restoring.restore_to.Reads as restore-to-reads
-use Rattle.feeding.proofs.restoring.with_feed.Reads as with-feed-reads
-use Rattle.grammar.proofs.line_of.Reads as line-of-reads
-use Rattle.machine.proofs.state.Feed.from_line.Reads as from-line-reads
-use Rattle.scanner.proofs.token_at.Reads as token-at-reads
-use Rattle.turns.proofs.goes_on.Reads as goes-on-reads
 
 line-of-requires : tie.Need-line-of-requires
 line-of-requires c κs = search needs

@@ -1,15 +1,8 @@
-use mathlib.Core.Path.{_≡_, refl, sym, ap, _∙_}
+use mathlib.Core.Path.{sym, _∙_}
 use Rattle.feeding.proofs.Lines.{restores-none, restores-from}
 use borrow.Author.Needs.{needs}
 use Rattle.feeding.proofs.restoring.restore_to.Statement.{statement}
 use Rattle.feeding.proofs.restoring.restore_to.Tie as tie
-use Rattle.feeding.proofs.restoring.restore_to.Reads as reads
-use Rattle.feeding.proofs.restoring.restore_to.Lts as lts
-use Rattle.feeding.proofs.restoring.with_feed.Reads as with-feed-reads
-use Rattle.machine.proofs.state.Feed.from_line.Reads as from-line-reads
-use Rattle.rows.proofs.line_numbered.Reads as line-numbered-reads
-use Rattle.turns.proofs.fails.Reads as fails-reads
-use Rattle.turns.proofs.goes_on.Reads as goes-on-reads
 
 line-numbered-requires : tie.Need-line-numbered-requires
 line-numbered-requires c κs = search needs

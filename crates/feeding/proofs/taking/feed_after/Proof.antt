@@ -1,13 +1,7 @@
-use mathlib.Core.Path.{_≡_, refl, sym, ap, _∙_}
-use native.Mathlib.Omega.{arith}
+use mathlib.Core.Path.{sym, _∙_}
 use borrow.Author.Needs.{needs}
 use Rattle.feeding.proofs.taking.feed_after.Statement.{statement}
 use Rattle.feeding.proofs.taking.feed_after.Tie as tie
-use Rattle.feeding.proofs.taking.feed_after.Reads as reads
-use Rattle.feeding.proofs.taking.feed_after.Lts as lts
-use Rattle.grammar.proofs.is_symbol.Reads as is-symbol-reads
-use Rattle.machine.proofs.state.Feed.from_line.Reads as from-line-reads
-use Rattle.scanner.proofs.token_at.Reads as token-at-reads
 
 add-t11 : tie.Need-add-t11
 add-t11 c = search needs

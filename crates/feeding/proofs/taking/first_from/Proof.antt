@@ -1,21 +1,15 @@
 use borrow.Author.Needs.{needs}
-use mathlib.Core.Path.{_≡_, refl, sym, ap, _∙_}
-use native.Mathlib.Omega.{arith}
-use mathlib.Core.List.{List, [], _∷_}
+use mathlib.Core.Path.{refl, sym, ap, _∙_}
+use mathlib.Core.List.{List}
 use Rattle.machine.specs.Order.{Stand}
 use Rattle.machine.specs.Items.{itemsOf}
-use Rattle.order.specs.bridge.Walking.{Ahead, Walks, Walking, leftOf}
+use Rattle.order.specs.bridge.Walking.{Walks, Walking, leftOf}
 use Rattle.order.proofs.Pairing.{whereat}
 use Rattle.feeding.proofs.Cursor.{by-first, items-none, inside-data}
 use Rattle.feeding.specs.bridge.Taking.{WalksOver, SoughtAs}
 use Rattle.feeding.specs.declared.taking.Sought.the-variants as sought
 use Rattle.feeding.proofs.taking.first_from.Statement.{statement}
 use Rattle.feeding.proofs.taking.first_from.Tie as tie
-use Rattle.feeding.proofs.taking.first_from.Reads as reads
-use Rattle.feeding.proofs.taking.first_from.Lts as lts
-use Rattle.feeding.proofs.taking.items_of.Reads as items-of-reads
-use Rattle.order.proofs.lead_of.Reads as lead-of-reads
-use Rattle.order.proofs.onward.Reads as onward-reads
 
 abbrev Inv-loop : tie.InvT-loop
 Inv-loop text walk₀ walk =

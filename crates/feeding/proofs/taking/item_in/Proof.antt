@@ -1,14 +1,10 @@
-use mathlib.Core.Path.{_≡_, refl, sym, ap, _∙_}
+use mathlib.Core.Path.{sym, ap, _∙_}
 use native.Mathlib.Omega.{arith}
 use Rattle.feeding.proofs.Stepping.{here, inside, body-long, not-bad, inside-took}
 use lib.ListN.{length}
 use borrow.Author.Needs.{needs}
 use Rattle.feeding.proofs.taking.item_in.Statement.{statement}
 use Rattle.feeding.proofs.taking.item_in.Tie as tie
-use Rattle.feeding.proofs.taking.item_in.Reads as reads
-use Rattle.feeding.proofs.taking.item_in.Lts as lts
-use Rattle.feeding.proofs.taking.feed_after.Reads as feed-after-reads
-use Rattle.items.proofs.item_at.Reads as item-at-reads
 
 sub-body : tie.Need-sub-body
 sub-body c = here (c .before .pre .loads) (c .before .pre .is) (c .before .pre .inside) .low

@@ -1,17 +1,12 @@
-use mathlib.Core.Path.{_≡_, refl, sym, ap, _∙_}
-use native.Mathlib.Omega.{arith}
+use mathlib.Core.Path.{_≡_, refl, _∙_}
 use mathlib.Core.List.{List, [], _∷_}
 use Prim.Native.Nat.{ℕ}
-use types.Run.{OneOf, miss}
+use types.Run.{miss}
 use Rattle.whole.proofs.Never.{never}
-use Rattle.machine.proofs.Tokens.{wordTag}
-use Rattle.words.specs.declared.symbols.Word.{Word}
 use Rattle.words.specs.declared.symbols.Word.the-variants.{Data}
 use borrow.Author.Needs.{needs}
 use Rattle.feeding.proofs.taking.items_of.Statement.{statement}
 use Rattle.feeding.proofs.taking.items_of.Tie as tie
-use Rattle.feeding.proofs.taking.items_of.Reads as reads
-use Rattle.feeding.proofs.taking.items_of.Lts as lts
 
 -- all words but DATA
 abbrev others : List ℕ

@@ -1,15 +1,10 @@
-use mathlib.Core.Path.{_≡_, refl, sym, ap, _∙_}
+use mathlib.Core.Path.{sym, ap, _∙_}
 use borrow.Author.Tests.{not-true, not-false}
 use Rattle.loader.specs.Lines.{lineAt}
 use Rattle.machine.proofs.Standing.{none-here, told-as}
 use borrow.Author.Needs.{needs}
 use Rattle.feeding.proofs.taking.seek.Statement.{statement}
 use Rattle.feeding.proofs.taking.seek.Tie as tie
-use Rattle.feeding.proofs.taking.seek.Reads as reads
-use Rattle.feeding.proofs.taking.seek.Lts as lts
-use Rattle.feeding.proofs.taking.first_from.Reads as first-from-reads
-use Rattle.feeding.proofs.taking.walk_from.Reads as walk-from-reads
-use Rattle.loader.proofs.line_at.Reads as line-at-reads
 
 walk-from-requires : tie.Need-walk-from-requires
 walk-from-requires c κs = let z = not-true (c .before .before .before .args .feed .inside) (c .if1 .taken) in record { loads = c .before .before .before .pre .loads; some = c .before .before .before .pre .fed .items; outside = rw z at (c .before .before .before .pre .fed .feeds) }

@@ -1,11 +1,6 @@
-use mathlib.Core.Path.{_≡_, refl, sym, ap, _∙_}
 use borrow.Author.Needs.{needs}
 use Rattle.feeding.proofs.taking.take_item.Statement.{statement}
 use Rattle.feeding.proofs.taking.take_item.Tie as tie
-use Rattle.feeding.proofs.taking.take_item.Reads as reads
-use Rattle.feeding.proofs.taking.take_item.Lts as lts
-use Rattle.feeding.proofs.taking.item_in.Reads as item-in-reads
-use Rattle.feeding.proofs.taking.seek.Reads as seek-reads
 
 seek-requires : tie.Need-seek-requires
 seek-requires c κs = search needs

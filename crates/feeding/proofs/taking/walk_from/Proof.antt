@@ -1,17 +1,9 @@
-use mathlib.Core.Path.{_≡_, refl, sym, ap, _∙_}
-use native.Mathlib.Omega.{arith}
-use mathlib.Core.Bool.{true, false}
-use borrow.Author.Tests.{eqb-true, eqb-false}
-use Rattle.order.specs.bridge.Walking.{Reached}
+use mathlib.Core.Path.{sym, _∙_}
 use Rattle.machine.proofs.Standing.{none-here}
 use Rattle.feeding.proofs.Cursor.{from-ahead, outside-line, outside-statement}
 use borrow.Author.Needs.{needs}
 use Rattle.feeding.proofs.taking.walk_from.Statement.{statement}
 use Rattle.feeding.proofs.taking.walk_from.Tie as tie
-use Rattle.feeding.proofs.taking.walk_from.Reads as reads
-use Rattle.feeding.proofs.taking.walk_from.Lts as lts
-use Rattle.loader.proofs.line_at.Reads as line-at-reads
-use Rattle.order.proofs.enter.Reads as enter-reads
 
 enter-requires : tie.Need-enter-requires
 enter-requires c κs = let o = outside-line (c .before .before .before .before .before .pre .outside) (c .if1 .taken) in record { loads = c .before .before .before .before .before .pre .loads; before = o .before; all = o .lines }

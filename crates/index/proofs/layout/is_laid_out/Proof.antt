@@ -2,11 +2,10 @@
 use mathlib.Core.Path.{_≡_, refl, sym, _∙_}
 use Prim.Native.Nat.{_-_, _≤_, _<_}
 use native.Mathlib.Omega.{arith}
-use borrow.Author.Needs.{needs}
 use borrow.Author.Tests.{le-leb}
 use lib.ListN.{length, drop}
 use Rattle.words.specs.Spellings.{sameBytes}
-use Rattle.compare.proofs.Bytes.{same-next, same-differ, same-ended}
+use Rattle.words.proofs.Comparing.{same-next, same-differ, same-ended}
 use Rattle.index.specs.bridge.Laying.{laidOut}
 use Rattle.index.proofs.Laying.{laid-long}
 use Rattle.index.proofs.layout.is_laid_out.Statement.{statement}

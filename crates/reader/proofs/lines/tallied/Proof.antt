@@ -1,9 +1,6 @@
 use borrow.Author.Needs.{needs}
 use Rattle.reader.proofs.lines.tallied.Statement.{statement}
 use Rattle.reader.proofs.lines.tallied.Tie as tie
-use Rattle.reader.proofs.lines.tallied.Reads as reads
-use Rattle.reader.proofs.lines.tallied.Lts as lts
-use Rattle.reader.proofs.lines.with_own.Reads as with-own-reads
 
 pub tallied-spec : {M : Type 1} → statement M
 tallied-spec =

@@ -1,9 +1,6 @@
 use borrow.Author.Needs.{needs}
 use Rattle.reader.proofs.lines.with_own.Statement.{statement}
 use Rattle.reader.proofs.lines.with_own.Tie as tie
-use Rattle.reader.proofs.lines.with_own.Reads as reads
-use Rattle.reader.proofs.lines.with_own.Lts as lts
-use Rattle.expressions.proofs.larger.Reads as larger-reads
 
 pub with-own-spec : {M : Type 1} → statement M
 with-own-spec =

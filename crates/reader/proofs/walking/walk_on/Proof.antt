@@ -4,9 +4,6 @@ use Rattle.reader.proofs.Walks.{else-none, else-some}
 use borrow.Author.Needs.{needs}
 use Rattle.reader.proofs.walking.walk_on.Statement.{statement}
 use Rattle.reader.proofs.walking.walk_on.Tie as tie
-use Rattle.reader.proofs.walking.walk_on.Reads as reads
-use Rattle.reader.proofs.walking.walk_on.Lts as lts
-use Rattle.reader.proofs.walking.follows.Reads as follows-reads
 
 pub walk-on-spec : {M : Type 1} → statement M
 walk-on-spec =

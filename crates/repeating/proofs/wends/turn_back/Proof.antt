@@ -1,4 +1,3 @@
-use mathlib.Core.Path.{refl}
 use Rattle.repeating.proofs.Back.{wend-missing, wend-found}
 use native.Mathlib.Omega.{arith}
 use borrow.Author.Needs.{needs}

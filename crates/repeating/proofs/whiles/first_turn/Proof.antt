@@ -1,4 +1,3 @@
-use mathlib.Core.Path.{refl}
 use Rattle.order.proofs.Laws.{spot-of}
 use Rattle.machine.specs.Order.{wendFor}
 use Rattle.machine.specs.bridge.Holding.{linesAt}

@@ -1,4 +1,3 @@
-use mathlib.Core.Path.{refl}
 use native.Mathlib.Omega.{arith}
 use Rattle.repeating.proofs.Conditions.{found-none, found-false, found-true}
 use borrow.Author.Needs.{needs}

@@ -1,4 +1,3 @@
-use mathlib.Core.Path.{refl}
 use borrow.Author.Needs.{needs}
 use Rattle.repeating.proofs.whiles.repeat.Statement.{statement}
 use Rattle.repeating.proofs.whiles.repeat.Tie as tie

@@ -1,5 +1,5 @@
 use borrow.Author.Needs.{needs}
-use mathlib.Core.Path.{_≡_, refl, sym, ap, _∙_}
+use mathlib.Core.Path.{_≡_, refl, sym, _∙_}
 use native.Mathlib.Omega.{arith}
 use Rattle.items.specs.Items.{itemsFrom}
 use Rattle.items.proofs.Inside.{comma-inside}
@@ -9,11 +9,6 @@ use Rattle.statements.proofs.Findings.{passed, failed}
 use Rattle.statements.proofs.Naming.{heldRead, data-begins, data-stops, data-last, data-more}
 use Rattle.statements.proofs.reading.data.Statement.{statement}
 use Rattle.statements.proofs.reading.data.Tie as tie
-use Rattle.statements.proofs.reading.data.Reads as reads
-use Rattle.statements.proofs.reading.data.Lts as lts
-use Rattle.items.proofs.item_at.Reads as item-at-reads
-use Rattle.scanner.proofs.token_at.Reads as token-at-reads
-use Rattle.statements.proofs.reading.plain.Reads as plain-reads
 
 abbrev Inv-loop : tie.InvT-loop
 Inv-loop line at₀ at = heldRead line (itemsFrom line (at₀ .0)) ≡ heldRead line (itemsFrom line (at .0))

@@ -1,5 +1,5 @@
 use borrow.Author.Needs.{needs}
-use mathlib.Core.Path.{_≡_, refl, sym, ap, _∙_}
+use mathlib.Core.Path.{_≡_, sym, ap, _∙_}
 use native.Mathlib.Omega.{arith}
 use Rattle.grammar.specs.Tests.{isSymbol}
 use Rattle.grammar.specs.Formulas.{after, enough}
@@ -12,12 +12,6 @@ use Rattle.statements.proofs.Findings.{passed, failed}
 use Rattle.statements.proofs.Naming.{name-token, namesRead, read-begins, read-stops, read-last, read-more}
 use Rattle.statements.proofs.reading.read.Statement.{statement}
 use Rattle.statements.proofs.reading.read.Tie as tie
-use Rattle.statements.proofs.reading.read.Reads as reads
-use Rattle.statements.proofs.reading.read.Lts as lts
-use Rattle.statements.proofs.reading.name_at.Reads as name-at-reads
-use Rattle.statements.proofs.reading.plain.Reads as plain-reads
-use Rattle.statements.proofs.reading.sign_stands.Reads as sign-stands-reads
-use Rattle.statements.proofs.reading.token_after.Reads as token-after-reads
 
 abbrev Inv-loop : tie.InvT-loop
 Inv-loop line here₀ here = begunAnswer (readAt line here₀) ≡ namesRead (namesAt (enough line) line here)

@@ -1,7 +1,6 @@
 -- The name's entry is copied to its place.
 use mathlib.Core.Path.{ap, _∙_}
 use borrow.Author.Needs.{needs}
-use Rattle.words.specs.Names.{nameWidth, nameBytes, tellingOf}
 use Rattle.space.specs.Moves.{copied}
 use Rattle.variables.proofs.assigning.put_name.Statement.{statement}
 use Rattle.variables.proofs.assigning.put_name.Tie as tie

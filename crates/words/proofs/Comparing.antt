@@ -1,14 +1,14 @@
--- Two texts compared byte by byte.
+-- Bytes compared one by one.
 use mathlib.Core.Path.{_≡_}
 use mathlib.Core.Bool.{false}
 use mathlib.Core.List.{List}
 use Prim.Native.Nat.{ℕ, _+_, _≤_, _<_}
-use borrow.Author.Tests.{le-leb, lt-leb, eq-eqb, ne-eqb}
+use borrow.Author.Tests.{leb-true, leb-false, eq-eqb, ne-eqb}
 use lib.Dec.{leb}
 use lib.ListN.{length, getD, drop, drop-of-length-le}
 use Rattle.whole.proofs.Reading.{drop-next}
 use Rattle.words.specs.Spellings.{sameBytes}
-use Rattle.space.proofs.Bounds.{by-bound}
+use Rattle.words.proofs.Choices.{by-test}
 
 module _ (a b : List ℕ) (i : ℕ) where
   -- equal bytes leave it to those after them
@@ -30,5 +30,5 @@ module _ (a b : List ℕ) (i : ℕ) where
   pub same-ended : length a ≤ i → sameBytes (drop i a) (drop i b) ≡ leb (length b) i
   unfolding sameBytes
   same-ended h =
-      by-bound (length b) i (λ k. rw (drop-of-length-le a h, drop-of-length-le b k, le-leb _ _ k))
-      (λ k. rw (drop-of-length-le a h, drop-next b i k, lt-leb _ _ k))
+      by-test (leb (length b) i) (λ e. rw (drop-of-length-le a h, drop-of-length-le b (leb-true _ _ e), e))
+      (λ e. rw (drop-of-length-le a h, drop-next b i (leb-false _ _ e), e))
