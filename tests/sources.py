@@ -1,4 +1,4 @@
-"""What the tests that look at sources share: code without its comments, definitions of specs/, and functions with their contracts."""
+"""What the tests that look at sources share: code without its comments, definitions of specs/, functions with their contracts, and the crates by floors."""
 import re
 import textwrap
 from typing import NamedTuple
@@ -98,3 +98,11 @@ def functions(text):
 def passed_on(root):
     """What a crate's src/lib.rt passes on, as MODULE::ITEM, and the modules that are open whole."""
     return set(re.findall(r'^pub use (\w+::\w+);', root, re.M)), {'lib', *re.findall(r'^pub mod (\w+);', root, re.M)}
+
+
+def floors(readme):
+    """The crates of the last table of README.md, in its order, each with its floor."""
+    floor = ''
+    for named, crates in re.findall(r'^\| ?([\w ]*?) ?\| ((?:`\w+`(?:, )?)+) \|', readme.split('\n| floor | crate |')[1], re.M):
+        floor = named or floor
+        yield from ((crate, floor) for crate in re.findall(r'\w+', crates))
