@@ -11,7 +11,7 @@ use variables::{Numbers, Slot, Strings, Tables, offset_of, slot_of, wide};
 use words::{Kind, Name, Place, Token};
 
 // A whole number, or a text by its part of the space; or 111.
-#[derive(Drop)]
+#[derive(Clone, Copy)]
 pub enum Asked {
     Whole(u16),
     Text(Offset, usize),

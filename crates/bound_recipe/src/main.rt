@@ -1,5 +1,7 @@
 // bound_recipe RECIPE
 // Says how many steps a recipe can take, and writes a line: bounded and the number; not bounded; or refused, the number and the place.
+#![tactic(auto)]
+
 mod answers;
 
 use answers::line_of;

@@ -8,7 +8,7 @@ use order::{Walk, enter, lead_of, onward};
 use words::Place;
 
 // No run takes more steps than this; nothing is said of the recipe; or it is refused as in loading, and the place.
-#[derive(Drop)]
+#[derive(Clone, Copy)]
 pub enum Bound {
     Steps(u32),
     NotBounded,

@@ -1,4 +1,6 @@
 // How long a recipe can take: the number of its statements, where no run of it can come to one of them twice.
+#![tactic(auto)]
+
 mod bounds;
 mod jumps;
 

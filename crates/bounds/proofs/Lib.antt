@@ -1,3 +1,4 @@
 pub mod Ahead
 pub mod Turning
 pub mod Bounds
+pub mod TheSame

@@ -1,5 +1,7 @@
 // callers_of RECIPE LINE
 // Writes where a line starts, or that it is missing, and a line for each line that names it; or one line: refused, the number and the place.
+#![tactic(auto)]
+
 mod answers;
 
 ghost use Rattle.std.specs.Prelude.{◌≡◌, length};

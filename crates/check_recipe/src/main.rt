@@ -1,5 +1,7 @@
 // check_recipe RECIPE
 // Checks a recipe and writes a line: passed; or refused, the number, and the line (the place if it does not load).
+#![tactic(auto)]
+
 mod verdicts;
 
 use console::{Taken, complain, recipe_room, take_front, write_text};

@@ -15,7 +15,7 @@ use whole::Error;
 use words::{LineNumber, Place};
 
 // Passed; refused as in loading, and the place; or a fault and its line.
-#[derive(Drop)]
+#[derive(Clone, Copy)]
 pub enum Verdict {
     Passed,
     Refused(Refusal, Place),
@@ -23,7 +23,7 @@ pub enum Verdict {
 }
 
 // A line is sound, or it has a fault.
-#[derive(Drop)]
+#[derive(Clone, Copy)]
 pub enum Soundness {
     Sound,
     Fault(Error),

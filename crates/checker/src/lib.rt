@@ -1,4 +1,6 @@
 // The check: what a recipe is refused for before it ever runs.
+#![tactic(auto)]
+
 mod checking;
 
 pub use checking::{Verdict, check_recipe, named_by};

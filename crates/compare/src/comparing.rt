@@ -13,7 +13,7 @@ use space::{Offset, copy_in};
 use words::Place;
 
 // What comparing answers: how many bytes were written; or that an edition, or the room, is refused, and the place.
-#[derive(Drop)]
+#[derive(Clone, Copy)]
 pub enum Compared {
     Done(usize),
     OldRefused(Refusal, Place),

@@ -8,7 +8,7 @@ use loader::{LineFound, LineSpan, line_at};
 use words::{LineNumber, Place};
 
 // In what way a line differs.
-#[derive(Drop)]
+#[derive(Clone, Copy)]
 pub(crate) enum Way {
     Gone,
     New,
@@ -16,28 +16,28 @@ pub(crate) enum Way {
 }
 
 // A number that differs between two editions, and in what way.
-#[derive(Drop)]
+#[derive(Clone, Copy)]
 pub(crate) struct Difference {
     pub way: Way,
     pub number: LineNumber,
 }
 
 // What a turn of the merge says.
-#[derive(Drop)]
+#[derive(Clone, Copy)]
 pub(crate) enum Said {
     Nothing,
     Is(Difference),
 }
 
 // The next line of each edition.
-#[derive(Drop)]
+#[derive(Clone, Copy)]
 pub(crate) struct Heads {
     pub old: LineFound,
     pub new: LineFound,
 }
 
 // What a turn says, and the next lines after it.
-#[derive(Drop)]
+#[derive(Clone, Copy)]
 pub(crate) struct Turn {
     pub said: Said,
     pub heads: Heads,

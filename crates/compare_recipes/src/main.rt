@@ -1,5 +1,7 @@
 // compare_recipes OLD NEW [ROOM]
 // Writes a record for each line number that differs; or one line: refused, the number, the place and which edition.
+#![tactic(auto)]
+
 mod answers;
 
 ghost use Rattle.std.specs.Prelude.{◌≡◌, ◌≤◌, length};

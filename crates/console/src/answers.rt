@@ -2,7 +2,7 @@
 use whole::Text;
 
 // How many bytes of its room, and the line after them, if any.
-#[derive(Drop)]
+#[derive(Clone, Copy)]
 pub struct Answer {
     pub written: usize,
     pub line: Text,

@@ -8,7 +8,7 @@ use libc::STDERR_FILENO;
 use whole::leading_digits;
 
 // What a text gives: a number, one that is too large, or none.
-#[derive(Drop)]
+#[derive(Clone, Copy)]
 pub enum Given {
     Number(u32),
     TooLarge,
@@ -16,7 +16,7 @@ pub enum Given {
 }
 
 // A number to go by, or a bad one, of which it was said why.
-#[derive(Drop)]
+#[derive(Clone, Copy)]
 pub enum Setting {
     Is(u32),
     Bad,

@@ -6,7 +6,7 @@ ghost use Rattle.console.specs.Files.{Fronted};
 use libc::STDERR_FILENO;
 
 // What was taken of a file: all of it, so many bytes; as much as there is room for, and there is more; or nothing.
-#[derive(Drop)]
+#[derive(Clone, Copy)]
 pub enum Taken {
     All(usize),
     Front,

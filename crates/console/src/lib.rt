@@ -1,4 +1,6 @@
 // What the programs share: the numbers and files that their arguments name, what they complain of, and the lines that they write.
+#![tactic(auto)]
+
 mod answers;
 mod arguments;
 mod complaints;

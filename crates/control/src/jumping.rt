@@ -37,7 +37,7 @@ pub fn goto(rows: &Rows, number: LineNumber, machine: Machine) -> Turned
 }
 
 // What becomes of a GOSUB: its line is missing, or no record is left, or it goes there.
-#[derive(Drop)]
+#[derive(Clone, Copy)]
 pub enum Calling {
     NoLine,
     NoRecord,

@@ -1,4 +1,6 @@
 // Which statement comes next: IF, GOTO, GOSUB, RETURN, FOR and NEXT.
+#![tactic(auto)]
+
 mod branching;
 mod jumping;
 mod leading;

@@ -138,7 +138,7 @@ fn prompt(
 }
 
 // What LINE INPUT asks: where the text to print stands in its line, and the token of the variable.
-#[derive(Drop)]
+#[derive(Clone, Copy)]
 pub struct Query {
     pub from: Place,
     pub end: Place,

@@ -1,4 +1,6 @@
 // What a run says and is told: PRINT and LINE INPUT.
+#![tactic(auto)]
+
 mod inputting;
 mod outputting;
 

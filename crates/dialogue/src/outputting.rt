@@ -58,7 +58,7 @@ fn print_string(
 }
 
 // What was worked out is printed and let go; an error stands.
-#[derive(Drop)]
+#[derive(Clone, Copy)]
 pub enum Shown {
     On(Printer, Scanned),
     Fault(Error),

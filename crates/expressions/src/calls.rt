@@ -8,7 +8,7 @@ use grammar::{Want, Wanted, gives, wants};
 use words::Function;
 
 // The types of the arguments that were read; more than three are as good as four.
-#[derive(Drop)]
+#[derive(Clone, Copy)]
 pub enum Sorts {
     Zero,
     One(Sort),
@@ -50,7 +50,7 @@ fn meets(want: Want, sort: Sort) -> bool
 }
 
 // How arguments fit a function: it takes no such number of them, or it does and this is the type of the call.
-#[derive(Drop)]
+#[derive(Clone, Copy)]
 pub enum Fit {
     NoForm,
     Gives(Sort),

@@ -1,4 +1,6 @@
 // The readers of formulas: what follows one, its type, and how deep its parentheses nest.
+#![tactic(auto)]
+
 mod calls;
 mod nots;
 mod readers;

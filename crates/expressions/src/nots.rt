@@ -6,7 +6,7 @@ use scanner::token_at;
 use words::{Scanned, Token};
 
 // The token behind a chain of NOT, and whether an odd number of them stands in it.
-#[derive(Drop)]
+#[derive(Clone, Copy)]
 pub struct Nots {
     pub ahead: Scanned,
     pub odd: bool,

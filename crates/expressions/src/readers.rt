@@ -22,7 +22,7 @@ use words::{Function, Place, Scanned, Sign, Token};
 
 // A formula does not read, or it does: the token that follows it, its type, and how deep its parentheses nest, where more than
 // eight are nine and the type is wrong.
-#[derive(Drop)]
+#[derive(Clone, Copy)]
 pub enum FormulaRead {
     Bad,
     Good {
@@ -37,7 +37,7 @@ impl FormulaRead {
 }
 
 // The arguments that were read.
-#[derive(Drop)]
+#[derive(Clone, Copy)]
 struct Taken {
     sorts: Sorts,
     deepest: u8,

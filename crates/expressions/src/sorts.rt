@@ -7,7 +7,7 @@ use whole::Operator;
 use words::Kind;
 
 // A whole number, a text, or a formula in which some type is wrong.
-#[derive(Drop)]
+#[derive(Clone, Copy)]
 pub enum Sort {
     Whole,
     Text,

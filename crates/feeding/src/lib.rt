@@ -1,4 +1,6 @@
 // DATA, READ and RESTORE.
+#![tactic(auto)]
+
 mod reading;
 mod restoring;
 mod taking;

@@ -25,7 +25,7 @@ use whole::{Answer, Error, number_item};
 use words::{Kind, Name, Place, Scanned, Sign, Token};
 
 // The machine after a variable was set, or with which the run ends.
-#[derive(Drop)]
+#[derive(Clone, Copy)]
 pub enum Given {
     On(Machine),
     Fails(Machine, Error),

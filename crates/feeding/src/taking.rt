@@ -17,21 +17,21 @@ use statements::Lead;
 use words::{Place, Sign, Word};
 
 // An item's place in the text and its length, and where the items go on after it; or none is left.
-#[derive(Drop)]
+#[derive(Clone, Copy)]
 pub enum ItemTaken {
     Over,
     Is(Place, usize, Feed),
 }
 
 // Where the items of a statement begin, if it is a DATA statement.
-#[derive(Drop)]
+#[derive(Clone, Copy)]
 pub enum ItemsFound {
     At(Place),
     None,
 }
 
 // A line of the text, and the place in it where an item begins; or there is none.
-#[derive(Drop)]
+#[derive(Clone, Copy)]
 pub enum Sought {
     At(LineSpan, Place),
     None,

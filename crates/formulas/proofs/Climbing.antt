@@ -124,6 +124,7 @@ record Failed (e : Error) (o : Outcome) : Type 0 where
 
 failed : (e : Error) (space : List ℕ) (used : ℕ) (o : Outcome) → Agrees (worked.Fault e) space used o → Failed e o
 failed e space used (fault x room) h = record { left = room; is = rw h refl }
+failed e space used (Rattle.variables.specs.Strings.value _ _) h = elim h [ ]
 
 -- ---- a left side as far as it is worked out
 

@@ -82,6 +82,11 @@ module _ (op : ℕ → Answer) where
   fronted_agrees (worked.Whole w t) space used (value (strings.whole v) room) (e, h) = rw e ((answer_gives (op v) t space used).0 room h)
   fronted_agrees (worked.Text n t) space used (value (strings.text b) room) h = refl
   fronted_agrees (worked.Fault x) space used (fault e room) h = h
+  fronted_agrees (worked.Whole w t) space used (value (strings.text b) room) h = elim h [ ]
+  fronted_agrees (worked.Whole w t) space used (fault e room) h = elim h [ ]
+  fronted_agrees (worked.Text n t) space used (value (strings.whole v) room) h = elim h [ ]
+  fronted_agrees (worked.Text n t) space used (fault e room) h = elim h [ ]
+  fronted_agrees (worked.Fault x) space used (value _ room) h = elim h [ ]
 
   fronted_goes : (r : Worked) (u : Scanned) (space : List ℕ) → GoesOn r u → GoesOn (fronted r) u
   fronted_goes (worked.Whole w t) u space e = rw e (answer_gives (op w) u space 0).1
@@ -100,6 +105,11 @@ closed_agrees : (line : List ℕ) (r : Worked) (space : List ℕ) (used : ℕ) (
 closed_agrees line (worked.Whole w t) space used (value (strings.whole v) room) h = h
 closed_agrees line (worked.Text n t) space used (value (strings.text b) room) h = h
 closed_agrees line (worked.Fault x) space used (fault e room) h = h
+closed_agrees line (worked.Whole w t) space used (value (strings.text b) room) h = elim h [ ]
+closed_agrees line (worked.Whole w t) space used (fault e room) h = elim h [ ]
+closed_agrees line (worked.Text n t) space used (value (strings.whole v) room) h = elim h [ ]
+closed_agrees line (worked.Text n t) space used (fault e room) h = elim h [ ]
+closed_agrees line (worked.Fault x) space used (value _ room) h = elim h [ ]
 
 closed_goes : (line : List ℕ) (r : Worked) (u : Scanned) → GoesOn r u → GoesOn (closed_as line r) (after line u)
 closed_goes line (worked.Whole w t) u e = rw e refl

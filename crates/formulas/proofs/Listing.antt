@@ -122,7 +122,7 @@ module _ {line names words labels lengths : List ℕ} {function : Function} {thr
       rw j at k.longer
 
   below_three : count_of has < 3
-  below_three = omega (arith, fewer, c.counted, few function (formulas.count_of c.all) c.takes-them)
+  below_three = omega (arith, fewer, c.counted, few function (formulas.count_of c.all) c.takes_them)
 
   want_here : want_at (wants function (formulas.count_of c.all)) (formulas.count_of c.so_far) ≡ want_by function three (count_of has)
   want_here = c.wanted (formulas.count_of c.so_far) fewer ∙ ap (want_by function three) (sym c.counted)
@@ -133,7 +133,7 @@ module _ {line names words labels lengths : List ℕ} {function : Function} {thr
     pub next_ready : Ready line lengths now (used + n)
     next_ready = record {
       variables = omega (arith, c.ready.variables);
-      within = rw len c.ranges;
+      within = rw len c.fits;
       small = omega (arith, c.ready.small, c.long);
       short = c.ready.short;
     }
@@ -274,7 +274,7 @@ module _ {line names words labels lengths : List ℕ} {function : Function} {thr
             so_far = also c.so_far v.of;
             all = c.all;
             is = c.is;
-            takes_them = c.takes-them;
+            takes_them = c.takes_them;
             wanted = c.wanted;
             counted = ap count_of t.grown ∙ more_count (argument_of r) has below_three ∙ ap suc c.counted;
             lists = rw (b ∙ ap (token_at line) t.begins)

@@ -76,6 +76,11 @@ pub worth : (r : Worked) (space : List ℕ) (live : ℕ) (o : Outcome) → Fine 
 worth (worked.Whole w t) space live (value (whole v) room) f (e, h) =
     record { room = room; is = rw e refl; held = record { limit = h.limit; lives = omega (arith, h.lives) } }
 worth (worked.Text n t) space live (value (text b) room) f (e, (l, h)) = record { room = room; is = rw e refl; held = h }
+worth (worked.Whole w t) space live (value (text b) room) f x7 = elim x7 [ ]
+worth (worked.Whole w t) space live (fault _ _) f x7 = elim x7 [ ]
+worth (worked.Text n t) space live (value (whole v) room) f x6 = elim x6 [ ]
+worth (worked.Text n t) space live (fault _ _) f x7 = elim x7 [ ]
+worth (worked.Fault _) space live o f _ = elim f [ ]
 
 -- ---- what it leads to
 
@@ -150,6 +155,7 @@ module _ (w : Want) (vs : List Value) (space : List ℕ) (live : ℕ) where
   refused function three had (worked.Text n t) o e i a (m, f) =
       rw f (unmet (argument.Text n) o (worth (worked.Text n t) space live o tt a) (rw i m))
   refused function three had (worked.Fault x) (fault y room) e i a f = record { left = room; is = rw (← a, f) refl }
+  refused function three had (worked.Fault x) (value _ _) e i a f = elim a [ ]
 
   -- what does is the next one
   pub met_next : (a : Argument) (o : Outcome) (k : Worth a space live o) → meets_want w a ≡ true

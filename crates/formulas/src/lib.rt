@@ -1,4 +1,6 @@
 // Working out formulas over the variables and the lent string space.
+#![tactic(auto)]
+
 mod evaluating;
 mod operands;
 

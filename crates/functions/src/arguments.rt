@@ -10,7 +10,7 @@ use whole::Error;
 use words::{Function, Place, Scanned, Sign};
 
 // What an argument leads to once it is worked out: an error, the call with all of them, or one more; and the place after it.
-#[derive(Drop)]
+#[derive(Clone, Copy)]
 pub enum Taken {
     Fault(Error),
     All(Given, Place),

@@ -1,4 +1,6 @@
 // Functions: their arguments taken, and what they make of them.
+#![tactic(auto)]
+
 mod arguments;
 mod calling;
 

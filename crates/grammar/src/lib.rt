@@ -1,4 +1,6 @@
 // What the readers ask of tokens, the operators' levels, and what functions take and give.
+#![tactic(auto)]
+
 mod levels;
 mod tests;
 mod wanting;

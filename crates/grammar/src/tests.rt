@@ -8,14 +8,14 @@ use crate::levels::level_of;
 use whole::Operator;
 use words::{LineNumber, Sign, Token, Word};
 
-#[derive(Drop)]
+#[derive(Clone, Copy)]
 pub enum OperatorFound {
     Is(Operator),
     None,
 }
 
 // The line that a token numbers.
-#[derive(Drop)]
+#[derive(Clone, Copy)]
 pub enum NamedLine {
     Names(LineNumber),
     NoLine,

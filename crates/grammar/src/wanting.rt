@@ -6,7 +6,7 @@ ghost use Rattle.grammar.specs.bridge.Answers.{wanted_in, wanted_of};
 use words::{Function, Kind};
 
 // What is wanted of an argument.
-#[derive(Drop)]
+#[derive(Clone, Copy)]
 pub enum Want {
     Whole,
     Text,
@@ -14,7 +14,7 @@ pub enum Want {
 }
 
 // What a function wants of so many arguments, if it takes as many.
-#[derive(Drop)]
+#[derive(Clone, Copy)]
 pub enum Wanted {
     NoForm,
     One(Want),

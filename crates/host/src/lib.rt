@@ -1,4 +1,6 @@
 // What a host that is not written in Rattle calls: include/quernhem.h has the declarations in C.
+#![tactic(auto)]
+
 mod answers;
 mod boxes;
 mod indexing;

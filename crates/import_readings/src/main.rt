@@ -1,5 +1,7 @@
 // import_readings FILE [ROOM]
 // Writes a line for each reading in a file of an old machine; or one line: refused, the number and the place.
+#![tactic(auto)]
+
 mod answers;
 
 ghost use Rattle.std.specs.Prelude.{◌≡◌, ◌≤◌, length};

@@ -11,7 +11,7 @@ use rows::Row;
 use words::{LineNumber, Place};
 
 // Where a line starts, or that there is none.
-#[derive(Drop)]
+#[derive(Clone, Copy)]
 pub enum LineStart {
     At(Place),
     Missing,

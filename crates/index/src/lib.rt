@@ -1,5 +1,7 @@
 // The index beside a text: the table of its lines that a run goes by, and the pairs of a line that is named and a line that names it; made
 // from the text, tested against it, and asked without it.
+#![tactic(auto)]
+
 mod asking;
 mod layout;
 mod making;

@@ -10,7 +10,7 @@ use rows::{Row, make_rows};
 use words::Place;
 
 // What indexing answers: the index was made; or the text is refused, and the place.
-#[derive(Drop)]
+#[derive(Clone, Copy)]
 pub enum Indexed {
     Fine,
     Refused(Refusal, Place),

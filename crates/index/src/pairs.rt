@@ -18,7 +18,7 @@ use statements::statement_at;
 use words::Place;
 
 // How many pairs there are, or that there is no room for one more.
-#[derive(Drop)]
+#[derive(Clone, Copy)]
 pub enum Noted {
     Count(usize),
     Full,

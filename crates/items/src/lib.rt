@@ -1,4 +1,6 @@
 // The items of a DATA statement, read by bytes and not by tokens.
+#![tactic(auto)]
+
 mod reading;
 
 pub use reading::{Item, ItemRead, item_at};

@@ -6,7 +6,7 @@ use scanner::{Run, run_end};
 use words::{Place, byte_at};
 
 // Where the bytes of an item stand, the place of what ends it, and whether that is a comma: then another item follows.
-#[derive(Drop)]
+#[derive(Clone, Copy)]
 pub struct Item {
     pub from: Place,
     pub len: usize,
@@ -14,7 +14,7 @@ pub struct Item {
     pub more: bool,
 }
 
-#[derive(Drop)]
+#[derive(Clone, Copy)]
 pub enum ItemRead {
     Bad,
     Good(Item),

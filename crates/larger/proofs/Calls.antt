@@ -23,7 +23,7 @@ use Rattle.promises.specs.Demands.{ran_of}
 use Rattle.promises.proofs.Boxes.{box_refuses_exactly}
 use Rattle.promises.proofs.Limits.Refusals.{refused_numbered}
 use Rattle.promises.proofs.Limits.Bounds.{strings_within}
-use Rattle.promises.proofs.Waiting.Goals.{live-is-exact}
+use Rattle.promises.proofs.Waiting.Needs.{live_is_exact}
 use Rattle.larger.specs.Larger.{recipe_without_fre, WithZeros, MoreSpaceSame, BoxMoreSpaceSame}
 use Rattle.larger.proofs.Runs.{widened_ran, SameRun, same, lacked, run_same}
 
@@ -73,7 +73,7 @@ alike text input room narrow wide records budget free longer small taken enough 
       stacks = λ before before' l. rw (e, taken) (ap (λ n. replicate n blank_record) l);
       spaces = with_zeros (run.space_after second wide) (run.space_after first narrow) (length wide - length narrow)
           (rw (e, taken) (filled_up (joined_strings vs) (string_bytes vs) (length narrow) (length wide)
-          (strings_within live-is-exact text input (lent_by narrow room records) budget) longer));
+          (strings_within live_is_exact text input (lent_by narrow room records) budget) longer));
     }
 
 -- ---- the calls

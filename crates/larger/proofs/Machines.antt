@@ -75,6 +75,7 @@ module _ {k : ℕ} where
   worked_same go s (values v n) h = rw n.is (h v _ (record { small = s.small; held = s.held }))
   worked_same go s (faults n) h = rw n.is failed
   worked_same go s (on_left e) h = rw e lacked
+  worked_same {m = m} {o = o} go s (Rattle.laws.proofs.Rooms.on_right {e = e} {r = r} x5) h = elim x5 [ ]
 
   pub formula_same : (f : Formula) (m : Machine) (go : Value → Machine → Next) → FreeFormula f → Apt k m → ((v : Value) → Alike k (go v))
       → Same k (worked m (value_of f m.variables (room_of m)) go)

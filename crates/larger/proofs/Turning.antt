@@ -153,7 +153,7 @@ module _ (k : ℕ) where
       let t = take_line (b ∷ rest) in
       let n = with_input m t.left (m.taken + (length m.input - length t.left)) in
       either_same (ltb longest_input_line (length t.bytes)) failed
-      (worked_same _ (record { small = s.small; held = s.held })
+      (worked_same {m = n} _ (record { small = s.small; held = s.held })
       (wider_makes k t.bytes (room_of n) (room_of (widened k n)) (record { small = s.small; is = refl }))
       (λ x o u. filled_same v.kind v.telling t.bytes o after u a))
 

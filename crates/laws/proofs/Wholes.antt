@@ -17,7 +17,7 @@ use Rattle.variables.specs.Strings.{whole, Room, Outcome, value, let_all_go}
 use Rattle.variables.specs.Variables.{Variables}
 use Rattle.operators.specs.Values.{value_of}
 use Rattle.promises.specs.Unfinished.{ByValue}
-use Rattle.promises.proofs.Waiting.Goals.{live-is-exact}
+use Rattle.promises.proofs.Waiting.Needs.{live_is_exact}
 use Rattle.laws.specs.Laws.{without_fre, Gives, NotOfAnd, lowest, minus_one, excepted, DivisionComesBack}
 use Rattle.laws.proofs.Rooms.{Agree, values, SameSpace, Nothing, same_in_same_space}
 
@@ -35,12 +35,13 @@ pub record Steady (vars : Variables) (room : Room) (f : Formula) (w : ℕ) : Typ
 leaves : (f : Formula) (vars : Variables) (before : Room) (w : ℕ) (after : Room) → value_of f vars before ≡ value (whole w) after
     → SameSpace before after
 leaves f vars before w after e =
-    let grown : ByValue before (value (whole w) after) = rw e at (live-is-exact.formulas f vars before) in
+    let grown : ByValue before (value (whole w) after) = rw e at (live_is_exact.formulas f vars before) in
     record { limit = grown.limit; live = omega (arith, grown.live) }
 
 alike : {w : ℕ} {before after : Room} {o : Outcome} → SameSpace before after → Agree SameSpace Nothing (value (whole w) after) o
     → (last : Room) × (o ≡ value (whole w) last) × SameSpace before last
 alike n (values v {s = s} m) = (s, refl, record { limit = m.limit ∙ n.limit; live = m.live ∙ n.live })
+alike {w = w} {before = before} {after = after} n (Rattle.laws.proofs.Rooms.on_right {e = e} {r = r} x4) = elim x4 [ ]
 
 steady : {vars : Variables} {room : Room} {f : Formula} {w : ℕ} → Gives vars room f (whole w) → Steady vars room f w
 steady {vars} {room} {f} {w} g = record {

@@ -1,4 +1,6 @@
 // Loading a recipe: the lines of a text, what is refused, and finding a line by its number.
+#![tactic(auto)]
+
 mod lines;
 mod loading;
 mod refusals;

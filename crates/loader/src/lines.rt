@@ -6,21 +6,21 @@ use whole::{Magnitude, leading_digits};
 use words::{LineNumber, Place};
 
 // Where a line ends, its end not counted, and where the next one begins.
-#[derive(Drop)]
+#[derive(Clone, Copy)]
 pub struct Extent {
     pub end: Place,
     pub next: Place,
 }
 
 // The number that a line begins with, and how many digits it has; or no number of a line.
-#[derive(Drop)]
+#[derive(Clone, Copy)]
 pub enum NumberFound {
     Is(LineNumber, usize),
     None,
 }
 
 // A line in its text: its number, where it begins, where the bytes after the number begin and end, and where the next begins.
-#[derive(Drop)]
+#[derive(Clone, Copy)]
 pub struct LineSpan {
     pub number: LineNumber,
     pub place: Place,
@@ -29,7 +29,7 @@ pub struct LineSpan {
     pub next: Place,
 }
 
-#[derive(Drop)]
+#[derive(Clone, Copy)]
 pub enum LineFound {
     Is(LineSpan),
     None,

@@ -8,7 +8,7 @@ use crate::refusals::Refusal;
 use words::{LineNumber, Place};
 
 // What loading answers: fine, or refused and the place.
-#[derive(Drop)]
+#[derive(Clone, Copy)]
 pub enum Loaded {
     Fine,
     Refused(Refusal, Place),
@@ -23,7 +23,7 @@ impl Loaded {
 }
 
 // What one line is judged: good, with its number, or refused for a byte of it.
-#[derive(Drop)]
+#[derive(Clone, Copy)]
 pub enum Judged {
     Good(LineNumber),
     Bad(Refusal, Place),

@@ -1,4 +1,6 @@
 // What a run has besides the memory that is lent.
+#![tactic(auto)]
+
 mod loops;
 mod positions;
 mod printing;

@@ -6,7 +6,7 @@ use words::Place;
 
 // A place to come back to: the line, by where it begins in the text, and the place in it of the next statement, unless the line is
 // over.
-#[derive(Drop)]
+#[derive(Clone, Copy)]
 pub struct Position {
     pub line: Place,
     pub at: Place,
@@ -14,7 +14,7 @@ pub struct Position {
 }
 
 // What a statement comes to: the run goes on at a place, or at a line's start, or it ends.
-#[derive(Drop)]
+#[derive(Clone, Copy)]
 pub enum Next {
     On(Position),
     Enter(Place),
@@ -24,7 +24,7 @@ pub enum Next {
 }
 
 // The machine after a statement, where the run goes on, and the record that is written; a slot past the last writes none.
-#[derive(Drop)]
+#[derive(Clone, Copy)]
 pub struct Turned {
     pub machine: Machine,
     pub next: Next,

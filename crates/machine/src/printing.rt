@@ -8,7 +8,7 @@ ghost use Rattle.whole.specs.Bytes.{blank};
 use crate::state::Printer;
 use space::{Offset, copy_in};
 
-#[derive(Drop)]
+#[derive(Clone, Copy)]
 pub struct Printed {
     pub ok: bool,
     pub printer: Printer,

@@ -9,7 +9,7 @@ use words::Place;
 // A FOR's: its variable's entry among the number variables, limit and step; a GOSUB's; or a WHILE's. All have the place to come back to. Numbers
 // alone: a host may lend any bytes, so every kind but a FOR's and a WHILE's is a GOSUB's, and every number but 0 says that the line is over.
 #[repr(C)]
-#[derive(Drop)]
+#[derive(Clone, Copy)]
 pub struct Record {
     pub kind: u8,
     pub over: u8,
@@ -25,7 +25,7 @@ pub struct Record {
     pub close: usize,
 }
 
-#[derive(Drop)]
+#[derive(Clone, Copy)]
 pub enum Found {
     At(usize),
     None,
@@ -33,7 +33,7 @@ pub enum Found {
 
 // The record that a statement asks for, by its kind: none, the nearest GOSUB's, the topmost loop's, or that of the loop of the variable
 // at an entry.
-#[derive(Drop)]
+#[derive(Clone, Copy)]
 pub struct Sought {
     pub kind: u8,
     pub slot: usize,

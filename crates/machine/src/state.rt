@@ -6,7 +6,7 @@ use space::Offset;
 use words::Place;
 
 // The bytes since the last byte 10, and how many bytes were written.
-#[derive(Drop)]
+#[derive(Clone, Copy)]
 pub struct Printer {
     pub column: usize,
     pub written: usize,
@@ -14,7 +14,7 @@ pub struct Printer {
 
 // Where the items of DATA go on: a line, by where it begins in the text, and a place in it. Inside a DATA statement the next item begins
 // there; else it is the first of the statements from there on.
-#[derive(Drop)]
+#[derive(Clone, Copy)]
 pub struct Feed {
     pub line: Place,
     pub at: Place,
@@ -22,7 +22,7 @@ pub struct Feed {
 }
 
 // The variables' tables are lent beside it, and so are the records.
-#[derive(Drop)]
+#[derive(Clone, Copy)]
 pub struct Machine {
     // How many number variables there are, and how many string variables.
     pub numbers: usize,

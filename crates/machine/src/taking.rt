@@ -8,7 +8,7 @@ use whole::Error;
 use words::Place;
 
 // How far a line of the input goes, or why none is taken.
-#[derive(Drop)]
+#[derive(Clone, Copy)]
 pub enum InputLine {
     Is(Extent),
     Fault(Error),

@@ -3,7 +3,7 @@ ghost use Rattle.std.specs.Prelude.{◌≡◌, ◌<◌};
 ghost use Rattle.means.specs.Means.{greatest_common, mean_of};
 
 // A mean: `total` things over `count` in lowest terms.
-#[derive(Drop)]
+#[derive(Clone, Copy)]
 pub struct Mean {
     pub total: u64,
     pub count: u64,

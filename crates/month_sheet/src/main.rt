@@ -1,6 +1,8 @@
 // month_sheet FILE
 // Writes the totals of a sheet of run records, one a line: runs, runs of each outcome and error number, steps, mean steps; or one line:
 // refused and the number of the record that is no record, or one too many.
+#![tactic(auto)]
+
 use console::{complain, complain_of_reading, write};
 use sheet::{Report, Sheet, begin, finish, take};
 
@@ -11,13 +13,13 @@ const FILE: usize = 1;
 const MOST_PARTS: usize = 18446744073709551615;
 
 // Whether a file was read to its end.
-#[derive(Drop)]
+#[derive(Clone, Copy)]
 enum Reading {
     Whole,
     Failed,
 }
 
-#[derive(Drop)]
+#[derive(Clone, Copy)]
 struct FileTaken {
     sheet: Sheet,
     reading: Reading,

@@ -41,11 +41,15 @@ agrees_fits (worked.Whole w t) space used o h a = omega arith
 agrees_fits (worked.Text n t) space used (value (text b) room) h (e, (l, k)) =
     let i = taken_whole (drop used space) n (l ∙ ap length (sym e)) in let d = length-drop used space in omega arith
 agrees_fits (worked.Fault e) space used o h a = omega arith
+agrees_fits (worked.Text n t) space used (value (whole _) room) h a = elim a [ ]
+agrees_fits (worked.Text n t) space used (fault _ _) h a = elim a [ ]
 
 agrees_short : (r : Worked) (space : List ℕ) (used : ℕ) (o : Outcome) → Short o → Agrees r space used o → text_length r ≤ longest_string
 agrees_short (worked.Whole w t) space used o h a = omega arith
 agrees_short (worked.Text n t) space used (value (text b) room) h (e, (l, k)) = omega arith
 agrees_short (worked.Fault e) space used o h a = omega arith
+agrees_short (worked.Text n t) space used (value (whole _) room) h a = elim a [ ]
+agrees_short (worked.Text n t) space used (fault _ _) h a = elim a [ ]
 
 -- what operators and functions make is short
 produced_short : (bytes : List ℕ) (operands : List Value) (room : Room) → Short (produced bytes operands room)

@@ -215,6 +215,8 @@ pub sides_refused : (op : Operator) (left : Worked) (space : List ℕ) (used : �
 sides_refused op (worked.Text n t) space used (value (text b) room) right h e = rw e refl
 sides_refused op (worked.Whole w t) space used o right h e = absurd (false≢true (sym e))
 sides_refused op (worked.Fault x) space used o right h e = absurd (false≢true (sym e))
+sides_refused op (worked.Text n t) space used (value (whole _) room) right h e = elim h [ ]
+sides_refused op (worked.Text n t) space used (fault _ _) right h e = elim h [ ]
 
 -- the right side's answer after a left value
 right_agrees : (op : Operator) (a : Value) (next : ℕ) (right r : Worked) (space : List ℕ) (used : ℕ) (o : Outcome)
@@ -222,6 +224,11 @@ right_agrees : (op : Operator) (a : Value) (next : ℕ) (right r : Worked) (spac
 right_agrees op a next (worked.Whole b t) r space used (value (whole v) room) (f, h) m = rw f at (m.0 room h)
 right_agrees op a next (worked.Text n t) r space used (value (text b) room) (f, (g, h)) m = rw f at (m.0 room h)
 right_agrees op a next (worked.Fault e) r space used (fault f room) h m = rw m h
+right_agrees op a next (worked.Whole b t) r space used (value (text _) room) h m = elim h [ ]
+right_agrees op a next (worked.Whole b t) r space used (fault f room) h m = elim h [ ]
+right_agrees op a next (worked.Text n t) r space used (value (whole v) room) h m = elim h [ ]
+right_agrees op a next (worked.Text n t) r space used (fault f room) h m = elim h [ ]
+right_agrees op a next (worked.Fault e) r space used (value _ room) h m = elim h [ ]
 
 -- both answers: the left one over the space s, the right one over s', where the left one's text is kept
 pub sides_agree : (op : Operator) (left right r : Worked) (s s' : List ℕ) (used : ℕ) (o : Outcome) (go : Room → Outcome)
@@ -235,3 +242,8 @@ sides_agree op (worked.Text n t) right r s s' used (value (text b) room) go (f, 
     let e : take n (drop used s') ≡ b = part_kept s s' used n k ∙ f in
     rw y (rw e at (right_agrees op (text (take n (drop used s'))) (used + n) right r s' used (go room) (rights room h) m))
 sides_agree op (worked.Fault e) right r s s' used (fault f room) go h y l k rights m = rw m h
+sides_agree op (worked.Whole w t) right r s s' used (value (text b) room) go h y l k rights m = elim h [ ]
+sides_agree op (worked.Whole w t) right r s s' used (fault f room) go h y l k rights m = elim h [ ]
+sides_agree op (worked.Text n t) right r s s' used (value (whole v) room) go h y l k rights m = elim h [ ]
+sides_agree op (worked.Text n t) right r s s' used (fault f room) go h y l k rights m = elim h [ ]
+sides_agree op (worked.Fault e) right r s s' used (value _ room) go h y l k rights m = elim h [ ]

@@ -12,7 +12,7 @@ use variables::{Worked, answered, has_room, mismatch};
 use whole::{Answer, Error, Operator, Text, apply};
 use words::{Place, Scanned};
 
-#[derive(Drop)]
+#[derive(Clone, Copy)]
 pub enum Order {
     Less,
     Same,
@@ -20,7 +20,7 @@ pub enum Order {
 }
 
 // What a left side meets: the end of its formula, an operator that does not take it, or one that does, and the place after that.
-#[derive(Drop)]
+#[derive(Clone, Copy)]
 pub enum Turn {
     Ends,
     Refused,

@@ -1,4 +1,6 @@
 // Two-sided operators over values.
+#![tactic(auto)]
+
 mod applying;
 
 pub use applying::{Turn, joined, turn_of};

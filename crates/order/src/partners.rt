@@ -11,7 +11,7 @@ use statements::Lead;
 use words::{Place, Token, Word};
 
 // What a statement does to a pairing.
-#[derive(Drop)]
+#[derive(Clone, Copy)]
 pub enum Bracket {
     Opens,
     Closes,
@@ -19,7 +19,7 @@ pub enum Bracket {
 }
 
 // How many wait for one that closes; or this one closes while none waits.
-#[derive(Drop)]
+#[derive(Clone, Copy)]
 pub enum Waiting {
     Here,
     Still(usize),

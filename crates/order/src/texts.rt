@@ -12,14 +12,14 @@ use statements::{Lead, lead_at, statement_led};
 use words::Place;
 
 // A statement of a text: its line, and its place among the bytes after the line's number.
-#[derive(Drop)]
+#[derive(Clone, Copy)]
 pub struct Spot {
     pub line: LineSpan,
     pub at: Place,
 }
 
 // At a statement, or past the last.
-#[derive(Drop)]
+#[derive(Clone, Copy)]
 pub enum Walk {
     At(Spot),
     Over,

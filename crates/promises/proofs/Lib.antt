@@ -22,3 +22,4 @@ pub mod Counting
 pub mod Questions
 pub mod Seven
 pub mod Pairs
+pub mod TheSame

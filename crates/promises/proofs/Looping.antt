@@ -2,7 +2,7 @@
 use mathlib.Core.Path.{◌≡◌, refl}
 use mathlib.Core.Bool.{Bool, true, false, false≢true}
 use mathlib.Core.List.{List, [], ◌∷◌}
-use Prim.Native.Nat.{ℕ, zero, suc, ◌+◌}
+use Prim.Native.Nat.{ℕ, zero, suc, ◌+◌, ◌-◌}
 use lib.Dec.{ltb, leb, eqb}
 use lib.IntN.{ℤ, pos, negsuc}
 use lib.ListN.{length}
@@ -26,7 +26,7 @@ use Rattle.variables.specs.Strings.{Value, whole, text, Outcome, value, fault, m
 use Rattle.variables.specs.Variables.{NumberVariable, word_of, set_number, has_number, numbers_full, strings_full}
 use Rattle.operators.specs.Values.{value_of}
 use Rattle.machine.specs.Items.{fresh}
-use Rattle.machine.specs.Machine.{Position, Record, loop, call, again, Machine, room_of, with_items, with_step, noting, write, comma_blanks, is_call, is_loop, is_loop_of, Search, missing, found, sought, passed, longest_input_line}
+use Rattle.machine.specs.Machine.{Position, Record, loop, call, again, Machine, room_of, with_input, with_items, with_step, noting, write, comma_blanks, is_call, is_loop, is_loop_of, Search, missing, found, sought, passed, longest_input_line}
 use Rattle.statements.specs.Parts.{Rest, nothing, part, head_of, tail_of, place_of}
 use Rattle.machine.specs.Order.{Partner, none, some, next_for, wend_for}
 use Rattle.machine.specs.Repeats.{start_of, is_while, is_while_of}
@@ -208,7 +208,7 @@ input_made [] m v go r k = tt
 input_made (b ∷ s) m v go r k =
     let t = take_line (b ∷ s) in
     by_choice NextMade (ltb longest_input_line (length t.bytes)) tt
-    (worked_made _ (make t.bytes _) _ r (λ c n q. filled_made v.kind v.telling t.bytes n go q k))
+    (worked_made (with_input m t.left (m.taken + (length m.input - length t.left))) (make t.bytes _) _ r (λ c n q. filled_made v.kind v.telling t.bytes n go q k))
 
 given_made : (k : Kind) (name : Telling) (b : List ℕ) (m : Machine) (go : Machine → Next) → MachineMade m → Continues go → NextMade (given k name b m go)
 given_made kind.Whole name b m go r k = by_number (number_item b)

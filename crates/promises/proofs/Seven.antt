@@ -83,6 +83,8 @@ module _ (program : List ℕ) (o : Machine) where
       ap (λ z. (running n program (following (line_number_of lines) z)).ending) (f (tail_of p))
       ∙ ap (λ (r : Ran). r.ending) (over_stays n program (ends_with (Failed OutOfMemory (line_number_of lines)) o))
   running_ends (suc n) (at m lines p) ls q x k (asks.later d) f = running_ends n (turn program m lines p) ls q x k d f
+  running_ends zero s ls q x k x4 f = elim x4 [ ]
+  running_ends (suc n) (finished _) ls q x k x9 f = elim x9 [ ]
 
 pub lacked_records_end : LackedRecordsEnd
 unfolding run_of

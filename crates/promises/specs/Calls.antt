@@ -9,10 +9,14 @@ use Rattle.runner.specs.Run as run
 use Rattle.runner.specs.Run.{run_of}
 use Rattle.host.specs.Calls.{HasRun}
 use Rattle.calls.specs.Lent as lent
-use Rattle.checker.proofs as checker
-use Rattle.asking.proofs as asking
-use Rattle.runner.proofs as runner
-use Rattle.host.proofs as host
+use Rattle.checker.specs.Check.{check_of}
+use Rattle.asking.specs.Asking.{ask_of}
+use Rattle.blocks.specs.Blocks.{tables_in}
+use Rattle.host.specs.Answers.{verdict_in, found_in}
+use Rattle.checker.specs.contracts as checker
+use Rattle.asking.specs.contracts as asking
+use Rattle.runner.specs.contracts as runner
+use Rattle.host.specs.contracts as host
 
 -- ---- `run(text, input, space, room, index, stack, budget, tables)`
 
@@ -66,22 +70,28 @@ tables_before c = c.passed.1.1.1.1.1.1.1.0
 
 -- ---- `check_recipe(text)`
 
+abbrev pub CheckAllows : lent.Allows checker.check_recipe.ended
+CheckAllows lifetimes a r e = r ≡ check_of a.0.now
+
 abbrev pub CheckCall : Type 0
-CheckCall = Call checker.check_recipe.Kinds.ps checker.check_recipe.Kinds.r checker.check_recipe.Reads.Post
+CheckCall = lent.Call checker.check_recipe.ended CheckAllows
 
 abbrev pub ChecksAlways : Type 0
-ChecksAlways = Always checker.check_recipe.Kinds.ps checker.check_recipe.Kinds.r checker.check_recipe.Reads.Post
+ChecksAlways = lent.Always checker.check_recipe.ended CheckAllows
 
 abbrev pub recipe_of : CheckCall → List ℕ
 recipe_of c = c.passed.0.now
 
 -- ---- `ask(tables, space, name)`
 
+abbrev pub AskAllows : lent.Allows asking.ask.ended
+AskAllows lifetimes a r e = r ≡ ask_of a.0 (length a.1.0.now) a.1.1.0.now
+
 abbrev pub AskCall : Type 0
-AskCall = Call asking.ask.Kinds.ps asking.ask.Kinds.r asking.ask.Reads.Post
+AskCall = lent.Call asking.ask.ended AskAllows
 
 abbrev pub AsksAlways : Type 0
-AsksAlways = Always asking.ask.Kinds.ps asking.ask.Kinds.r asking.ask.Reads.Post
+AsksAlways = lent.Always asking.ask.ended AskAllows
 
 abbrev pub tables_handed : AskCall → Tables
 tables_handed c = c.passed.0
@@ -161,11 +171,14 @@ refused_word = 4
 
 -- ---- `quernhem_check(text, verdict)`
 
+abbrev pub CheckBoxAllows : lent.Allows host.quernhem_check.ended
+CheckBoxAllows lifetimes a r e = e.1.0.now ≡ verdict_in (check_of a.0.now)
+
 abbrev pub CheckBox : Type 0
-CheckBox = Call host.quernhem_check.Kinds.ps host.quernhem_check.Kinds.r host.quernhem_check.Reads.Post
+CheckBox = lent.Call host.quernhem_check.ended CheckBoxAllows
 
 abbrev pub BoxChecksAlways : Type 0
-BoxChecksAlways = Always host.quernhem_check.Kinds.ps host.quernhem_check.Kinds.r host.quernhem_check.Reads.Post
+BoxChecksAlways = lent.Always host.quernhem_check.ended CheckBoxAllows
 
 abbrev pub recipe_in : CheckBox → List ℕ
 recipe_in c = c.passed.0.now
@@ -176,11 +189,14 @@ passed_word c = get_or c.left.1.0 0 0
 
 -- ---- `quernhem_ask(tables, space, name, found)`
 
+abbrev pub AskBoxAllows : lent.Allows host.quernhem_ask.ended
+AskBoxAllows lifetimes a r e = e.1.1.1.0.now ≡ found_in (ask_of (tables_in a.0.now) (length a.1.0.now) a.1.1.0.now)
+
 abbrev pub AskBox : Type 0
-AskBox = Call host.quernhem_ask.Kinds.ps host.quernhem_ask.Kinds.r host.quernhem_ask.Reads.Post
+AskBox = lent.Call host.quernhem_ask.ended AskBoxAllows
 
 abbrev pub BoxAsksAlways : Type 0
-BoxAsksAlways = Always host.quernhem_ask.Kinds.ps host.quernhem_ask.Kinds.r host.quernhem_ask.Reads.Post
+BoxAsksAlways = lent.Always host.quernhem_ask.ended AskBoxAllows
 
 abbrev pub block_asked : AskBox → List ℕ
 block_asked c = c.passed.0.now

@@ -8,13 +8,13 @@ use runner::{Outcome, Ran, run_with};
 use variables::Tables;
 
 // The check did not pass it, and nothing was run; or how the run came out.
-#[derive(Drop)]
+#[derive(Clone, Copy)]
 pub enum CheckedOutcome {
     NotPassed(Verdict),
     Run(Outcome),
 }
 
-#[derive(Drop)]
+#[derive(Clone, Copy)]
 pub struct CheckedRun {
     pub outcome: CheckedOutcome,
     pub steps: u32,

@@ -1,5 +1,7 @@
 // What is promised of the check and the run together: a run of what the check has passed. The demands and why they hold are in
 // specs/ and proofs/.
+#![tactic(auto)]
+
 mod guarding;
 
 pub use guarding::{CheckedOutcome, CheckedRun, run_checked};

@@ -9,7 +9,7 @@ use statements::{StatementRead, statement_at};
 use words::Place;
 
 // Where a statement begins, if there is one.
-#[derive(Drop)]
+#[derive(Clone, Copy)]
 pub enum Start {
     At(Place),
     None,

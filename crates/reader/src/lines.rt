@@ -9,7 +9,7 @@ use statements::{Own, StatementRead, statement_at};
 use words::Place;
 
 // A line does not read, is nested too deep, or reads; then whether all its types are right.
-#[derive(Drop)]
+#[derive(Clone, Copy)]
 pub enum Judged {
     Unreadable,
     TooDeep,
@@ -17,7 +17,7 @@ pub enum Judged {
 }
 
 // What is known of the statements so far: how deep they nest, and whether their types are right.
-#[derive(Drop)]
+#[derive(Clone, Copy)]
 pub struct Tally {
     pub deepest: u8,
     pub typed: bool,

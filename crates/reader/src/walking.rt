@@ -7,7 +7,7 @@ use statements::StatementRead;
 use words::{Place, Scanned, Sign, Word};
 
 // What follows a statement in text order: another, perhaps the first of a part; ELSE and then one; the line's end; or what may not.
-#[derive(Drop)]
+#[derive(Clone, Copy)]
 pub enum Follow {
     Statement(Place),
     Part(Place),
@@ -17,7 +17,7 @@ pub enum Follow {
 }
 
 // Where a walk stands: at a statement, perhaps the first of a part, and how many IFs before it have no ELSE.
-#[derive(Drop)]
+#[derive(Clone, Copy)]
 pub struct Walk {
     pub at: Place,
     pub first: bool,
@@ -25,7 +25,7 @@ pub struct Walk {
 }
 
 // What a walk comes to after a statement: another; an ELSE that no IF waits for; the line's end; or what may not follow.
-#[derive(Drop)]
+#[derive(Clone, Copy)]
 pub enum Onward {
     Statement(Walk),
     Else(Place),

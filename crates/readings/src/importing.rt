@@ -10,7 +10,7 @@ use space::{Offset, copy_in};
 use words::Place;
 
 // What importing answers: how many bytes were written, or refused and the place.
-#[derive(Drop)]
+#[derive(Clone, Copy)]
 pub enum Imported {
     Done(usize),
     Refused(Refusal, Place),

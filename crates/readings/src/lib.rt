@@ -1,4 +1,6 @@
 // Readings from the old machines: four bytes made a single or a double, and a file of them made lines.
+#![tactic(auto)]
+
 mod importing;
 mod lines;
 mod values;

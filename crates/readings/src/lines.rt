@@ -8,7 +8,7 @@ use crate::values::Reading;
 use whole::hex_digit;
 
 // The bytes of a line stand first.
-#[derive(Drop)]
+#[derive(Clone, Copy)]
 pub(crate) struct Line {
     pub bytes: [u8; Line::LONGEST],
     pub len: usize,

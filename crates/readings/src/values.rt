@@ -6,7 +6,7 @@ ghost use Rattle.readings.specs.Values.{mantissa_of, exactly, reading_of, exact_
 ghost use Rattle.readings.specs.Bits.{Denotes};
 
 // What a reading is made into.
-#[derive(Drop)]
+#[derive(Clone, Copy)]
 pub enum Reading {
     Single(f32),
     Double(f64),

@@ -1,4 +1,6 @@
 // A run record read from a line of the month's sheet.
+#![tactic(auto)]
+
 mod reading;
 
 pub use reading::{Outcome, Recorded, Run, record_of};

@@ -8,7 +8,7 @@ use console::{Given, number_given};
 use words::LineNumber;
 
 // How a run came out; an error has its number.
-#[derive(Drop)]
+#[derive(Clone, Copy)]
 pub enum Outcome {
     Ended,
     Stopped,
@@ -16,14 +16,14 @@ pub enum Outcome {
     Error(u8),
 }
 
-#[derive(Drop)]
+#[derive(Clone, Copy)]
 pub struct Run {
     pub outcome: Outcome,
     pub steps: u32,
 }
 
 // What a line of the sheet is: the record of a run, or no record.
-#[derive(Drop)]
+#[derive(Clone, Copy)]
 pub enum Recorded {
     Is(Run),
     Bad,
@@ -36,7 +36,7 @@ impl Run {
 }
 
 // The outcome words, and any other word.
-#[derive(Drop)]
+#[derive(Clone, Copy)]
 pub enum OutcomeWord {
     Ended,
     Stopped,
@@ -46,14 +46,14 @@ pub enum OutcomeWord {
 }
 
 // The outcome that a word and a number tell together, if they go together.
-#[derive(Drop)]
+#[derive(Clone, Copy)]
 pub enum OutcomeFound {
     Is(Outcome),
     None,
 }
 
 // The number that a field holds, if it holds one as a record may.
-#[derive(Drop)]
+#[derive(Clone, Copy)]
 pub enum Figure {
     Is(u32),
     None,

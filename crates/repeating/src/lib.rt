@@ -1,4 +1,6 @@
 // WHILE and WEND.
+#![tactic(auto)]
+
 mod wends;
 mod whiles;
 

@@ -6,7 +6,7 @@ ghost use Rattle.rows.specs.bridge.Rows.{width, cell, count_of};
 use loader::Loaded;
 
 // A row by its number, counted from 0.
-#[derive(Drop)]
+#[derive(Clone, Copy)]
 pub struct Row(pub usize);
 
 impl Row {

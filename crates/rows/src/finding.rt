@@ -9,7 +9,7 @@ use crate::telling::span_in;
 use loader::LineFound;
 use words::{LineNumber, Place};
 
-#[derive(Drop)]
+#[derive(Clone, Copy)]
 pub enum RowFound {
     At(Row),
     None,

@@ -1,5 +1,7 @@
 // The lines of a text that loads as a table of numbers, made once a run: where each line is, whether it reads, and the line with a
 // number or at a place.
+#![tactic(auto)]
+
 mod cells;
 mod finding;
 mod making;

@@ -13,7 +13,7 @@ use variables::Tables;
 use whole::{Text, number_of};
 
 // How many bytes of the room are what was printed, and the line after them.
-#[derive(Drop)]
+#[derive(Clone, Copy)]
 pub struct Answer {
     pub written: usize,
     pub line: Text,

@@ -1,5 +1,7 @@
 // run_recipe RECIPE INPUT [SPACE [ROOM [BUDGET [RECORDS]]]]
 // Runs a recipe on an input, and writes what it prints and then a line: outcome, number, line (place if refused) and steps.
+#![tactic(auto)]
+
 mod answers;
 
 ghost use Rattle.std.specs.Prelude.{◌≡◌, ◌≤◌, length};
@@ -43,7 +45,7 @@ const USUAL_RECORDS: u32 = 32;
 const MOST_RECORDS: u32 = 257;
 
 // How many bytes of string space and of room for output are lent, the budget, and how many records there are.
-#[derive(Drop)]
+#[derive(Clone, Copy)]
 struct Limits {
     space: usize,
     room: usize,

@@ -17,28 +17,28 @@ use statements::{Lead, lead_at};
 use steps::do_statement;
 use variables::{NameTable, Tables, clean_up};
 
-#[derive(Drop)]
+#[derive(Clone, Copy)]
 pub struct Going {
     pub machine: Machine,
     pub standing: Standing,
 }
 
 // How a statement is led, and the record that it asks for.
-#[derive(Drop)]
+#[derive(Clone, Copy)]
 pub struct Asked {
     pub lead: Lead,
     pub sought: Sought,
 }
 
 // The record that was found, or a blank one.
-#[derive(Drop)]
+#[derive(Clone, Copy)]
 pub struct Lookup {
     pub found: Found,
     pub entry: Record,
 }
 
 // The run after a statement, and the record that is written; a slot past the last writes none.
-#[derive(Drop)]
+#[derive(Clone, Copy)]
 pub struct Acted {
     pub going: Going,
     pub slot: usize,

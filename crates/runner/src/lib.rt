@@ -1,4 +1,6 @@
 // Running a recipe.
+#![tactic(auto)]
+
 mod going;
 mod lending;
 mod owning;

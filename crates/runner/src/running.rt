@@ -11,7 +11,7 @@ use variables::Tables;
 use whole::Error;
 use words::{LineNumber, Place};
 
-#[derive(Drop)]
+#[derive(Clone, Copy)]
 pub enum Outcome {
     Ended,
     Stopped(LineNumber),
@@ -20,7 +20,7 @@ pub enum Outcome {
     Refused(Refusal, Place),
 }
 
-#[derive(Drop)]
+#[derive(Clone, Copy)]
 pub struct Ran {
     pub outcome: Outcome,
     pub steps: u32,
@@ -30,7 +30,7 @@ pub struct Ran {
 }
 
 // What the loop comes to: how the run ended, and how many variables there are of each kind.
-#[derive(Drop)]
+#[derive(Clone, Copy)]
 pub struct Done {
     pub outcome: Outcome,
     pub steps: u32,
@@ -54,7 +54,7 @@ pub fn is_refused(outcome: Outcome) -> bool
 }
 
 // What is tested before a run: whether it goes, or why not.
-#[derive(Drop)]
+#[derive(Clone, Copy)]
 pub struct Before {
     pub fine: bool,
     pub refusal: Refusal,

@@ -12,7 +12,7 @@ use rows::{Row, RowFound, Rows, has_row, number_in, place_in, row_at, verdict_in
 use whole::Error;
 use words::Place;
 
-#[derive(Drop)]
+#[derive(Clone, Copy)]
 pub enum Standing {
     At(Row, Place),
     Over(Outcome),

@@ -1,4 +1,6 @@
 // The token at a place of a line, and the runs of bytes that tokens are made of.
+#![tactic(auto)]
+
 mod runs;
 mod tokens;
 

@@ -8,7 +8,7 @@ use whole::is_digit;
 use words::{Place, capital, is_letter};
 
 // The runs of bytes that a token or a bare item of DATA is made of, and the blanks before it.
-#[derive(Drop)]
+#[derive(Clone, Copy)]
 pub enum Run {
     Blank,
     Word,

@@ -12,7 +12,7 @@ use words::{
 };
 
 // What follows a word at once.
-#[derive(Drop)]
+#[derive(Clone, Copy)]
 pub enum Mark {
     Dollar,
     Percent,

@@ -9,14 +9,14 @@ use space::{Offset, clear_from, copy_in, fits};
 use words::Place;
 
 // What a buffer holds of a text: so many bytes of it; or nothing of use, because more came than a text may have.
-#[derive(Drop)]
+#[derive(Clone, Copy)]
 pub enum Receipt {
     Holds(usize),
     TooMuch,
 }
 
 // A buffer is ready, with the receipt to begin with; or refused and the place.
-#[derive(Drop)]
+#[derive(Clone, Copy)]
 pub enum Begun {
     Ready(Receipt),
     Refused(Refusal, Place),

@@ -1,4 +1,6 @@
 // The month's sheet: run records, one a line, taken in parts of any size, and their exact totals as lines.
+#![tactic(auto)]
+
 mod reports;
 mod taking;
 

@@ -13,7 +13,7 @@ use tallies::Tally;
 use whole::Text;
 
 // Lines: their bytes stand first, zeros after them.
-#[derive(Drop)]
+#[derive(Clone, Copy)]
 pub struct Report {
     pub bytes: [u8; Report::ROOM],
     pub len: usize,

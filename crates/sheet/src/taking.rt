@@ -10,7 +10,7 @@ use tallies::{Count, Standing, Tally, with_record};
 use whole::Text;
 
 // What is held between two parts: the line that is not ended yet, as far as a text goes, and the count of those before it.
-#[derive(Drop)]
+#[derive(Clone, Copy)]
 pub struct Sheet {
     pub line: Text,
     pub count: Count,

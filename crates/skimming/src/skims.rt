@@ -10,7 +10,7 @@ use grammar::LOOSEST;
 use words::Scanned;
 
 // A formula does not read, or it does, and this token follows it.
-#[derive(Drop)]
+#[derive(Clone, Copy)]
 pub enum Skimmed {
     Bad,
     Good { ahead: Scanned },

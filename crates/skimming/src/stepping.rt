@@ -12,14 +12,14 @@ use scanner::token_at;
 use words::{Function, Place, Scanned, Sign, Token};
 
 // Where a formula stands: an operand is wanted, at a level, or was read.
-#[derive(Drop)]
+#[derive(Clone, Copy)]
 pub enum Phase {
     Wants(u8),
     Has,
 }
 
 // What a token does.
-#[derive(Drop)]
+#[derive(Clone, Copy)]
 pub enum Step {
     // it cannot stand here
     Refused,

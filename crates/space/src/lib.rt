@@ -1,4 +1,6 @@
 // Exact moves of bytes in a lent slice.
+#![tactic(auto)]
+
 mod moves;
 mod offsets;
 

@@ -1,3 +1,3 @@
 // The offset of a byte in the string space, a kind of number of its own.
-#[derive(Drop)]
+#[derive(Clone, Copy)]
 pub struct Offset(pub usize);

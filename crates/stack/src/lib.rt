@@ -1,5 +1,7 @@
 // The records that FOR, GOSUB and WHILE leave, in a slice that the host lends: thin functions over it. What decides takes and gives
 // records by value.
+#![tactic(auto)]
+
 mod seeking;
 mod slots;
 

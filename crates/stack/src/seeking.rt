@@ -7,7 +7,7 @@ use crate::slots::at;
 use machine::{Found, Record, Sought, is_sought, passes};
 
 // How many records are left to look at, and what was found.
-#[derive(Drop)]
+#[derive(Clone, Copy)]
 pub struct Seek {
     pub left: usize,
     pub found: Found,

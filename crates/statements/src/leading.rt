@@ -8,7 +8,7 @@ use words::{Place, Scanned, Sign, Token, Word};
 
 // By its word, given or understood, and from this token on it then reads; or by nothing that begins a statement. ELSE leads an empty
 // one, and the token is what follows that; DATA's is its own word, since no token follows it.
-#[derive(Drop)]
+#[derive(Clone, Copy)]
 pub enum Lead {
     By(Word, Scanned),
     Nothing,

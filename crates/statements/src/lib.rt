@@ -1,4 +1,6 @@
 // The readers of statements.
+#![tactic(auto)]
+
 mod leading;
 mod reading;
 

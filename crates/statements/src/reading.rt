@@ -19,7 +19,7 @@ use words::{Name, Place, Scanned, Sign, Token, Word};
 
 // What is known of a statement by itself: the token that follows it, how deep its formulas nest, whether its types are right, and
 // the line that it names.
-#[derive(Drop)]
+#[derive(Clone, Copy)]
 pub struct Own {
     pub ahead: Scanned,
     pub deepest: u8,
@@ -28,7 +28,7 @@ pub struct Own {
 }
 
 // A statement does not read; it is done; or it is an IF, whose part begins after the token ahead.
-#[derive(Drop)]
+#[derive(Clone, Copy)]
 pub enum StatementRead {
     Bad,
     Done(Own),
@@ -36,7 +36,7 @@ pub enum StatementRead {
 }
 
 // The name that a token is.
-#[derive(Drop)]
+#[derive(Clone, Copy)]
 pub enum NameFound {
     Is(Name),
     None,
@@ -249,7 +249,7 @@ fn part_begins(line: &[u8], ahead: Scanned) -> bool
 }
 
 // A formula that stands in a FOR: the token that follows it, and what is known so far.
-#[derive(Drop)]
+#[derive(Clone, Copy)]
 pub enum Bound {
     Bad,
     Good {

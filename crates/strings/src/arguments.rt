@@ -5,14 +5,14 @@ ghost use Rattle.strings.specs.bridge.Memory.{argument_length, argument_word, fi
 ghost use Rattle.variables.specs.Strings.{longest_space};
 
 // A whole number, or a text of so many bytes.
-#[derive(Drop)]
+#[derive(Clone, Copy)]
 pub enum Argument {
     Whole(u16),
     Text(usize),
 }
 
 // Those worked out so far, at most three; their texts stand side by side.
-#[derive(Drop)]
+#[derive(Clone, Copy)]
 pub enum Given {
     None,
     One(Argument),

@@ -1,4 +1,6 @@
 // The arguments of a function, and what a function that gives a text makes of them.
+#![tactic(auto)]
+
 mod arguments;
 mod making;
 

@@ -18,7 +18,7 @@ use whole::{Error, Text, hex_text, str_text};
 use words::Function;
 
 // What a function that gives a text leads to, whatever token follows: a text of so many bytes, or an error.
-#[derive(Drop)]
+#[derive(Clone, Copy)]
 pub enum Reply {
     Text(usize),
     Fault(Error),

@@ -5,7 +5,7 @@ ghost use Rattle.tallies.specs.bridge.Counting.{no_runs, one_more, more_steps, c
 use records::{Outcome, Recorded, Run};
 
 // How many runs there are, of each outcome and of each error number, and the steps of all.
-#[derive(Drop)]
+#[derive(Clone, Copy)]
 pub struct Tally {
     pub runs: u32,
     pub ended: u32,
@@ -17,13 +17,13 @@ pub struct Tally {
 }
 
 // All records so far are good; or the first that is refused has this number.
-#[derive(Drop)]
+#[derive(Clone, Copy)]
 pub enum Standing {
     Good,
     Refused(u32),
 }
 
-#[derive(Drop)]
+#[derive(Clone, Copy)]
 pub struct Count {
     pub tally: Tally,
     pub standing: Standing,

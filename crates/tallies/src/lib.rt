@@ -1,4 +1,6 @@
 // Exact totals of run records, taken one after the other.
+#![tactic(auto)]
+
 mod counting;
 
 pub use counting::{Count, Standing, Tally, with_record};

@@ -1,4 +1,6 @@
 // How a statement ends, formulas worked out with the machine, and assignment: what all statements are made of.
+#![tactic(auto)]
+
 mod setting;
 mod turning;
 

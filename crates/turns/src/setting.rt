@@ -21,7 +21,7 @@ use whole::Error;
 use words::{Kind, Name, Place, Scanned, Token};
 
 // The machine after an assignment, and the variable's entry; or no room for a new variable.
-#[derive(Drop)]
+#[derive(Clone, Copy)]
 pub struct Stored {
     pub ok: bool,
     pub slot: usize,

@@ -53,7 +53,7 @@ first_among : {name : Telling} {ns : List Telling} {i : ℕ} (more : List Tellin
 first_among more (here e) = here e
 first_among more (later e f) = later e (first_among more f)
 
-first_from : (k : ℕ) {name : Telling} {ns : List Telling} {i : ℕ} → First name ns i → slot_from k ns name ≡ slot.At (k + i)
+first_from : {name : Telling} (k : ℕ) {ns : List Telling} {i : ℕ} → First name ns i → slot_from k ns name ≡ slot.At (k + i)
 unfolding slot_from
 first_from k (here e) = let z : k + 0 ≡ k = omega arith in rw (e, z)
 first_from k (later {i = i} e f) = let z : k + suc i ≡ suc k + i = omega arith in rw (e, z) (first_from (suc k) f)

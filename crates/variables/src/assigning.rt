@@ -12,7 +12,7 @@ use whole::Text;
 use words::{Name, telling_of};
 
 // A number was stored, or there is no room for a new variable: its entry, and how many number variables there are then.
-#[derive(Drop)]
+#[derive(Clone, Copy)]
 pub struct NumberPut {
     pub ok: bool,
     pub slot: usize,
@@ -20,7 +20,7 @@ pub struct NumberPut {
 }
 
 // The same of a string: how many string variables there are then, and where all their bytes end.
-#[derive(Drop)]
+#[derive(Clone, Copy)]
 pub struct StringPut {
     pub ok: bool,
     pub count: usize,

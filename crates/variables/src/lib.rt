@@ -1,4 +1,6 @@
 // The variables in their tables and their strings in the lent space: looking up, assignment.
+#![tactic(auto)]
+
 mod assigning;
 mod tables;
 mod values;

@@ -11,7 +11,7 @@ use words::{Name, character, is_told};
 pub type NameTable = [u8; Tables::NAMES];
 
 // The number variables: a name each, and a word.
-#[derive(Drop)]
+#[derive(Clone, Copy)]
 pub struct Numbers {
     pub names: NameTable,
     pub words: [u16; Tables::MOST],
@@ -19,14 +19,14 @@ pub struct Numbers {
 }
 
 // The string variables: a name each, and how many bytes they have in the string space, where they stand joined.
-#[derive(Drop)]
+#[derive(Clone, Copy)]
 pub struct Strings {
     pub names: NameTable,
     pub lengths: [u8; Tables::MOST],
     pub count: usize,
 }
 
-#[derive(Drop)]
+#[derive(Clone, Copy)]
 pub struct Tables {
     pub numbers: Numbers,
     pub strings: Strings,
@@ -56,7 +56,7 @@ impl Tables {
     }
 }
 
-#[derive(Drop)]
+#[derive(Clone, Copy)]
 pub enum Slot {
     At(usize),
     None,

@@ -7,7 +7,7 @@ use whole::{Answer, Error};
 use words::Scanned;
 
 // A whole number, or a text of so many bytes that stands from the old `used` on, and the token that follows; or an error.
-#[derive(Drop)]
+#[derive(Clone, Copy)]
 pub enum Worked {
     Whole(u16, Scanned),
     Text(usize, Scanned),

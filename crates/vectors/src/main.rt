@@ -1,6 +1,8 @@
 // Runs the stored cases. A case is a kind, six numbers of four bytes each, the low one first, and its recipe and input: how long the
 // recipe and the input are, how many bytes of string space and of room for output are lent, the budget, and how many records are lent.
 // Writes an answer a line.
+#![tactic(auto)]
+
 mod checks;
 mod runs;
 mod saying;

@@ -76,7 +76,7 @@ rem_small x y p q = omega (arith, mag_rem x y)
 -- ---- a number in 32 bits
 
 pub back_is : (z : ℤ) → mag z < 2 ^ 31 → back z ≡ z
-back_is z h = to_z-of_z (record { sfits = h })
+back_is z h = to_z-of_z {w = w32} {z = z} (record { sfits = h })
 
 -- a word is read as it is, and back
 pub word_read : (w : ℕ) → Fits w16 w → to_z w32 w ≡ pos w

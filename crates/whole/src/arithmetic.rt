@@ -7,14 +7,14 @@ ghost use Rattle.whole.specs.bridge.Wide.{back, Divides};
 use crate::errors::Error;
 
 // What an operation gives: a whole number, as its word, or the error that ends the run.
-#[derive(Drop)]
+#[derive(Clone, Copy)]
 pub enum Answer {
     Whole(u16),
     Fault(Error),
 }
 
 // The operators with two sides, in the order of the paper's list.
-#[derive(Drop)]
+#[derive(Clone, Copy)]
 pub enum Operator {
     Multiply,
     Divide,

@@ -7,14 +7,14 @@ use crate::arithmetic::Answer;
 use crate::errors::Error;
 
 // A value that fits 16 bits, or 'too large'.
-#[derive(Drop)]
+#[derive(Clone, Copy)]
 pub enum Magnitude {
     Fits(u16),
     TooLarge,
 }
 
 // The digits that bytes begin with: how many, and their value.
-#[derive(Drop)]
+#[derive(Clone, Copy)]
 pub struct Digits {
     pub count: usize,
     pub magnitude: Magnitude,

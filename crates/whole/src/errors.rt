@@ -2,7 +2,7 @@
 ghost use Rattle.std.specs.Prelude.{◌≡◌};
 ghost use Rattle.whole.specs.Errors.{error_number};
 
-#[derive(Drop)]
+#[derive(Clone, Copy)]
 pub enum Error {
     NextWithoutFor,
     Syntax,

@@ -1,5 +1,7 @@
 // Whole numbers from -32768 to 32767, held as 16-bit two's-complement words: what the operators answer,
 // how a number is written, and how digits are read.
+#![tactic(auto)]
+
 mod arithmetic;
 mod digits;
 mod errors;

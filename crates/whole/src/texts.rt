@@ -3,7 +3,7 @@ ghost use Rattle.std.specs.Prelude.{◌≡◌, List, [], ◌++◌, ℕ, suc, ◌
 ghost use Rattle.whole.specs.Texts.{longest_string, held, with_byte, digit_byte, numeral, signed_numeral, printed_number, hexadecimal};
 
 // The bytes of a text stand first, zeros after them.
-#[derive(Drop)]
+#[derive(Clone, Copy)]
 pub struct Text {
     pub bytes: [u8; Text::LONGEST],
     pub len: u8,

@@ -8,7 +8,7 @@ use crate::table::{BLANK, CLASSES, DIGIT, LETTER, QUOTE, SIGN};
 use whole::Operator;
 
 // What the reader tells a byte apart by.
-#[derive(Drop)]
+#[derive(Clone, Copy)]
 pub enum ByteClass {
     Letter,
     Digit,
@@ -19,7 +19,7 @@ pub enum ByteClass {
 }
 
 // The token that signs are.
-#[derive(Drop)]
+#[derive(Clone, Copy)]
 pub enum SignFound {
     Is(Token),
     None,

@@ -1,4 +1,6 @@
 // What can stand in a line: the classes of bytes, the signs, the reserved words, names, and the kinds of tokens.
+#![tactic(auto)]
+
 mod classes;
 mod names;
 mod places;

@@ -7,14 +7,14 @@ use crate::classes::{byte_at, capital};
 use crate::places::Place;
 
 // The two types of a value.
-#[derive(Drop)]
+#[derive(Clone, Copy)]
 pub enum Kind {
     Whole,
     Text,
 }
 
 // A name where it stands in a line, its `$` or `%` not counted.
-#[derive(Drop)]
+#[derive(Clone, Copy)]
 pub struct Name {
     pub at: u16,
     pub len: u16,

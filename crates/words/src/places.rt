@@ -1,7 +1,7 @@
 // Numbers of a kind of their own, so that a jump and a cursor can't be confused.
 
 // The number of a line.
-#[derive(Drop)]
+#[derive(Clone, Copy)]
 pub struct LineNumber(pub u16);
 
 impl LineNumber {
@@ -9,7 +9,7 @@ impl LineNumber {
 }
 
 // The place of a byte, counted from 0.
-#[derive(Drop)]
+#[derive(Clone, Copy)]
 pub struct Place(pub usize);
 
 impl Place {

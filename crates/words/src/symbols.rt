@@ -4,7 +4,7 @@ use crate::places::{LineNumber, Place};
 use whole::Operator;
 
 // The words of statements.
-#[derive(Drop)]
+#[derive(Clone, Copy)]
 pub enum Word {
     Let,
     Print,
@@ -31,7 +31,7 @@ pub enum Word {
 }
 
 // The functions; one whose name ends in `$` is named without it.
-#[derive(Drop)]
+#[derive(Clone, Copy)]
 pub enum Function {
     Len,
     Asc,
@@ -51,7 +51,7 @@ pub enum Function {
 }
 
 // The signs that are no operators, and the two that are not operators only.
-#[derive(Drop)]
+#[derive(Clone, Copy)]
 pub enum Sign {
     Open,
     Close,
@@ -64,14 +64,14 @@ pub enum Sign {
 }
 
 // The bytes between two quotes.
-#[derive(Drop)]
+#[derive(Clone, Copy)]
 pub struct Quotation {
     pub at: u16,
     pub len: u16,
 }
 
 // Digits up to 32767 are a number and a line number, those above up to 65529 a line number only.
-#[derive(Drop)]
+#[derive(Clone, Copy)]
 pub enum Token {
     EndOfLine,
     Keyword(Word),
@@ -92,7 +92,7 @@ impl Token {
 }
 
 // A token and the place after it.
-#[derive(Drop)]
+#[derive(Clone, Copy)]
 pub struct Scanned {
     pub token: Token,
     pub next: Place,

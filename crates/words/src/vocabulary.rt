@@ -9,7 +9,7 @@ use crate::symbols::{Function, Token, Word};
 use whole::Operator;
 
 // What letters and digits spell: a reserved word, one that ends in `$`, REM, DATA, or no reserved word.
-#[derive(Drop)]
+#[derive(Clone, Copy)]
 pub enum WordFound {
     Plain(Token),
     Dollared(Token),

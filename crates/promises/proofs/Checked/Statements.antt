@@ -2,7 +2,7 @@
 use mathlib.Core.Path.{◌≡◌, refl}
 use mathlib.Core.Bool.{Bool, true, false, false≢true}
 use mathlib.Core.List.{List, [], ◌∷◌}
-use Prim.Native.Nat.{ℕ, ◌+◌}
+use Prim.Native.Nat.{ℕ, ◌+◌, ◌-◌}
 use borrow.Author.Tests.{not-false}
 use lib.Dec.{ltb, leb, eqb}
 use lib.ListN.{length}
@@ -27,7 +27,7 @@ use Rattle.checker.specs.Check.{present}
 use Rattle.variables.specs.Strings.{Value, whole, text, Outcome, value, fault, make}
 use Rattle.variables.specs.Variables.{word_of, numbers_full, strings_full}
 use Rattle.operators.specs.Values.{value_of}
-use Rattle.machine.specs.Machine.{Position, Record, loop, call, again, Machine, room_of, with_items, noting, write, comma_blanks, is_call, is_loop, is_loop_of, Search, missing, found, sought, passed, longest_input_line}
+use Rattle.machine.specs.Machine.{Position, Record, loop, call, again, Machine, room_of, with_input, with_items, noting, write, comma_blanks, is_call, is_loop, is_loop_of, Search, missing, found, sought, passed, longest_input_line}
 use Rattle.machine.specs.Order.{Stand, later, past, Bracket, Partner, none, some, partner, pairs_by, next_for, wend_for}
 use Rattle.machine.specs.Repeats.{start_of, is_while, is_while_of}
 use Rattle.order.proofs.Laws.{later_throughout, later_lines, StandThroughout, partner_one}
@@ -239,7 +239,7 @@ module _ (all : List Line) where
   input_checked (b ∷ s) m v go e r k =
       let t = take_line (b ∷ s) in
       by_choice NextChecked (ltb longest_input_line (length t.bytes)) refl
-      (worked-text _ (make t.bytes _) _ (make_fits t.bytes _) r
+      (worked-text (with_input m t.left (m.taken + (length m.input - length t.left))) (make t.bytes _) _ (make_fits t.bytes _) r
       (λ c n q. filled_checked v.kind v.telling t.bytes n go e q k))
 
   -- ---- READ

@@ -67,12 +67,14 @@ mutual
   formula_few vars (tree.call f a) room k (asks.argued d) = omega (arith, arguments_few vars a (wants f (count_of a)) room k d)
   formula_few vars (tree.call f a) room k (asks.resulted {after = r} {vs = vs} e p s) =
       omega (arith, texts_count vs, values_count a (wants f (count_of a)) vars room vs r e)
+  formula_few vars (tree.number _) room k x3 = elim x3 [ ]
 
   arguments_few : (vars : Variables) (a : Arguments) (ws : List Want) (room : Room) (k : Ask) → AsksAmong vars a ws room k
       → at_once k ≤ needs_of a ws
   arguments_few vars (tree.also a f) ws room k (asks.earlier d) = omega (arith, arguments_few vars a ws room k d)
   arguments_few vars (tree.also a f) ws room k (asks.here {after = r} {vs = vs} {k = j} e d) =
       omega (arith, formula_few vars f r j d, behind_count vs j.unfinished, values_count a ws vars room vs r e)
+  arguments_few vars tree.none ws room k x'' = elim x'' [ ]
 
 -- ---- statements
 
@@ -84,10 +86,12 @@ items_few (tree.shown f ∷ is) m k (asks.this_item d) g = fine_few m _ k g.0 d
 items_few (tree.shown f ∷ is) m k (asks.after_item {n = n} e w d) g = items_few is n k d g.1
 items_few (tree.comma ∷ is) m k (asks.after_comma {n = n} w d) g = items_few is n k d g
 items_few (tree.semicolon ∷ is) m k (asks.after_semicolon d) g = items_few is m k d g
+items_few [] m k x'' g = elim x'' [ ]
 
 read_few : (vs : List Variable) (m o : Machine) (k : Ask) → ReadAsks vs m o k → at_once k ≤ most_unfinished
 read_few (v ∷ vs) m o k (asks.this_variable q e) = omega arith
 read_few (v ∷ vs) m o k (asks.after_variable {n = n} e g d) = read_few vs n o k d
+read_few [] m o k x' = elim x' [ ]
 
 statement_few : (lines : List Line) (place : ℕ) (x : Statement) (m o : Machine) (k : Ask) → StatementAsks lines place x m o k
     → Each Fine (formulas_of x) → at_once k ≤ most_unfinished
@@ -101,6 +105,19 @@ statement_few lines place (tree.for v from to by) m o k (asks.stepped t e c d) g
 statement_few lines place (tree.while c) m o k (asks.repeated e d) g = fine_few m _ k g.0 d
 statement_few lines place (tree.line_input t v) m o k (asks.input w e s) g = omega arith
 statement_few lines place (tree.read vs) m o k (asks.reading d) g = read_few vs m o k d
+statement_few lines place tree.empty m o k x3 g = elim x3 [ ]
+statement_few lines place (tree.goto _) m o k x5 g = elim x5 [ ]
+statement_few lines place (tree.gosub _) m o k x6 g = elim x6 [ ]
+statement_few lines place tree.return m o k x6 g = elim x6 [ ]
+statement_few lines place tree.next m o k x7 g = elim x7 [ ]
+statement_few lines place (tree.next_of _) m o k x9 g = elim x9 [ ]
+statement_few lines place tree.wend m o k x9 g = elim x9 [ ]
+statement_few lines place (tree.data_of _) m o k x11 g = elim x11 [ ]
+statement_few lines place tree.restore m o k x11 g = elim x11 [ ]
+statement_few lines place (tree.restore_to _) m o k x13 g = elim x13 [ ]
+statement_few lines place tree.end m o k x13 g = elim x13 [ ]
+statement_few lines place tree.stop m o k x14 g = elim x14 [ ]
+statement_few lines place tree.remark m o k x15 g = elim x15 [ ]
 
 -- ---- a statement that a run begins
 
@@ -109,6 +126,8 @@ begun_fine : (program : List ℕ) (n : ℕ) (s : Standing) (ls : List Line) (q :
 begun_fine program (suc n) (at m lines p) ls q x k asks.first h = (head_fine p h.1).0
 begun_fine program (suc n) (at m lines p) ls q x k (asks.later d) h =
     begun_fine program n (turn program m lines p) ls q x k d (turn_fine program m lines p h.0 h.1)
+begun_fine program Prim.Native.Nat.zero s ls q x k x4 h = elim x4 [ ]
+begun_fine program (suc n) (Rattle.runner.specs.Run.finished _) ls q x k x9 h = elim x9 [ ]
 
 pub begun_few : (program : List ℕ) (n : ℕ) (s : Standing) (ls : List Line) (q : ℕ) (x : Statement) (m o : Machine) (k : Ask)
     → Begins program n s ls q x m → StandingFine s → StatementAsks ls q x m o k → at_once k ≤ most_unfinished

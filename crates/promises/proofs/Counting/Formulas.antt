@@ -97,6 +97,8 @@ module _ (exact : LiveIsExactFacts) (vars : Variables) where
         let u = grown_all a (wants f (count_of a)) room vs r e in
         let c = produced_counts b vs r s (omega (arith, h, u.limit, u.live, bytes_waiting vs)) in
         rw (e, p r) (omega (arith, c, u.unfinished, texts_count vs))
+    formula_counts (tree.number _) room k x5 h = elim x5 [ ]
+    formula_counts (tree.variable kind.Whole name) room k x8 h = elim x8 [ ]
 
     arguments_count : (a : Arguments) (ws : List Want) (room : Room) (k : Ask) → AsksAmong vars a ws room k
         → Fits room.limit room.live k → room.unfinished + at_once k ≤ highest_in (values_of a ws vars room)
@@ -110,3 +112,4 @@ module _ (exact : LiveIsExactFacts) (vars : Variables) where
         let t = tested_same (want_at ws (count_of a)) vs (value_of f vars r) in
         let n = count_behind vs w j in
         rw e (omega (arith, c, t, n))
+    arguments_count tree.none ws room k x4 h = elim x4 [ ]

@@ -65,6 +65,7 @@ module _ (exact : LiveIsExactFacts) where
       written_keeps (P k) (kept k).changes (noting m room) (shown_value v) _ q (λ n r. items_keep (P k) (kept k) false is n go r next))
   items_count quiet (tree.shown f ∷ is) m go k (asks.after_item {n = n} {v = v} {room = room} e w d) h next =
       rw (e, w) (items_count false is n go k d (fits_later {m = noting m room} k (write_same (noting m room) (shown_value v) n w) h) next)
+  items_count quiet mathlib.Core.List.[] m go k x3 h next = elim x3 [ ]
 
   -- the line of input that was taken
   input_counts : (given : List ℕ) (m : Machine) (v : Variable) (go : Machine → Next) (b : ℕ) (s : List ℕ) → given ≡ b ∷ s
@@ -92,6 +93,7 @@ module _ (exact : LiveIsExactFacts) where
   read_counts (v ∷ vs) m go o k (asks.after_variable {n = n} {b = b} {l = l} e g d) h next =
       let s = gave_space v b (with_items m l) n g in
       rw (e, g (λ p. read_items vs p go)) (read_counts vs n go o k d (rw s h) next)
+  read_counts mathlib.Core.List.[] m go o k x3 h next = elim x3 [ ]
 
   pub statement_counts : (program : List ℕ) (place : ℕ) (s : Statement) (m : Machine) (after : Position) (o : Machine) (k : Ask)
       → StatementAsks after.lines place s m o k → Fits m.space (string_bytes o.variables.strings) k → Leaves (P k) (do_statement program place s m after)
@@ -125,3 +127,16 @@ module _ (exact : LiveIsExactFacts) where
       let x = fits_later {m = m} {n = n} k (write_same m t n w) h in
       rw w (input_counts n.input n v _ b s e short (omega (arith, x)) (λ o q. q))
   statement_counts program place (tree.read vs) m after o k (asks.reading d) h = read_counts vs m _ o k d h (λ n q. q)
+  statement_counts program place tree.empty m after o k x'' h = elim x'' [ ]
+  statement_counts program place (tree.goto _) m after o k x4 h = elim x4 [ ]
+  statement_counts program place (tree.gosub _) m after o k x5 h = elim x5 [ ]
+  statement_counts program place tree.return m after o k x5 h = elim x5 [ ]
+  statement_counts program place tree.next m after o k x6 h = elim x6 [ ]
+  statement_counts program place (tree.next_of _) m after o k x8 h = elim x8 [ ]
+  statement_counts program place tree.wend m after o k x8 h = elim x8 [ ]
+  statement_counts program place (tree.data_of _) m after o k x10 h = elim x10 [ ]
+  statement_counts program place tree.restore m after o k x10 h = elim x10 [ ]
+  statement_counts program place (tree.restore_to _) m after o k x12 h = elim x12 [ ]
+  statement_counts program place tree.end m after o k x12 h = elim x12 [ ]
+  statement_counts program place tree.stop m after o k x13 h = elim x13 [ ]
+  statement_counts program place tree.remark m after o k x14 h = elim x14 [ ]

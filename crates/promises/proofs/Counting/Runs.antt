@@ -47,6 +47,8 @@ module _ (program : List ℕ) where
       (following_stands (AtLeast (at_once k)) (line_number_of lines) (do_statement program (place_of p) (head_of p) (with_step o) (after_of lines p))
       (statement_counts live_is_exact program (place_of p) (head_of p) (with_step o) (after_of lines p) y k d h))
   running_counts (suc n) (at o lines p) ls q x m y k (asks.later b) d h = running_counts n (turn program o lines p) ls q x m y k b d h
+  running_counts zero s ls q x m y k x5 d h = elim x5 [ ]
+  running_counts (suc n) (finished _) ls q x m y k x11 d h = elim x11 [ ]
 
   -- ---- what a run notes is the count of a request that it was granted
 

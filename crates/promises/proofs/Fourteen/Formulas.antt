@@ -272,9 +272,12 @@ module _ (exact : LiveIsExactFacts) (vars : Variables) where
     formula_fails (tree.call f a) room k (asks.resulted {after = r} {vs = vs} {b = b} e p s) h =
         let u = grown_all a (wants f (count_of a)) room vs r e in
         (r, rw e (p r ∙ produced_refused b vs r s (omega (arith, h, u.limit, u.live, bytes_waiting vs))))
+    formula_fails (tree.number _) room k x5 h = elim x5 [ ]
+    formula_fails (tree.variable kind.Whole name) room k x8 h = elim x8 [ ]
 
     arguments_fail : (a : Arguments) (ws : List Want) (room : Room) (k : Ask) → AsksAmong vars a ws room k
         → Exceeds room.limit room.live k → FailsAmong a ws room
     arguments_fail (tree.also a f) ws room k (asks.earlier d) h = let y = arguments_fail a ws room k d h in (y.0, rw y.1)
     arguments_fail (tree.also a f) ws room k (asks.here {after = r} {vs = vs} {k = j} e d) h =
         let y = formula_fails f r j d (exceeds_after vs (grown_all a ws room vs r e) j h) in (y.0, rw (e, y.1))
+    arguments_fail tree.none ws room k x4 h = elim x4 [ ]

@@ -66,6 +66,8 @@ pub begun_space : (program : List ℕ) (space n : ℕ) (s : Standing) (ls : List
 begun_space program space (suc n) (at m lines p) ls q x k asks.first h = h
 begun_space program space (suc n) (at m lines p) ls q x k (asks.later d) h =
     begun_space program space n (turn program m lines p) ls q x k d (turn_stands (λ m. m.space ≡ space) (space_kept space) program m lines p h)
+begun_space program space zero s ls q x k x4 h = elim x4 [ ]
+begun_space program space (suc n) (finished _) ls q x k x9 h = elim x9 [ ]
 
 over_stays : (n : ℕ) (program : List ℕ) (r : Ran) → running n program (finished r) ≡ r
 unfolding running
@@ -159,6 +161,8 @@ module _ (exact : LiveIsExactFacts) (program : List ℕ) (space : ℕ) where
       ap (λ z. (running n program (following (line_number_of lines) z)).ending) y.1
       ∙ ap (λ (r : Ran). r.ending) (over_stays n program (ends_with (Failed OutOfStringSpace (line_number_of lines)) y.0))
   running_fails (suc n) (at m lines p) ls q x k (asks.later d) f = running_fails n (turn program m lines p) ls q x k d f
+  running_fails zero s ls q x k x4 f = elim x4 [ ]
+  running_fails (suc n) (finished _) ls q x k x9 f = elim x9 [ ]
 
 -- ---- a whole run
 

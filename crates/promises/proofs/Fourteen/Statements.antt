@@ -181,7 +181,7 @@ module _ (X : Type 0) where
   taken_tells m v t go over h =
       by_test (ltb longest_input_line (length t.bytes)) (λ e. rw e (λ x. never (cc)))
       (λ e. rw e
-      (worked_tells _ (make t.bytes (room_of m)) _ (λ room f. over (ltb-false _ _ e) (make_over t.bytes (room_of m) f))
+      (worked_tells (with_input m t.left (m.taken + (length m.input - length t.left))) (make t.bytes (room_of m)) _ (λ room f. over (ltb-false _ _ e) (make_over t.bytes (room_of m) f))
       (λ b room f. filled_tells v.kind v.telling t.bytes _ go h)))
 
   input_tells : (given : List ℕ) (m : Machine) (v : Variable) (go : Machine → Next)
@@ -370,6 +370,7 @@ module _ (exact : LiveIsExactFacts) where
   items_fail quiet (tree.shown f ∷ is) m go k (asks.after_item {n = n} {v = v} {room = room} e w d) h =
       let y = items_fail false is n go k d (over_after {m = noting m room} k (write_same (noting m room) (shown_value v) n w) h) in
       (y.0, rw (e, w) y.1)
+  items_fail quiet [] m go k x'' h = elim x'' [ ]
 
   read_fails : (vs : List Variable) (m : Machine) (go : Machine → Next) (n : Machine) (k : Ask) → ReadAsks vs m n k
       → Exceeds m.space (string_bytes n.variables.strings) k → (o : Machine) × (read_items vs m go ≡ fails OutOfStringSpace o)
@@ -381,6 +382,7 @@ module _ (exact : LiveIsExactFacts) where
       let s = gave_space v b (with_items m l) o g in
       let y = read_fails vs o go n k d (rw s h) in
       (y.0, rw e (g (λ p. read_items vs p go) ∙ y.1))
+  read_fails [] m go n k x'' h = elim x'' [ ]
 
   pub statement_fails : (program : List ℕ) (at : ℕ) (s : Statement) (m : Machine) (after : Position) (n : Machine) (k : Ask) → StatementAsks after.lines at s m n k
       → Exceeds m.space (string_bytes n.variables.strings) k → StatementFails program at s m after
@@ -403,3 +405,16 @@ module _ (exact : LiveIsExactFacts) where
       let refused = make_refused line.bytes (room_of taken) (omega (arith, x)) in
       (noting taken (room_of taken), rw (w, e, le-ltb longest_input_line (length line.bytes) short, refused))
   statement_fails program at (tree.read vs) m after o k (asks.reading d) h = read_fails vs m _ o k d h
+  statement_fails program at tree.empty m after o k x'' h = elim x'' [ ]
+  statement_fails program at (tree.goto _) m after o k x4 h = elim x4 [ ]
+  statement_fails program at (tree.gosub _) m after o k x5 h = elim x5 [ ]
+  statement_fails program at tree.return m after o k x5 h = elim x5 [ ]
+  statement_fails program at tree.next m after o k x6 h = elim x6 [ ]
+  statement_fails program at (tree.next_of _) m after o k x8 h = elim x8 [ ]
+  statement_fails program at tree.wend m after o k x8 h = elim x8 [ ]
+  statement_fails program at (tree.data_of _) m after o k x10 h = elim x10 [ ]
+  statement_fails program at tree.restore m after o k x10 h = elim x10 [ ]
+  statement_fails program at (tree.restore_to _) m after o k x12 h = elim x12 [ ]
+  statement_fails program at tree.end m after o k x12 h = elim x12 [ ]
+  statement_fails program at tree.stop m after o k x13 h = elim x13 [ ]
+  statement_fails program at tree.remark m after o k x14 h = elim x14 [ ]

@@ -63,6 +63,13 @@ module _ (before : List Line) (l : Line) where
   applies_at BadNumber p (number_too_large h) = start_same
   applies_at NotRising p (not_rising earlier last e h) = start_same
   applies_at TooManyLines p (too_many h) = start_same
+  applies_at NoVariable p x' = elim x' [ ]
+  applies_at SpaceTooLong p x'' = elim x'' [ ]
+  applies_at StackTooLong p x3 = elim x3 [ ]
+  applies_at TextTooLong p x4 = elim x4 [ ]
+  applies_at ShortGroup p x5 = elim x5 [ ]
+  applies_at TooManyPairs p x6 = elim x6 [ ]
+  applies_at NoRoom p x7 = elim x7 [ ]
 
   -- which rows are left after each test
   pub first_row : (r : Refusal) (p : Place) → Applies before l r p → 5 ≤ row_of r
@@ -72,6 +79,13 @@ module _ (before : List Line) (l : Line) where
   first_row BadNumber p (number_too_large h) = omega arith
   first_row NotRising p (not_rising earlier last e h) = omega arith
   first_row TooManyLines p (too_many h) = omega arith
+  first_row NoVariable p x' = elim x' [ ]
+  first_row SpaceTooLong p x'' = elim x'' [ ]
+  first_row StackTooLong p x3 = elim x3 [ ]
+  first_row TextTooLong p x4 = elim x4 [ ]
+  first_row ShortGroup p x5 = elim x5 [ ]
+  first_row TooManyPairs p x6 = elim x6 [ ]
+  first_row NoRoom p x7 = elim x7 [ ]
 
   module _ (short : length l.bytes ≤ longest_line) where
     after_103 : (r : Refusal) (p : Place) → Applies before l r p → 6 ≤ row_of r
@@ -81,6 +95,13 @@ module _ (before : List Line) (l : Line) where
     after_103 BadNumber p (number_too_large h) = omega arith
     after_103 NotRising p (not_rising earlier last e h) = omega arith
     after_103 TooManyLines p (too_many h) = omega arith
+    after_103 NoVariable p x' = elim x' [ ]
+    after_103 SpaceTooLong p x'' = elim x'' [ ]
+    after_103 StackTooLong p x3 = elim x3 [ ]
+    after_103 TextTooLong p x4 = elim x4 [ ]
+    after_103 ShortGroup p x5 = elim x5 [ ]
+    after_103 TooManyPairs p x6 = elim x6 [ ]
+    after_103 NoRoom p x7 = elim x7 [ ]
 
     module _ (plain : length l.bytes ≤ length (leading is_plain l.bytes)) where
       after_104 : (r : Refusal) (p : Place) → Applies before l r p → 7 ≤ row_of r
@@ -93,6 +114,13 @@ module _ (before : List Line) (l : Line) where
       after_104 BadNumber p (number_too_large h) = omega arith
       after_104 NotRising p (not_rising earlier last e h) = omega arith
       after_104 TooManyLines p (too_many h) = omega arith
+      after_104 NoVariable p x' = elim x' [ ]
+      after_104 SpaceTooLong p x'' = elim x'' [ ]
+      after_104 StackTooLong p x3 = elim x3 [ ]
+      after_104 TextTooLong p x4 = elim x4 [ ]
+      after_104 ShortGroup p x5 = elim x5 [ ]
+      after_104 TooManyPairs p x6 = elim x6 [ ]
+      after_104 NoRoom p x7 = elim x7 [ ]
 
       module _ (digit : begins_with_digit l.bytes ≡ true) (fits : leading_value l.bytes ≤ largest_line_number) where
         after_101 : (r : Refusal) (p : Place) → Applies before l r p → 8 ≤ row_of r

@@ -1,23 +1,11 @@
 -- The public functions of `host`.
 use mathlib.Core.Path.{refl}
-use seplogic.Ra.Ura.{Ura}
-use base.Logic.{SProp}
-use prog.Memory.{Memory}
-use prog.Routine.{Routine}
-use types.Logic.{Logic}
-use contract.Monad.{Fun}
-use Rattle.calls.specs.Lent as lent
 use Rattle.host.proofs as host
-use Rattle.promises.specs.Calls.{Unique, BoxAllows}
+use Rattle.promises.specs.Calls.{Unique}
 use Rattle.promises.proofs.Unique.{same, pair}
 
--- what is said of a call of `quernhem_run` is what its contract says
-pub quernhem_run_says : {M : Type 1} {𝓤 : Ura M} (𝓛 : Logic 𝓤) (mem : Memory → SProp 𝓤) (run : Routine → Fun 𝓤)
-    → lent.Says 𝓤 host.quernhem_run.ended (host.quernhem_run.clauses 𝓛 mem run) BoxAllows
-quernhem_run_says 𝓛 mem run κs a g r e = refl
-
-pub quernhem_run : lent.Unique host.quernhem_run.ended BoxAllows
-quernhem_run κs a z z' ws ws' e e' = (
+pub quernhem_run : Unique host.quernhem_run.Kinds.ps host.quernhem_run.Kinds.r host.quernhem_run.Reads.Pre host.quernhem_run.Reads.Post
+quernhem_run κs a p z z' ws ws' e e' = (
   refl,
   pair refl (pair refl (pair (same e.spaced e'.spaced) (pair (same e.roomy e'.roomy) (pair refl (pair (same e.stacked e'.stacked) (pair refl
       (pair (same e.told.kept e'.told.kept) (pair (same e.told.answered e'.told.answered) refl)))))))),

@@ -1,16 +1,6 @@
--- The public functions of `stack`. Those over a slice of records are said by what their contracts allow.
-use mathlib.Core.Path.{◌≡◌, refl}
-use seplogic.Ra.Ura.{Ura}
-use base.Logic.{SProp}
-use prog.Memory.{Memory}
-use prog.Routine.{Routine}
-use types.Logic.{Logic}
-use contract.Monad.{Fun}
-use lib.ListN.{length, get_or, set, replicate}
-use Rattle.machine.specs.Records.{blank_record}
-use Rattle.machine.specs.bridge.Wanted.{found_in}
+-- The public functions of `stack`.
+use mathlib.Core.Path.{refl}
 use Rattle.stack.proofs as stack
-use Rattle.calls.specs.Lent as lent
 use Rattle.promises.specs.Calls.{Unique}
 use Rattle.promises.proofs.Unique.{same, pair}
 
@@ -22,39 +12,14 @@ is_too_long κs a p z z' ws ws' e e' = (same e e', refl)
 
 -- ---- over the records
 
-abbrev AtAllows : lent.Allows stack.at.ended
-AtAllows lifetimes a r e = r ≡ get_or a.0.now a.1.0 blank_record
+pub at : Unique stack.at.Kinds.ps stack.at.Kinds.r stack.at.Reads.Pre stack.at.Reads.Post
+at κs a p z z' ws ws' e e' = (same e e', refl)
 
-abbrev FindAllows : lent.Allows stack.find.ended
-FindAllows lifetimes a r e = r ≡ found_in a.1.1.0 a.0.now a.1.0
+pub find : Unique stack.find.Kinds.ps stack.find.Kinds.r stack.find.Reads.Pre stack.find.Reads.Post
+find κs a p z z' ws ws' e e' = (same e e', refl)
 
-abbrev PutAllows : lent.Allows stack.put.ended
-PutAllows lifetimes a r e = e.0.now ≡ set a.0.now a.1.0 a.1.1.0
+pub put : Unique stack.put.Kinds.ps stack.put.Kinds.r stack.put.Reads.Pre stack.put.Reads.Post
+put κs a p z z' ws ws' e e' = (refl, pair (same e e') refl)
 
-abbrev WipeAllows : lent.Allows stack.wipe.ended
-WipeAllows lifetimes a r e = e.0.now ≡ replicate (length a.0.now) blank_record
-
-module _ {M : Type 1} {𝓤 : Ura M} (𝓛 : Logic 𝓤) (mem : Memory → SProp 𝓤) (routine : Routine → Fun 𝓤) where
-  pub at_says : lent.Says 𝓤 stack.at.ended (stack.at.clauses 𝓛 mem routine) AtAllows
-  at_says κs a g r e = refl
-
-  pub find_says : lent.Says 𝓤 stack.find.ended (stack.find.clauses 𝓛 mem routine) FindAllows
-  find_says κs a g r e = refl
-
-  pub put_says : lent.Says 𝓤 stack.put.ended (stack.put.clauses 𝓛 mem routine) PutAllows
-  put_says κs a g r e = refl
-
-  pub wipe_says : lent.Says 𝓤 stack.wipe.ended (stack.wipe.clauses 𝓛 mem routine) WipeAllows
-  wipe_says κs a g r e = refl
-
-pub at : lent.Unique stack.at.ended AtAllows
-at κs a z z' ws ws' e e' = (same e e', refl)
-
-pub find : lent.Unique stack.find.ended FindAllows
-find κs a z z' ws ws' e e' = (same e e', refl)
-
-pub put : lent.Unique stack.put.ended PutAllows
-put κs a z z' ws ws' e e' = (refl, pair (same e e') refl)
-
-pub wipe : lent.Unique stack.wipe.ended WipeAllows
-wipe κs a z z' ws ws' e e' = (refl, pair (same e e') refl)
+pub wipe : Unique stack.wipe.Kinds.ps stack.wipe.Kinds.r stack.wipe.Reads.Pre stack.wipe.Reads.Post
+wipe κs a p z z' ws ws' e e' = (refl, pair (same e e') refl)
