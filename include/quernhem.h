@@ -1,6 +1,6 @@
 /* Quernhem: runs and checks bath recipes over memory that the host lends.
  *
- * Link target/staticlib/libhost.a (`rt staticlib host`), for x86-64 Linux. It needs no library but the C library, keeps nothing between
+ * Link target/staticlib/libhost.a (`hosts/build` writes it), for x86-64 Linux. It needs no library but the C library, keeps nothing between
  * calls, and asks the system for nothing: no memory, no files, no clock.
  *
  * What holds of every call:

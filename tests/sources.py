@@ -1,4 +1,5 @@
 """What the tests that look at sources share: code without its comments, definitions of specs/, functions with their contracts, and the crates by floors."""
+import os
 import re
 import textwrap
 from typing import NamedTuple
@@ -9,8 +10,11 @@ RATTLE = re.compile(r'''(b'(?:\\.|[^'\\])'|"(?:\\.|[^"\\])*")|//[^\n]*''')
 HEADER = re.compile(r'^(?:unfoldable )?(?:pub )?(?:use|mod) [^{\n]*(?:\{[^}]*\})?[^\n]*', re.M)
 DEFINED = re.compile(rf'((?:abbrev |unfoldable |pub )*)(?:(?:data|record) ({NAME})|({NAME}) :)(?:\s|$)')
 MEMBER = re.compile(rf'  (?:pub )?({NAME}) :(?:\s|$)')
-FUNCTION = re.compile(r'\bimpl (\w+) \{|^\}|\b(pub )?(?:extern "C" )?fn (\w+)', re.M)
-CLAUSE = re.compile(r'[^{]*?(requires|ensures)\s*\{(.*?⌝)\s*\}', re.S)
+FUNCTION = re.compile(r'^impl\b[^{;]*?(\w+)(?:<[^{}]*>)? \{|^\}|\b(pub )?(?:extern "C" )?fn (\w+)', re.M)
+# what stands before a clause may have a type of many, as [u8; 64]; a star and a name may stand behind its word
+CLAUSE = re.compile(r'(?:\[(?:\[[^\]]*\]|[^\[\]])*\]|[^{;\[])*?\b(requires|ensures)(\*?)\s*(\w*)\s*\{')
+CYCLE = re.compile(r'#\[cycle\((\w+)\)\]\s*(?:(?:#\[[^\n]*\]|pub(?:\([a-z]+\))?)\s*)*$')
+BRACES = re.compile(r'"(?:\\.|[^"\\])*"|[{}]')
 
 
 def uncommented(text, kind=ANTT):
@@ -70,15 +74,28 @@ def definitions(text):
 
 
 class Function(NamedTuple):
-    """A function: the type that it belongs to ('' for none), and what it asks and promises."""
+    """A function: the type that it belongs to ('' for none), what it asks and promises, each clause with its word and name too, and the cycle of
+    calls that it is proved in ('' for none)."""
     owner: str
     name: str
     public: bool
     requires: str
     ensures: str
+    clauses: list
+    cycle: str
 
     def label(self):
         return f'{self.owner}::{self.name}' if self.owner else self.name
+
+
+def closed_at(code, at):
+    """Where the brace closes that opens before a place."""
+    depth = 1
+    for found in BRACES.finditer(code, at):
+        depth += {'{': 1, '}': -1}.get(found.group(), 0)
+        if not depth:
+            return found.start()
+    raise ValueError(f'a brace stays open: {code[at:at + 80]}')
 
 
 def functions(text):
@@ -86,18 +103,32 @@ def functions(text):
     code, owner = uncommented(text, RATTLE), ''
     for found in FUNCTION.finditer(code):
         if found.group(3):
-            clauses, at = {'requires': '', 'ensures': ''}, found.end()
+            said, clauses, at = {'requires': '', 'ensures': ''}, [], found.end()
             while clause := CLAUSE.match(code, at):
-                clauses[clause.group(1)] += clause.group(2)
-                at = clause.end()
-            yield Function(owner, found.group(3), bool(found.group(2)), **clauses)
+                word, star, name = clause.groups()
+                end = closed_at(code, clause.end())
+                clauses.append((word + star, name, code[clause.end():end].strip()))
+                said[word] += code[clause.end():end]
+                at = end + 1
+            cycle = CYCLE.search(code, 0, found.start())
+            yield Function(owner, found.group(3), bool(found.group(2)), **said, clauses=clauses, cycle=cycle.group(1) if cycle else '')
         else:
             owner = found.group(1) or ''
 
 
 def passed_on(root):
     """What a crate's src/lib.rt passes on, as MODULE::ITEM, and the modules that are open whole."""
-    return set(re.findall(r'^pub use (\w+::\w+);', root, re.M)), {'lib', *re.findall(r'^pub mod (\w+);', root, re.M)}
+    items = re.findall(r'^pub use (\w+)::(?:(\w+)|\{([^}]*)\});', root, re.M)
+    passed = {f'{module}::{item.strip()}' for module, one, many in items for item in (one or many).split(',') if item.strip()}
+    return passed, {'lib', *re.findall(r'^pub mod (\w+);', root, re.M)}
+
+
+def proofs_of(crate, module, function):
+    """The files of a function's own proof; none where the toolchain finds it itself."""
+    among = f'crates/{crate}/proofs/' + '/'.join(filter(None, (module, function.owner)))
+    folders = [f'{among}/+{function.cycle}' if function.cycle else f'{among}/{function.name}', f'{among}/+{function.name}']
+    found = [f'{folder}/{name}.antt' for folder in folders for name in ('Answers', 'Invariants', 'Proof')]
+    return [path for path in found if os.path.isfile(path)]
 
 
 def floors(readme):

@@ -1,4 +1,4 @@
-//! Links the proved library, which `rt staticlib host` writes. It is for x86-64 alone: elsewhere this crate can be checked, not linked.
+//! Links the proved library, which `hosts/build` writes. It is for x86-64 alone: elsewhere this crate can be checked, not linked.
 use std::env;
 use std::path::PathBuf;
 
