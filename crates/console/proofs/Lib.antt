@@ -1,3 +1,4 @@
+pub mod Counting
 pub mod Values
 pub mod Writing
 pub mod Telling

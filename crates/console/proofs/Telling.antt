@@ -5,7 +5,7 @@ use Prim.Native.Nat.{ℕ, zero-le}
 use native.Mathlib.Omega.{arith}
 use lib.ListN.{length, length-append}
 use lib.Seq.{take-append_seam}
-use Rattle.io.proofs.Counting.{prefix_len_of_le}
+use Rattle.console.proofs.Counting.{prefix_len_of_le}
 use Rattle.whole.specs.Texts.{held}
 use Rattle.whole.specs.declared.texts.Text.{Text}
 use Rattle.whole.proofs.Numerals.{held_front}

@@ -1,17 +1,16 @@
 -- A line that grows by bytes and by numbers in digits.
-use mathlib.Core.Path.{◌≡◌, sym, ap, ◌∙◌}
+use mathlib.Core.Path.{◌≡◌, refl, sym, ap, ◌∙◌}
 use mathlib.Core.List.{List, [], ◌∷◌, ◌++◌, append_assoc, append-nil}
-use Prim.Native.Nat.{ℕ, zero, suc, ◌+◌, ◌-◌, ◌*◌, ◌/◌, ◌%◌, ◌^◌, ◌≤◌, ◌<◌, suc-le-suc}
-use native.Mathlib.Nat.{div-lt_iff_lt-mul, le-div_iff_mul-le, pow-zero, pow-suc, mod-eq_of_lt, mod-lt}
+use Prim.Native.Nat.{ℕ, zero, suc, ◌+◌, ◌*◌, ◌/◌, ◌%◌, ◌^◌, ◌≤◌, ◌<◌, suc-le-suc}
+use native.Mathlib.Nat.{div-lt_iff_lt-mul, pow-zero, pow-suc, mod-eq_of_lt, mod-lt}
 use native.Mathlib.Omega.{arith}
 use borrow.Author.Tests.{lt-ltb}
 use lib.ListN.{length, get_or, drop, length-append}
-use Rattle.io.specs.Digits.{last_digits, hex_digit_ascii, IsDigitCount}
 use Rattle.whole.specs.Texts.{held, with_byte, digit_byte, numeral}
 use Rattle.whole.specs.declared.texts.Text.{Text}
 use Rattle.whole.proofs.Numerals.{held_put, numeral_one, numeral_more, numeral-length}
 use Rattle.whole.proofs.Reading.{drop_next}
-use Rattle.console.specs.Lines.{with_bytes, decimal, field, fields, line}
+use Rattle.console.specs.Lines.{with_bytes, field, fields, line}
 
 -- ---- bytes
 
@@ -32,47 +31,32 @@ held_bytes l (b ∷ s) h =
 
 -- ---- digits
 
--- a digit's byte is the same in both books
-same_glyph : (d : ℕ) → d < 10 → hex_digit_ascii d ≡ digit_byte d
+-- bytes put one list after the other
+with_bytes-append : (t : Text) (a b : List ℕ) → with_bytes t (a ++ b) ≡ with_bytes (with_bytes t a) b
+unfolding with_bytes
+with_bytes-append t [] b = refl
+with_bytes-append t (x ∷ a) b = with_bytes-append (with_byte t x) a b
+
+digit_is : (d : ℕ) → d < 10 → digit_byte d ≡ 48 + d
 unfolding digit_byte
-same_glyph d h = rw (lt-ltb d 10 h)
+digit_is d h = rw (lt-ltb d 10 h)
 
-module _ (k n : ℕ) where
-  quotient_few : n < 10 ^ suc k → n / 10 < 10 ^ k
-  quotient_few h = (div-lt_iff_lt-mul {k = 10} {x = n} {y = 10 ^ k} (omega arith)).1 (rw (pow-suc 10 k) at h)
+quotient_few : (k n : ℕ) → n < 10 ^ suc k → n / 10 < 10 ^ k
+quotient_few k n h = (div-lt_iff_lt-mul {k = 10} {x = n} {y = 10 ^ k} (omega arith)).1 (rw (pow-suc 10 k) at h)
 
-  quotient_many : 10 ^ suc k ≤ n → 10 ^ k ≤ n / 10
-  quotient_many h = (le-div_iff_mul-le {k = 10} {x = 10 ^ k} {y = n} (omega arith)).1 (rw (pow-suc 10 k) at h)
+-- a number of one digit
+pub put_last : (k n : ℕ) (t : Text) → n < 10 → with_byte t (48 + n % 10) ≡ with_bytes t (numeral 10 (suc k) n)
+unfolding with_bytes
+put_last k n t h = rw (numeral_one 10 (omega arith) k n h, digit_is n h, mod-eq_of_lt h)
 
--- a digit less would not do
-no_fewer : (k n : ℕ) → IsDigitCount 10 1 n (suc (suc k)) → 10 ^ suc k ≤ n
-no_fewer k n f = let e : suc (suc k) - 1 ≡ suc k = omega arith in rw e at (f.2 (omega arith))
-
-one_power : (k : ℕ) → 1 ≤ 10 ^ k
-one_power zero = omega (arith, pow-zero 10)
-one_power (suc k) = omega (arith, one_power k, pow-suc 10 k)
-
--- the fewest digits that hold a number are its numeral
-pub fewest_numeral : (k places n : ℕ) → IsDigitCount 10 1 n (suc k) → n < 10 ^ suc places → last_digits 10 (suc k) n ≡ numeral 10 (suc places) n
-fewest_numeral zero places n f h =
-    let few : n < 10 = omega (arith, f.1, pow-suc 10 0, pow-zero 10) in
-    ap (λ d. d ∷ []) (ap hex_digit_ascii (mod-eq_of_lt few) ∙ same_glyph n few) ∙ sym (numeral_one 10 (omega arith) places n few)
-fewest_numeral (suc k) zero n f h =
-    let many = no_fewer k n f in
-    absurd (omega (arith, many, one_power k, pow-suc 10 k, h, pow-suc 10 0, pow-zero 10))
-fewest_numeral (suc k) (suc places) n f h =
-    let many = no_fewer k n f in
-    let ten : 10 ≤ n = omega (arith, many, one_power k, pow-suc 10 k) in
-    let e : suc k - 1 ≡ k = omega arith in
-    let rest : IsDigitCount 10 1 (n / 10) (suc k) = (omega arith, quotient_few (suc k) n f.1, λ _. rw e (quotient_many k n many)) in
-    ap (λ l. l ++ (hex_digit_ascii (n % 10) ∷ [])) (fewest_numeral k places (n / 10) rest (quotient_few (suc places) n h))
-    ∙ ap (λ d. numeral 10 (suc places) (n / 10) ++ (d ∷ [])) (same_glyph (n % 10) (mod-lt n (omega arith)))
-    ∙ sym (numeral_more 10 (omega arith) (suc places) n ten h)
-
--- as a number of 64 bits is written
-pub decimal_digits : (k n : ℕ) → IsDigitCount 10 1 n k → n < 18446744073709551616 → last_digits 10 k n ≡ decimal n
-decimal_digits zero n f h = absurd (omega (arith, f.0))
-decimal_digits (suc k) n f h = fewest_numeral k 19 n f (omega arith)
+-- a number of more, whose front is put already
+pub put_more : (k n : ℕ) (t front : Text) → 10 ≤ n → n < 10 ^ suc k
+    → ((j : ℕ) → n / 10 < 10 ^ suc j → front ≡ with_bytes t (numeral 10 (suc j) (n / 10)))
+    → with_byte front (48 + n % 10) ≡ with_bytes t (numeral 10 (suc k) n)
+unfolding with_bytes
+put_more zero n t front m h f = absurd (omega (arith, m, h, pow-suc 10 0, pow-zero 10))
+put_more (suc j) n t front m h f =
+    rw (f j (quotient_few (suc j) n h), numeral_more 10 (omega arith) (suc j) n m h, with_bytes-append, digit_is (n % 10) (mod-lt n (omega arith)))
 
 -- ---- lines
 

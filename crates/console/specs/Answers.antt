@@ -1,6 +1,6 @@
 -- What a program writes: the front of its room, and a line after it.
 use Rattle.std.specs.Prelude.{◌≡◌, List, ◌++◌, ℕ, take}
-use Rattle.io.specs.Counts.{IsPrefixLen}
+use Rattle.console.specs.Counts.{IsPrefixLen}
 use Rattle.console.specs.declared.answers.Answer.{Answer}
 
 -- what is written of an answer, with the room as it is then, are these bytes

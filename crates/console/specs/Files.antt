@@ -1,6 +1,6 @@
 -- What is taken of a file.
-use Rattle.std.specs.Prelude.{ℕ, List}
-use Rattle.io.specs.Counts.{IsPrefixLen}
+use Rattle.std.specs.Prelude.{◌≡◌, ℕ, ◌<◌, List, ◌++◌, length, take, Option, None, Some}
+use Rattle.console.specs.Counts.{IsPrefixLen}
 use Rattle.console.specs.declared.files.Taken.{Taken}
 use Rattle.console.specs.declared.files.Taken.TheVariants.{All, Front, Nothing}
 
@@ -9,3 +9,10 @@ abbrev pub Fronted : Taken → List ℕ → Type 0
 Fronted (All n) bytes = IsPrefixLen n bytes
 Fronted Front bytes = Unit {0}
 Fronted Nothing bytes = Unit {0}
+
+-- of a reader's bytes, where they are known: all; or as many as fill what is lent, and there are more
+abbrev pub IsTakenOf : Taken → Option (List ℕ) → List ℕ → Type 0
+IsTakenOf taken None bytes = Unit {0}
+IsTakenOf (All n) (Some known) bytes = known ≡ take n bytes
+IsTakenOf Front (Some known) bytes = (rest : List ℕ) × (known ≡ bytes ++ rest) × (0 < length rest)
+IsTakenOf Nothing (Some known) bytes = ⊥

@@ -1,3 +1,4 @@
+pub mod Counts
 pub mod Lines
 pub mod Files
 pub mod Arguments

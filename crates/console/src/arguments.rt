@@ -1,11 +1,16 @@
 // Numbers that arguments give.
-ghost use Rattle.std.specs.Prelude.{◌≡◌, ◌-◌, ◌≤◌, ◌<◌};
+ghost use Rattle.std.specs.Prelude.{◌≡◌, ◌-◌, ◌≤◌, ◌<◌, IfSome};
 ghost use Rattle.whole.specs.Digits.{value_from};
+ghost use Rattle.console.specs.Counts.{IsPrefixLen};
 ghost use Rattle.console.specs.Arguments.{number_given, Limited, AtMost};
 
 use crate::complaints::complain_of;
-use libc::STDERR_FILENO;
+use std::env::{Env, FillError};
+use std::io::Write;
 use whole::leading_digits;
+
+// More bytes than any path has that the system takes.
+pub const LONGEST: usize = 4096;
 
 // What a text gives: a number, one that is too large, or none.
 #[derive(Clone, Copy)]
@@ -20,6 +25,24 @@ pub enum Given {
 pub enum Setting {
     Is(u32),
     Bad,
+}
+
+// How many arguments there are, the program's own name among them.
+pub fn argument_count<R: Env>(rt: &R) -> usize {
+    let mut some = [0u8; 1];
+    for count in 0..usize::MAX {
+        if let Err(FillError::NotPresent) = rt.arg(count, &mut some) {
+            return count;
+        }
+    }
+    usize::MAX
+}
+
+// Puts an argument at the front of a buffer, and says how long it is; none where it is missing or has more bytes.
+pub(crate) fn argument<R: Env>(rt: &R, place: usize, text: &mut [u8; LONGEST]) -> Option<usize>
+    ensures { IfSome result (λ len. IsPrefixLen len text.new) }
+{
+    rt.arg(place, text).ok()
 }
 
 // What a byte counts as a digit.
@@ -66,44 +89,49 @@ pub fn number_given(text: &[u8], most: u32) -> Given
     Given::Number(value as u32)
 }
 
-fn argument_given(place: usize, most: u32) -> Given
+fn argument_given<R: Env>(rt: &R, place: usize, most: u32) -> Given
     ensures { Limited result most }
 {
-    let mut text = io::buffer();
-    let len = os::arg(place, &mut text);
-    if os::errno() != 0 {
-        return Given::NoNumber;
+    let mut text = [0u8; LONGEST];
+    match argument(rt, place, &mut text) {
+        Some(len) => number_given(&text[..len], most),
+        None => Given::NoNumber,
     }
-    number_given(&text[..len], most)
 }
 
-fn complain_of_size(name: &[u8], most: u32, place: usize) {
-    io::write_all(STDERR_FILENO, name);
-    io::write_all(STDERR_FILENO, b" is more than ");
-    io::print_decimal(STDERR_FILENO, most as u64);
-    complain_of(b"", place);
+fn complain_of_size<R: Env, W: Write>(rt: &R, err: &mut W, name: &[u8], most: u32, place: usize) {
+    let _ = err.write_all(name);
+    let _ = write!(err, " is more than {most}");
+    complain_of(rt, err, b"", place);
 }
 
-fn complain_of_shape(name: &[u8], place: usize) {
-    io::write_all(STDERR_FILENO, name);
-    complain_of(b" is no number", place);
+fn complain_of_shape<R: Env, W: Write>(rt: &R, err: &mut W, name: &[u8], place: usize) {
+    let _ = err.write_all(name);
+    complain_of(rt, err, b" is no number", place);
 }
 
 // The number that an argument gives, at most so large, or the usual one where there is no such argument.
-pub fn number_argument(name: &[u8], place: usize, usual: u32, most: u32) -> Setting
+pub fn number_argument<R: Env, W: Write>(
+    rt: &R,
+    err: &mut W,
+    name: &[u8],
+    place: usize,
+    usual: u32,
+    most: u32,
+) -> Setting
     ensures { usual ≤ most → AtMost result most }
 {
-    if os::arg_count() <= place {
+    if argument_count(rt) <= place {
         return Setting::Is(usual);
     }
-    match argument_given(place, most) {
+    match argument_given(rt, place, most) {
         Given::Number(value) => Setting::Is(value),
         Given::TooLarge => {
-            complain_of_size(name, most, place);
+            complain_of_size(rt, err, name, most, place);
             Setting::Bad
         }
         Given::NoNumber => {
-            complain_of_shape(name, place);
+            complain_of_shape(rt, err, name, place);
             Setting::Bad
         }
     }

@@ -1,9 +1,14 @@
 // Files read into lent bytes.
-ghost use Rattle.std.specs.Prelude.{◌≡◌, List, ℕ, length};
-ghost use Rattle.io.specs.Counts.{IsPrefixLen};
-ghost use Rattle.console.specs.Files.{Fronted};
+ghost use Rattle.std.specs.Prelude.{◌≡◌, ◌≤◌, ◌<◌, IfOk, IfSome, take, length};
+ghost use Rattle.std.specs.Io.KnownBytes.{Consumes, IsAtEnd};
+ghost use Rattle.console.specs.Files.{Fronted, IsTakenOf};
 
-use libc::STDERR_FILENO;
+use crate::arguments::LONGEST;
+use crate::complaints::{complain, complain_of_error};
+use std::env::{Env, FillError};
+use std::fs::Files;
+use std::io::{ErrorKind, Read, Write};
+use std::{fs, io};
 
 // What was taken of a file: all of it, so many bytes; as much as there is room for, and there is more; or nothing.
 #[derive(Clone, Copy)]
@@ -13,68 +18,138 @@ pub enum Taken {
     Nothing,
 }
 
-// Whether a file was read to its end, by what one more read gave. One that goes on where it had stopped was not read well.
-fn taken_of(count: usize, full: bool, more: isize) -> Taken
-    ensures { (bytes : List ℕ) → IsPrefixLen count bytes → Fronted result bytes }
+// One read, tried again where a signal cut it short.
+pub fn read_some<R: Read>(reader: &mut R, bytes: &mut [u8]) -> io::Result<usize>
+    ensures bound { IfOk result (λ n. n ≤ length bytes.new) }
+    ensures consumed { IfOk result (λ n. Consumes (R.remaining reader.old) (R.remaining reader.new) (take n bytes.new)) }
+    ensures end { IfOk result (λ n. n ≡ 0 → 0 < length bytes.old → IsAtEnd (R.remaining reader.new)) }
 {
-    if more == 0 {
-        return Taken::All(count);
+    for _ in 0..u64::MAX {
+        match reader.read(bytes) {
+            Ok(n) => return Ok(n),
+            Err(e) if e.kind() == ErrorKind::Interrupted => {}
+            Err(e) => return Err(e),
+        }
     }
-    if full && 0 < more {
-        return Taken::Front;
-    }
-    Taken::Nothing
+    Err(io::Error::from(ErrorKind::Interrupted))
 }
 
-fn take_from(fd: i32, bytes: &mut [u8]) -> Taken
-    ensures { Fronted result bytes.new }
+// Fills the front of lent bytes until they are full or nothing is left.
+fn fill<R: Read>(reader: &mut R, bytes: &mut [u8]) -> io::Result<usize>
+    ensures bound { IfOk result (λ n. n ≤ length bytes.new) }
+    ensures consumed { IfOk result (λ n. Consumes (R.remaining reader.old) (R.remaining reader.new) (take n bytes.new)) }
+    ensures end { IfOk result (λ n. n < length bytes.new → IsAtEnd (R.remaining reader.new)) }
 {
-    let count = io::read_full(fd, bytes);
+    let mut at = 0;
+    while at < bytes.len() {
+        let n = read_some(reader, &mut bytes[at..])?;
+        if n == 0 {
+            return Ok(at);
+        }
+        at += n;
+    }
+    Ok(at)
+}
+
+// What a reader has, at the front of lent bytes.
+fn take_from<R: Read>(reader: &mut R, bytes: &mut [u8]) -> io::Result<Taken>
+    ensures fronted { IfOk result (λ taken. Fronted taken bytes.new) }
+    ensures taken { IfOk result (λ taken. IsTakenOf taken (R.remaining reader.old) bytes.new) }
+{
+    let count = fill(reader, bytes)?;
+    if count < bytes.len() {
+        return Ok(Taken::All(count));
+    }
     let mut one = [0u8; 1];
-    let more = libc::read(fd, &mut one);
-    taken_of(count, count == bytes.len(), more)
+    if read_some(reader, &mut one)? == 0 {
+        Ok(Taken::All(count))
+    } else {
+        Ok(Taken::Front)
+    }
 }
 
-pub fn complain_of_reading(path: &[u8]) {
-    io::write_all(STDERR_FILENO, b"cannot read ");
-    os::fail(path);
+// Says on standard error why a file can't be read.
+pub fn complain_of_reading<W: Write>(err: &mut W, path: &[u8], error: &io::Error) {
+    let _ = err.write_all(b"cannot read ");
+    complain_of_error(err, path, error);
+}
+
+// Opens the file with a path. std opens none whose path is no UTF-8.
+pub fn open_path<R: Files>(rt: &R, path: &[u8]) -> io::Result<R::File> {
+    match str::from_utf8(path) {
+        Ok(name) => fs::open(rt, name),
+        Err(_) => Err(io::Error::from(ErrorKind::InvalidFilename)),
+    }
+}
+
+fn take_open<R: Files>(rt: &R, path: &[u8], bytes: &mut [u8]) -> io::Result<Taken>
+    ensures { IfOk result (λ taken. Fronted taken bytes.new) }
+{
+    let mut file = open_path(rt, path)?;
+    take_from(&mut file, bytes)
 }
 
 // Reads the file with a path to the front of lent bytes; says on standard error why it can't.
-fn take_path(path: &[u8], bytes: &mut [u8]) -> Taken
+fn take_path<R: Files, W: Write>(rt: &R, err: &mut W, path: &[u8], bytes: &mut [u8]) -> Taken
     ensures { Fronted result bytes.new }
 {
-    let fd = os::open_read(path);
-    if fd < 0 {
-        complain_of_reading(path);
-        return Taken::Nothing;
+    match take_open(rt, path, bytes) {
+        Ok(taken) => taken,
+        Err(error) => {
+            complain_of_reading(err, path, &error);
+            Taken::Nothing
+        }
     }
-    let taken = take_from(fd, bytes);
-    if let Taken::Nothing = taken {
-        complain_of_reading(path);
+}
+
+// Puts the path that an argument gives at the front of lent bytes, and says how long it is; says on standard error why it can't.
+pub fn path_given<R: Env, W: Write>(
+    rt: &R,
+    err: &mut W,
+    place: usize,
+    path: &mut [u8; LONGEST],
+) -> Option<usize>
+    ensures { IfSome result (λ len. len ≤ length path.new) }
+{
+    match rt.arg(place, path) {
+        Ok(len) => Some(len),
+        Err(FillError::TooLong) => {
+            complain(err, b"cannot take an argument: File name too long");
+            None
+        }
+        Err(FillError::NotPresent) => {
+            complain(err, b"cannot take an argument: Invalid argument");
+            None
+        }
     }
-    libc::close(fd);
-    taken
 }
 
 // Reads the file that an argument names to the front of lent bytes; says on standard error why it can't.
-pub fn take_file(place: usize, bytes: &mut [u8]) -> Taken
+pub fn take_file<R: Files + Env, W: Write>(
+    rt: &R,
+    err: &mut W,
+    place: usize,
+    bytes: &mut [u8],
+) -> Taken
     ensures { Fronted result bytes.new }
 {
-    let mut path = io::buffer();
-    let len = os::arg(place, &mut path);
-    if os::errno() != 0 {
-        os::fail(b"cannot take an argument");
-        return Taken::Nothing;
+    let mut path = [0u8; LONGEST];
+    match path_given(rt, err, place, &mut path) {
+        Some(len) => take_path(rt, err, &path[..len], bytes),
+        None => Taken::Nothing,
     }
-    take_path(&path[..len], bytes)
 }
 
 // The same of a file of which a front will do.
-pub fn take_front(place: usize, bytes: &mut [u8]) -> Taken
+pub fn take_front<R: Files + Env, W: Write>(
+    rt: &R,
+    err: &mut W,
+    place: usize,
+    bytes: &mut [u8],
+) -> Taken
     ensures { Fronted result bytes.new }
 {
-    let taken = take_file(place, bytes);
+    let taken = take_file(rt, err, place, bytes);
     if let Taken::Front = taken {
         return Taken::All(bytes.len());
     }

@@ -1,9 +1,12 @@
-// A line built in a buffer by value, and bytes written to standard output.
-ghost use Rattle.std.specs.Prelude.{◌≡◌};
-ghost use Rattle.whole.specs.Texts.{held, with_byte};
+// A line built in a buffer by value, and bytes written to a writer.
+ghost use Rattle.std.specs.Prelude.{◌≡◌, ℕ, suc, ◌<◌, ◌^◌, take};
+ghost use Rattle.std.specs.Bool.{OnTrue};
+ghost use Rattle.std.specs.Io.KnownBytes.{Appends};
+ghost use Rattle.whole.specs.Texts.{held, with_byte, numeral};
 ghost use Rattle.console.specs.Lines.{with_bytes, field, refused_line};
 
-use libc::STDOUT_FILENO;
+use crate::complaints::complain_of_error;
+use std::io::Write;
 use whole::Text;
 
 const TAB: u8 = 9;
@@ -23,14 +26,24 @@ pub fn put_bytes(text: Text, bytes: &[u8]) -> Text
     longer
 }
 
+// The text with the digits of a number after it.
+fn put_decimal(text: Text, value: u64) -> Text
+    ensures { (k : ℕ) → value < 10 ^ suc k → result ≡ with_bytes text (numeral 10 (suc k) value) }
+{
+    let last = b'0' + (value % 10) as u8;
+    if value < 10 {
+        return text.put(last);
+    }
+    let front = put_decimal(text, value / 10);
+    front.put(last)
+}
+
 // The text with a tab and a number after it.
 pub fn put_field(text: Text, value: u64) -> Text
     ensures { result ≡ with_bytes text (field value) }
 {
-    let mut digits = [0u8; 20];
-    let count = io::decimal(value, &mut digits);
     let parted = text.put(TAB);
-    put_bytes(parted, &digits[..count])
+    put_decimal(parted, value)
 }
 
 // The text with a line's end after it.
@@ -50,17 +63,23 @@ pub fn refused_line(number: u8, standing: u64) -> Text
     end_line(placed)
 }
 
-// Writes bytes to standard output, or says on standard error why it can't; whether they were written.
-pub fn write(bytes: &[u8]) -> bool {
-    let written = io::write_all(STDOUT_FILENO, bytes);
-    if !written {
-        os::fail(b"cannot write");
+// Writes bytes, or says on standard error why it can't; whether they were written.
+pub fn write<W: Write, E: Write>(out: &mut W, err: &mut E, bytes: &[u8]) -> bool
+    ensures { OnTrue result (Appends (W.contents out.old) (W.contents out.new) bytes.now) }
+{
+    match out.write_all(bytes) {
+        Ok(()) => true,
+        Err(error) => {
+            complain_of_error(err, b"cannot write", &error);
+            false
+        }
     }
-    written
 }
 
-pub fn write_text(text: Text) -> bool {
+pub fn write_text<W: Write, E: Write>(out: &mut W, err: &mut E, text: Text) -> bool
+    ensures { OnTrue result (Appends (W.contents out.old) (W.contents out.new) (take text.len text.bytes)) }
+{
     let bytes = text.bytes;
     let len = text.len as usize;
-    write(&bytes[..len])
+    write(out, err, &bytes[..len])
 }

@@ -1,0 +1,9 @@
+-- From a bound on a count to what the contracts ask.
+use Rattle.std.proofs.Common.{◌≡◌, ℕ, ◌≤◌, List, length, take, sym, length-take-le}
+use Rattle.console.specs.Counts.{IsPrefixLen}
+
+pub length-take_of_le : (n : ℕ) (xs : List ℕ) → n ≤ length xs → n ≡ length (take n xs)
+length-take_of_le n xs h = sym (length-take-le n xs h)
+
+pub prefix_len_of_le : (n : ℕ) (xs : List ℕ) → n ≤ length xs → IsPrefixLen n xs
+prefix_len_of_le n xs h = (h, length-take_of_le n xs h)

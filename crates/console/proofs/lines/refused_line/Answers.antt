@@ -1,0 +1,11 @@
+-- A word that was put into an empty text, two fields and an end are a line (`line_put`).
+use Rattle.std.proofs.Common.{[], ◌∷◌, arith}
+use Rattle.whole.specs.Bytes.{bytes}
+use Rattle.console.proofs.Writing.{line_put}
+use Rattle.console.proofs.lines.refused_line.Goals as goal
+
+pub returns : goal.returns
+unfolding bytes
+returns c =
+    rw (c.end_line.ensures, c.put_field-placed.ensures, c.put_field-numbered.ensures, c.put_bytes-word.ensures, c.empty.ensures)
+    (line_put (bytes "refused") (c.args.number ∷ c.args.standing ∷ []) (omega arith))
