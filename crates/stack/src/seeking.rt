@@ -14,6 +14,7 @@ pub struct Seek {
 }
 
 // Who asks for none looks at none.
+#[tactic(auto, unfolding(crate::specs::bridge::Seeking::seek_from))]
 pub(crate) fn seek_from(depth: usize, sought: Sought) -> Seek
     ensures { result ≡ seek_from depth sought }
 {
@@ -30,6 +31,7 @@ pub(crate) fn seek_from(depth: usize, sought: Sought) -> Seek
 }
 
 // One record is looked at: the search ends at the one that is asked for, and at a GOSUB's.
+#[tactic(auto, unfolding(crate::specs::bridge::Seeking::look_of))]
 pub(crate) fn look(seek: Seek, entry: Record, sought: Sought) -> Seek
     requires { 0 < seek.left }
     ensures { result ≡ look_of seek entry sought }
