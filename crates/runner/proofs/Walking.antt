@@ -1,13 +1,13 @@
 -- What the functions over the lent stack come to, from what their callees answer: over lists alone, with no memory in it.
 use mathlib.Core.Path.{◌≡◌, refl, sym, ap, ap₂, ◌∙◌}
-use mathlib.Core.Bool.{Bool, true, false, not}
+use mathlib.Core.Bool.{Bool, true, false}
 use mathlib.Core.Logic.{⊎_elim}
 use mathlib.Core.List.{List}
 use Prim.Native.Nat.{ℕ, ◌+◌, ◌-◌, ◌≤◌, ◌<◌, ◌^◌, min}
 use native.Mathlib.Omega.{arith}
 use borrow.Author.Tests.{lt-ltb}
-use lib.Dec.{T as Holds, ltb}
-use lib.ListN.{length, get_or, set, replicate, length-replicate}
+use lib.Dec.{ltb}
+use lib.ListN.{length, get_or, set, replicate}
 use Rattle.whole.proofs.Numbers.{less}
 use Rattle.words.proofs.Choices.{by_test}
 use Rattle.space.specs.Moves.{cleared}
@@ -43,15 +43,6 @@ use Rattle.runner.proofs.Turning.{looked_up, looked_below}
 use Rattle.runner.proofs.Looping.{Kept, kept_fresh, kept_out, kept_awaits, kept_less, kept_again}
 use Rattle.runner.proofs.Finishing.{Met, before_fine, run_refused, run_fine, handed}
 
--- a test that holds, and one that does not
-holds_true : (b : Bool) → Holds b → b ≡ true
-holds_true true h = refl
-holds_true false h = absurd h
-
-holds_not : (b : Bool) → Holds (not b) → b ≡ false
-holds_not true h = absurd h
-holds_not false h = refl
-
 -- ---- one step
 
 module _ (text rows input : List ℕ) (going : Going) (names words labels lengths space room : List ℕ) where
@@ -75,7 +66,7 @@ module _ (text rows input : List ℕ) (going : Going) (names words labels length
         → ActsAt text rows going.standing (state_of going.machine names words labels lengths) asked lookup input space room acted (state_of acted.going.machine nm wd lb ln) sp rm
         → left ≡ acted.slot → held ≡ acted.held → st ≡ set stack left held → next ≡ acted.going
         → StepsAs text rows input going.standing (state_of going.machine names words labels lengths) space room stack next (state_of next.machine nm wd lb ln) sp rm st
-    step_made acted left held next nm wd lb ln sp rm st k s d f i e l acts left_is held-is written goes =
+    step_made acted left held next nm wd lb ln sp rm st k s d f i e l acts left_is held_is written goes =
         rw goes
         (record {
           asked = asked;
@@ -84,7 +75,7 @@ module _ (text rows input : List ℕ) (going : Going) (names words labels length
           looks = looks s d f i e l;
           acts = acts;
           goes = refl;
-          left = written ∙ ap₂ (set stack) left_is held-is;
+          left = written ∙ ap₂ (set stack) left_is held_is;
         })
 
 -- ---- the loop
@@ -109,27 +100,27 @@ module _ (text rows input : List ℕ) (budget : ℕ) (space room : List ℕ) (st
     pub keeps_told : Ordered rows × Rowed rows g.standing
     keeps_told = (ordered k.tabled, k.kept.rowed)
 
-    pub keeps_over : length st ≡ length stack → Holds (not (goes_of g.standing g.machine.steps budget)) → (done : Done) (sp' : List ℕ) (st' : List Record)
+    pub keeps_over : length st ≡ length stack → goes_of g.standing g.machine.steps budget ≡ false → (done : Done) (sp' : List ℕ) (st' : List Record)
         → (done ≡ done_as (outcome_of rows g.standing) g.machine) × (sp' ≡ cleared sp g.machine.used.0) → st' ≡ replicate (length st) blank_record
         → LoadedAs (run_in text input (lent_by space room (length stack)) budget) space room stack (ran_of done nm wd lb ln) sp' rm st'
     keeps_over long over done sp' st' told wiped =
         record {
-          runs = kept_out k.tabled k.kept (holds_not _ over) (ap (λ d. ran_of d nm wd lb ln) told.0) told.1;
+          runs = kept_out k.tabled k.kept over (ap (λ d. ran_of d nm wd lb ln) told.0) told.1;
           wiped = wiped ∙ ap (λ n. replicate n blank_record) long;
         }
 
-    module _ (goes_on : Holds (goes_of g.standing g.machine.steps budget)) where
+    module _ (goes_on : goes_of g.standing g.machine.steps budget ≡ true) where
       -- a turn
       pub keeps_awaits : budget < 2 ^ 32 → Awaits text rows input g.standing (state_of g.machine nm wd lb ln) sp rm
-      keeps_awaits b = kept_awaits k.tabled k.kept (holds_true _ goes_on) (omega arith)
+      keeps_awaits b = kept_awaits k.tabled k.kept goes_on (omega arith)
 
       module _ (next : Going) (nm' wd' lb' ln' sp' rm' : List ℕ) (st' : List Record)
           (s : StepsAs text rows input g.standing (state_of g.machine nm wd lb ln) sp rm st next (state_of next.machine nm' wd' lb' ln') sp' rm' st') where
         pub keeps_on : Keeps text rows input budget space room stack next nm' wd' lb' ln' sp' rm' st'
-        keeps_on = record { tabled = k.tabled; kept = kept_again k.tabled k.kept (holds_true _ goes_on) s }
+        keeps_on = record { tabled = k.tabled; kept = kept_again k.tabled k.kept goes_on s }
 
         pub keeps_nearer : budget - next.machine.steps < budget - g.machine.steps
-        keeps_nearer = kept_less k.tabled k.kept (holds_true _ goes_on) s
+        keeps_nearer = kept_less k.tabled k.kept goes_on s
 
 -- ---- the whole run
 
@@ -140,27 +131,27 @@ pub fine_loadable : (text space : List ℕ) (stack : List Record) (rows nm wd lb
     → Loadable text rows nm wd lb ln space stack
 fine_loadable text space stack rows nm wd lb ln r t b = record { tabled = t; blank = b; small = r.small; few = r.few }
 
-abbrev pub Before-of : List ℕ → List ℕ → List Record → Before → Type 0
-Before-of text space stack b = b ≡ before_of (length space) (length stack) (load_of text)
+abbrev pub BeforeOf : List ℕ → List ℕ → List Record → Before → Type 0
+BeforeOf text space stack b = b ≡ before_of (length space) (length stack) (load_of text)
 
 module _ (text input space room : List ℕ) (stack : List Record) (budget : ℕ) (names words labels lengths : List ℕ) (before : Before) (fine : Bool)
-    (is : Before-of text space stack before) (told : fine ≡ before.fine) where
+    (is : BeforeOf text space stack before) (told : fine ≡ before.fine) where
   abbrev whole : run.Ran
   whole = run_of text input (lent_by space room (length stack)) budget
 
-  pub lent_runnable : Holds fine → Runnable text space stack
+  pub lent_runnable : fine ≡ true → Runnable text space stack
   lent_runnable h =
-      let e = before_fine text space stack is (sym told ∙ holds_true fine h) in record { loads = e.0; small = e.1.0; few = e.1.1 }
+      let e = before_fine text space stack is (sym told ∙ h) in record { loads = e.0; small = e.1.0; few = e.1.1 }
 
-  pub lent_fine : Holds fine → (done : Done) (sp rm : List ℕ) (st : List Record) (nm wd lb ln : List ℕ)
+  pub lent_fine : fine ≡ true → (done : Done) (sp rm : List ℕ) (st : List Record) (nm wd lb ln : List ℕ)
       → LoadedAs (run_in text input (lent_by space room (length stack)) budget) space room stack (ran_of done nm wd lb ln) sp rm st
       → Met whole (lent_tables names words labels lengths) space room stack (ran_of done nm wd lb ln) sp rm st
   lent_fine h done sp rm st nm wd lb ln l =
-      run_fine text input space room stack budget names words labels lengths is (sym told ∙ holds_true fine h) l
+      run_fine text input space room stack budget names words labels lengths is (sym told ∙ h) l
 
-  pub lent_refused : Holds (not fine) → (done : Done) → done ≡ refused_as before.refusal before.place
+  pub lent_refused : fine ≡ false → (done : Done) → done ≡ refused_as before.refusal before.place
       → Met whole (lent_tables names words labels lengths) space room stack (ran_of done names words labels lengths) space room stack
-  lent_refused h done e = run_refused text input space room stack budget names words labels lengths is (sym told ∙ holds_not fine h) e
+  lent_refused h done e = run_refused text input space room stack budget names words labels lengths is (sym told ∙ h) e
 
 -- with tables that are handed over: it is made with blank ones
 pub run_made : (text input space room : List ℕ) (stack : List Record) (budget : ℕ) (tables : Tables) (done : Done) (nm wd lb ln : List ℕ) (ran : Ran)
@@ -189,13 +180,12 @@ too_many text input space room budget tables ran sp rm n k h l m =
     let a = lt-ltb most_records n h in let b = lt-ltb most_records k l in
     by_test (ltb longest_space (length space)) (λ t. rw t (rw t at m)) (λ t. rw (t, b) (rw (t, a) at m))
 
-pub with_made : (text input space room : List ℕ) (records budget : ℕ) (tables : Tables) (most : ℕ) (none : Record) (ran : Ran) (sp rm : List ℕ) (st : List Record)
-    → most ≡ min records (1 + most_records)
-    → Met (run_of text input (lent_by space room (length (replicate most none))) budget) tables space room (replicate most none) ran sp rm st
+pub with_made : (text input space room : List ℕ) (records budget : ℕ) (tables : Tables) (lent : List Record) (ran : Ran) (sp rm : List ℕ) (st : List Record)
+    → length lent ≡ min records (1 + most_records)
+    → Met (run_of text input (lent_by space room (length lent)) budget) tables space room lent ran sp rm st
     → MetWith text input space room budget tables ran sp rm records
-with_made text input space room records budget tables most none ran sp rm st e r =
-    let own : MetWith text input space room budget tables ran sp rm (length (replicate most none)) = (r.0, (r.1.0, r.1.1.0)) in
-    let n : MetWith text input space room budget tables ran sp rm most = rw (length-replicate most none) at own in
-    ⊎_elim (λ h. let same : most ≡ records = omega (arith, e) in rw (← same) n)
-    (λ h. too_many text input space room budget tables ran sp rm most records (omega (arith, e)) (omega arith) n)
+with_made text input space room records budget tables lent ran sp rm st e r =
+    let own : MetWith text input space room budget tables ran sp rm (length lent) = (r.0, (r.1.0, r.1.1.0)) in
+    ⊎_elim (λ h. let same : length lent ≡ records = omega (arith, e) in rw (← same) own)
+    (λ h. too_many text input space room budget tables ran sp rm (length lent) records (omega (arith, e)) (omega arith) own)
     (less records (1 + most_records))
