@@ -1,0 +1,42 @@
+// The calls that make an index, and ask it.
+ghost use Rattle.std.specs.Prelude.{◌≡◌, [], ◌∷◌, length};
+ghost use Rattle.words.specs.Places.{line_number};
+ghost use Rattle.space.specs.Moves.{overlaid};
+ghost use Rattle.index.specs.Index.{indexed_of, index_after};
+ghost use Rattle.index.specs.Asking.{line_in, callers_in};
+ghost use Rattle.host.specs.Answers.{verdict_in};
+ghost use Rattle.host.specs.Indexing.{indexed_as, start_in};
+
+use index::Index;
+use loader::Loaded;
+
+// Makes the index of a text; a refusal leaves what was there.
+#[unsafe(no_mangle)]
+pub extern "C" fn quernhem_index(text: &[u8], index: &mut Index, verdict: &mut [u64; 4])
+    ensures { (index.new ≡ index_after text.now index.old)
+        × (verdict.new ≡ verdict_in (indexed_as (indexed_of text.now))) }
+{
+    host::quernhem_index(text, index, verdict)
+}
+
+// Where a line starts, by an index alone.
+#[unsafe(no_mangle)]
+pub extern "C" fn quernhem_line(index: &Index, number: u16, found: &mut [u64; 2])
+    ensures { found.new ≡ start_in (line_in index.now (line_number number)) }
+{
+    host::quernhem_line(index, number, found)
+}
+
+// Which lines name a line, by an index alone.
+#[unsafe(no_mangle)]
+pub extern "C" fn quernhem_callers(
+    index: &Index,
+    number: u16,
+    callers: &mut [u16; Loaded::MOST_LINES],
+    count: &mut [u64; 1],
+)
+    ensures { (callers.new ≡ overlaid callers.old 0 (callers_in index.now (line_number number)))
+        × (count.new ≡ length (callers_in index.now (line_number number)) ∷ []) }
+{
+    host::quernhem_callers(index, number, callers, count)
+}
