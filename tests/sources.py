@@ -13,6 +13,7 @@ MEMBER = re.compile(rf'  (?:pub )?({NAME}) :(?:\s|$)')
 FUNCTION = re.compile(r'^impl\b[^{;]*?(\w+)(?:<[^{}]*>)? \{|^\}|\b(pub )?(?:extern "C" )?fn (\w+)', re.M)
 # what stands before a clause may have a type of many, as [u8; 64]; a star and a name may stand behind its word
 CLAUSE = re.compile(r'(?:\[(?:\[[^\]]*\]|[^\[\]])*\]|[^{;\[])*?\b(requires|ensures)(\*?)\s*(\w*)\s*\{')
+BARE = re.compile(r'(?:\[(?:\[[^\]]*\]|[^\[\]])*\]|[^{;\[])*')
 CYCLE = re.compile(r'#\[cycle\((\w+)\)\]\s*(?:(?:#\[[^\n]*\]|pub(?:\([a-z]+\))?)\s*)*$')
 BRACES = re.compile(r'"(?:\\.|[^"\\])*"|[{}]')
 
@@ -74,11 +75,13 @@ def definitions(text):
 
 
 class Function(NamedTuple):
-    """A function: the type that it belongs to ('' for none), what it asks and promises, each clause with its word and name too, and the cycle of
-    calls that it is proved in ('' for none)."""
+    """A function: the type that it belongs to ('' for none), whether C calls it, its parameters and answer, what it asks and promises, each clause with
+    its word and name too, and the cycle of calls that it is proved in ('' for none)."""
     owner: str
     name: str
     public: bool
+    exported: bool
+    signature: str
     requires: str
     ensures: str
     clauses: list
@@ -103,15 +106,18 @@ def functions(text):
     code, owner = uncommented(text, RATTLE), ''
     for found in FUNCTION.finditer(code):
         if found.group(3):
-            said, clauses, at = {'requires': '', 'ensures': ''}, [], found.end()
+            said, clauses, at, signature = {'requires': '', 'ensures': ''}, [], found.end(), None
             while clause := CLAUSE.match(code, at):
                 word, star, name = clause.groups()
+                signature = plain(code[at:clause.start(1)]) if signature is None else signature
                 end = closed_at(code, clause.end())
                 clauses.append((word + star, name, code[clause.end():end].strip()))
                 said[word] += code[clause.end():end]
                 at = end + 1
             cycle = CYCLE.search(code, 0, found.start())
-            yield Function(owner, found.group(3), bool(found.group(2)), **said, clauses=clauses, cycle=cycle.group(1) if cycle else '')
+            signature = plain(BARE.match(code, at).group()) if signature is None else signature
+            yield Function(owner, found.group(3), bool(found.group(2)), 'extern' in found.group(), signature, **said, clauses=clauses,
+                           cycle=cycle.group(1) if cycle else '')
         else:
             owner = found.group(1) or ''
 
