@@ -2,7 +2,6 @@
 use mathlib.Core.Path.{◌≡◌, refl}
 use mathlib.Core.Bool.{false, ◌||◌}
 use Prim.Native.Nat.{ℕ}
-use borrow.Author.Rules.{rules}
 use Rattle.whole.specs.Bytes.{is}
 use Rattle.whole.specs.Digits.{is_digit}
 use Rattle.words.specs.Classes.{is_letter, sign_of, of_sign, class_of}

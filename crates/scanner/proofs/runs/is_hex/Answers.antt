@@ -1,5 +1,4 @@
 -- A digit by `is_digit`; otherwise the letter is folded by `capital`, and the two tests are those of the definition.
-use borrow.Author.Rules.{rules}
 use borrow.Author.Tests.{le-leb, lt-leb}
 use Rattle.words.specs.Classes.{is_hex}
 use Rattle.scanner.proofs.runs.is_hex.Goals as goal

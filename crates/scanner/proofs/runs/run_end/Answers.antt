@@ -1,11 +1,6 @@
 -- The loop keeps where the run ends that is still to be passed.
-use mathlib.Core.Path.{◌≡◌, refl, sym, ◌∙◌}
-use Prim.Native.Nat.{◌+◌, ◌-◌}
+use mathlib.Core.Path.{sym, ◌∙◌}
 use native.Mathlib.Omega.{arith}
-use borrow.Author.Rules.{rules}
-use borrow.Author.Tests.{not-true, not-false}
-use lib.ListN.{length, drop}
-use Rattle.whole.specs.Bytes.{leading}
 use Rattle.words.proofs.Runs.{run_more, run_stops, run_past}
 use Rattle.scanner.specs.Runs.{passes}
 use Rattle.scanner.proofs.runs.run_end.Goals as goal

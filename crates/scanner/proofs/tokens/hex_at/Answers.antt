@@ -5,8 +5,7 @@ use mathlib.Core.Bool.{false, ◌&&◌, and-false}
 use mathlib.Core.List.{List}
 use Prim.Native.Nat.{ℕ, ◌+◌, ◌-◌, ◌≤◌, ◌<◌}
 use native.Mathlib.Omega.{arith}
-use borrow.Author.Rules.{rules}
-use borrow.Author.Tests.{ne_eqb, le-leb, lt-leb, ltb-true, ltb-false}
+use borrow.Author.Tests.{ne_eqb, le-leb, lt-leb}
 use lib.Dec.{leb}
 use lib.ListN.{length, get_or, take, drop}
 use lib.Seq.{get_or-drop, drop-drop}
@@ -28,7 +27,7 @@ returns-then-capital-ne72 c = rw (get_or-drop, ← c.byte_at.ensures, ← c.capi
 
 pub returns-then-count-eq0 : goal.returns-then-count-eq0
 unfolding hex_token
-returns-then-count-eq0 c = 
+returns-then-count-eq0 c =
     let at : ℕ = c.args.at.0 in
     let line : List ℕ = c.args.line.now in
     let digits : List ℕ = leading is_hex (drop (at + 2) (line)) in
@@ -36,12 +35,17 @@ returns-then-count-eq0 c =
     let token : hex_token (at) (drop (at) (line)) ≡ hex_of digits (at) = rw (get_or-drop, letter, drop-drop) in
     let count : ℕ = c.run_end-next.result.0 - (at + 2) in
     let counted : count ≡ length digits = omega (arith, c.run_end-next.ensures) in
-    rw (token, ← (counted), not_few _ ((elim c.then-count-eq0.branch [ then-count-eq0-via-then-count-eq0 w ↦ inl w.if-count-eq0.true
-      | then-count-eq0-via-else-count-eq0+then-count-gt-MOST_HEX_DIGITS w ↦ inr (w.if-count-gt-MOST_HEX_DIGITS.true)
-      ]))) c.unreadable-then-count-eq0.ensures
+    rw (
+      token,
+      ← (counted),
+      not_few _ ((elim c.then-count-eq0.branch [
+        | then-count-eq0-via-then-count-eq0 w ↦ inl w.if-count-eq0.true
+        | then-count-eq0-via-else-count-eq0+then-count-gt-MOST_HEX_DIGITS w ↦ inr (w.if-count-gt-MOST_HEX_DIGITS.true)
+      ])),
+    ) c.unreadable-then-count-eq0.ensures
 
 pub slice_bounds-hex_value-end : goal.slice_bounds-hex_value-end
-slice_bounds-hex_value-end c = 
+slice_bounds-hex_value-end c =
     let line : List ℕ = c.args.line.now in
     let at : ℕ = c.args.at.0 in
     let letter : capital_of (get_or line (at + 1) 0) ≡ 72 = rw (← c.byte_at.ensures, ← c.capital.ensures) c.if-capital-ne72.false in
@@ -50,7 +54,7 @@ slice_bounds-hex_value-end c =
     omega (arith, within)
 
 pub hex_value-value-requires : goal.hex_value-value-requires
-hex_value-value-requires c = 
+hex_value-value-requires c =
     let at : ℕ = c.args.at.0 in
     let line : List ℕ = c.args.line.now in
     let digits : List ℕ = leading is_hex (drop (at + 2) (line)) in
@@ -61,7 +65,7 @@ hex_value-value-requires c =
 
 pub returns : goal.returns
 unfolding hex_token
-returns c = 
+returns c =
     let at : ℕ = c.args.at.0 in
     let line : List ℕ = c.args.line.now in
     let digits : List ℕ = leading is_hex (drop (at + 2) (line)) in

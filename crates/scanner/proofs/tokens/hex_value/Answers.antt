@@ -1,10 +1,10 @@
 -- The loop keeps the value of the digits passed, which has four bits for each of them.
-use mathlib.Core.Path.{◌≡◌, refl, sym, ap, ◌∙◌}
-use Prim.Native.Nat.{ℕ, ◌+◌, ◌-◌, ◌*◌, ◌^◌, ◌≤◌, ◌<◌}
+use mathlib.Core.Path.{sym, ap, ◌∙◌}
+use Prim.Native.Nat.{ℕ, ◌+◌, ◌*◌, ◌^◌, ◌≤◌, ◌<◌}
 use native.Mathlib.Nat.{pow-le-pow_right, pow-succ'}
 use native.Mathlib.Numerals.{add-one}
 use native.Mathlib.Omega.{arith}
-use lib.ListN.{length, drop, drop_of_length-le}
+use lib.ListN.{drop_of_length-le}
 use Rattle.whole.proofs.Reading.{drop_next}
 use Rattle.words.specs.Classes.{is_hex}
 use Rattle.words.proofs.Runs.{run_passes}
@@ -28,10 +28,10 @@ hex_digit-requires c = run_passes is_hex c.args.digits.now c.loop-i.i (rw c.requ
 pub loop-i-preserved : goal.loop-i-preserved
 unfolding hex_from
 loop-i-preserved c = (
-      omega arith,
-      more c.loop-i.i c.loop-i.value c.hex_digit.result c.hex_digit.ensures.1 c.loop-i.invariant.1,
-      rw c.hex_digit.ensures.0 (ap (hex_from c.loop-i.value) (sym (drop_next c.args.digits.now c.loop-i.i (omega arith))) ∙ c.loop-i.invariant.2),
-    )
+  omega arith,
+  more c.loop-i.i c.loop-i.value c.hex_digit.result c.hex_digit.ensures.1 c.loop-i.invariant.1,
+  rw c.hex_digit.ensures.0 (ap (hex_from c.loop-i.value) (sym (drop_next c.args.digits.now c.loop-i.i (omega arith))) ∙ c.loop-i.invariant.2),
+)
 
 pub returns : goal.returns
 unfolding hex_from

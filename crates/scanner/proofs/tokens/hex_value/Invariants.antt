@@ -1,12 +1,6 @@
-use mathlib.Core.Path.{◌≡◌, refl, sym, ap, ◌∙◌}
-use Prim.Native.Nat.{ℕ, ◌+◌, ◌-◌, ◌*◌, ◌^◌, ◌≤◌, ◌<◌}
-use native.Mathlib.Nat.{pow-le-pow_right, pow-succ'}
-use native.Mathlib.Numerals.{add-one}
-use native.Mathlib.Omega.{arith}
-use lib.ListN.{length, drop, drop_of_length-le}
-use Rattle.whole.proofs.Reading.{drop_next}
-use Rattle.words.specs.Classes.{is_hex}
-use Rattle.words.proofs.Runs.{run_passes}
+use mathlib.Core.Path.{◌≡◌}
+use Prim.Native.Nat.{◌-◌, ◌^◌, ◌≤◌, ◌<◌}
+use lib.ListN.{length, drop}
 use Rattle.scanner.specs.Tokens.{hex_from}
 use Rattle.scanner.proofs.tokens.hex_value.Given as goal
 

@@ -1,5 +1,4 @@
 -- The mark is told by the byte that stands there.
-use borrow.Author.Rules.{rules}
 use borrow.Author.Tests.{ne_eqb}
 use Rattle.scanner.specs.Tokens.{mark_of}
 use Rattle.scanner.proofs.Beginnings.{mark_here}

@@ -3,7 +3,6 @@ use mathlib.Core.Path.{◌≡◌, ap, ◌∙◌}
 use mathlib.Core.List.{List}
 use Prim.Native.Nat.{ℕ, ◌+◌}
 use native.Mathlib.Omega.{arith}
-use borrow.Author.Rules.{rules}
 use borrow.Author.Tests.{le-leb, lt-leb}
 use lib.ListN.{length, drop}
 use Rattle.whole.specs.Digits.{is_digit, leading_digits, leading_value, capped, digits_of}
@@ -15,7 +14,7 @@ use Rattle.scanner.proofs.tokens.number_at.Goals as goal
 
 pub overflow_add-next : goal.overflow_add-next
 unfolding digits_of
-overflow_add-next c = 
+overflow_add-next c =
     let at : ℕ = c.args.at.0 in
     let line : List ℕ = c.args.line.now in
     let read : c.leading_digits-digits.result ≡ digits_of (drop at line) = c.leading_digits-digits.ensures ∙ ap digits_of (part_from line at) in
@@ -24,7 +23,7 @@ overflow_add-next c =
 
 pub returns-in_default : goal.returns-in_default
 unfolding number_token digits_of
-returns-in_default c = 
+returns-in_default c =
     let at : ℕ = c.args.at.0 in
     let line : List ℕ = c.args.line.now in
     let number : ℕ = leading_value (drop at line) in
@@ -35,7 +34,7 @@ returns-in_default c =
 
 pub returns-then-value-le-LARGEST_NUMBER : goal.returns-then-value-le-LARGEST_NUMBER
 unfolding number_token digits_of
-returns-then-value-le-LARGEST_NUMBER c = 
+returns-then-value-le-LARGEST_NUMBER c =
     let at : ℕ = c.args.at.0 in
     let line : List ℕ = c.args.line.now in
     let number : ℕ = leading_value (drop at line) in
@@ -47,7 +46,7 @@ returns-then-value-le-LARGEST_NUMBER c =
 
 pub returns-then-value-le-LARGEST : goal.returns-then-value-le-LARGEST
 unfolding number_token digits_of
-returns-then-value-le-LARGEST c = 
+returns-then-value-le-LARGEST c =
     let at : ℕ = c.args.at.0 in
     let line : List ℕ = c.args.line.now in
     let number : ℕ = leading_value (drop at line) in
@@ -59,7 +58,7 @@ returns-then-value-le-LARGEST c =
 
 pub returns : goal.returns
 unfolding number_token digits_of
-returns c = 
+returns c =
     let at : ℕ = c.args.at.0 in
     let line : List ℕ = c.args.line.now in
     let number : ℕ = leading_value (drop at line) in

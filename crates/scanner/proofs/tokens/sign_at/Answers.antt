@@ -1,5 +1,4 @@
 -- The two bytes that stand there are looked up as a pair, and then the first alone.
-use borrow.Author.Rules.{rules}
 use lib.Seq.{get_or-drop}
 use Rattle.words.proofs.Runs.{front}
 use Rattle.scanner.specs.Tokens.{sign_token}

@@ -1,12 +1,10 @@
 -- The text is closed where the run between the quotes ends before the line does.
 use mathlib.Core.Path.{◌≡◌}
-use mathlib.Core.Logic.{⊎_elim}
 use mathlib.Core.Bool.{and-false}
 use mathlib.Core.List.{List}
 use Prim.Native.Nat.{ℕ, ◌+◌, ◌-◌, ◌≤◌}
 use native.Mathlib.Omega.{arith}
-use borrow.Author.Rules.{rules}
-use borrow.Author.Tests.{lt-ltb, le-ltb, le-leb, lt-leb, ltb-true, ltb-false}
+use borrow.Author.Tests.{lt-ltb, le-ltb, le-leb, lt-leb}
 use lib.ListN.{length, drop, length-drop}
 use lib.Seq.{drop-drop}
 use Rattle.whole.specs.Bytes.{leading}
@@ -19,21 +17,22 @@ use Rattle.scanner.proofs.tokens.text_at.Goals.{then-line-close-via-then-line-cl
 
 pub returns-then-line-close : goal.returns-then-line-close
 unfolding text_token
-returns-then-line-close c = 
+returns-then-line-close c =
     let at : ℕ = c.args.at.0 in
     let len : ℕ = c.run_end-end.result.0 - (at + 1) in
     let close : at + 1 + len ≡ c.run_end-end.result.0 = omega (arith, c.run_end-end.ensures) in
     let line : List ℕ = c.args.line.now in
     let inner : len ≡ length (leading (passes Unquoted) (drop (at + 1) line)) = omega (arith, c.run_end-end.ensures) in
-    (elim c.then-line-close.branch [ then-line-close-via-then-line-close w ↦ rw (drop-drop, ← (inner), le-ltb (1 + len) (length (drop (at) (line))) (omega (arith, close, w.if-line-close.true, length-drop (at) (line))))
-    c.unreadable.ensures
+    (elim c.then-line-close.branch [
+      | then-line-close-via-then-line-close w ↦ rw (drop-drop, ← (inner), le-ltb (1 + len) (length (drop (at) (line))) (omega (arith, close, w.if-line-close.true, length-drop (at) (line))))
+          c.unreadable.ensures
       | then-line-close-via-else-line-close+then-close-gt-FURTHEST w ↦ let f = w.if-close-gt-FURTHEST.true in
-    rw (drop-drop, ← (inner), close, lt-leb c.run_end-end.result.0 furthest f, and-false) c.unreadable.ensures
-      ])
+          rw (drop-drop, ← (inner), close, lt-leb c.run_end-end.result.0 furthest f, and-false) c.unreadable.ensures
+    ])
 
 pub returns : goal.returns
 unfolding text_token
-returns c = 
+returns c =
     let near : c.run_end-end.result.0 ≤ furthest = c.if-close-gt-FURTHEST.false in
     let at : ℕ = c.args.at.0 in
     let len : ℕ = c.run_end-end.result.0 - (at + 1) in

@@ -2,7 +2,6 @@
 use mathlib.Core.Path.{◌≡◌}
 use mathlib.Core.List.{List}
 use Prim.Native.Nat.{ℕ}
-use borrow.Author.Rules.{rules}
 use lib.ListN.{length, drop}
 use Rattle.words.specs.declared.places.Place.{Place}
 use Rattle.scanner.specs.Tokens.{begun, token_at}
@@ -10,14 +9,14 @@ use Rattle.scanner.proofs.Beginnings.{ends_here, begins_here}
 use Rattle.scanner.proofs.tokens.token_at.Goals as goal
 
 pub returns-then-line-first : goal.returns-then-line-first
-returns-then-line-first c = 
+returns-then-line-first c =
     let start : ℕ = c.run_end-start.result.0 in
     let at : Place = c.args.at in
     let line : List ℕ = c.args.line.now in
     rw (ends_here (line) (at) (start) c.run_end-start.ensures c.if-line-first.true) c.up_to.ensures
 
 pub returns-in-Letter : goal.returns-in-Letter
-returns-in-Letter c = 
+returns-in-Letter c =
     let start : ℕ = c.run_end-start.result.0 in
     let at : Place = c.args.at in
     let line : List ℕ = c.args.line.now in
@@ -25,7 +24,7 @@ returns-in-Letter c =
     rw (begins, c.in-Letter.is) c.word_at.ensures
 
 pub returns-in-Digit : goal.returns-in-Digit
-returns-in-Digit c = 
+returns-in-Digit c =
     let start : ℕ = c.run_end-start.result.0 in
     let at : Place = c.args.at in
     let line : List ℕ = c.args.line.now in
@@ -33,7 +32,7 @@ returns-in-Digit c =
     rw (begins, c.in-Digit.is) c.number_at.ensures
 
 pub returns-in-Quote : goal.returns-in-Quote
-returns-in-Quote c = 
+returns-in-Quote c =
     let start : ℕ = c.run_end-start.result.0 in
     let at : Place = c.args.at in
     let line : List ℕ = c.args.line.now in
@@ -41,7 +40,7 @@ returns-in-Quote c =
     rw (begins, c.in-Quote.is) c.text_at.ensures
 
 pub returns-in-Sign : goal.returns-in-Sign
-returns-in-Sign c = 
+returns-in-Sign c =
     let start : ℕ = c.run_end-start.result.0 in
     let at : Place = c.args.at in
     let line : List ℕ = c.args.line.now in
@@ -49,7 +48,7 @@ returns-in-Sign c =
     rw (begins, c.in-Sign.is) c.sign_at.ensures
 
 pub returns-in-Other : goal.returns-in-Other
-returns-in-Other c = 
+returns-in-Other c =
     let start : ℕ = c.run_end-start.result.0 in
     let at : Place = c.args.at in
     let line : List ℕ = c.args.line.now in
@@ -57,7 +56,7 @@ returns-in-Other c =
     rw (begins, c.in-Other.is) c.other_at.ensures
 
 pub returns-in-Blank : goal.returns-in-Blank
-returns-in-Blank c = 
+returns-in-Blank c =
     let start : ℕ = c.run_end-start.result.0 in
     let at : Place = c.args.at in
     let line : List ℕ = c.args.line.now in

@@ -3,7 +3,6 @@ use mathlib.Core.Path.{◌≡◌, ap, ◌∙◌}
 use mathlib.Core.List.{List}
 use Prim.Native.Nat.{ℕ, ◌+◌, ◌-◌, ◌≤◌}
 use native.Mathlib.Omega.{arith}
-use borrow.Author.Rules.{rules}
 use lib.ListN.{length, drop}
 use Rattle.words.proofs.Runs.{run_within}
 use Rattle.scanner.specs.Runs.{passes}
@@ -15,7 +14,7 @@ use Rattle.scanner.proofs.Beginnings.{word_here, name_here}
 use Rattle.scanner.proofs.tokens.word_at.Goals as goal
 
 pub returns-then-end-first : goal.returns-then-end-first
-returns-then-end-first c = 
+returns-then-end-first c =
     let at : ℕ = c.args.at.0 in
     let end : ℕ = c.run_end-after.result.0 in
     let after : end ≡ at + (end - at) = omega (arith, c.run_end-after.ensures) in
@@ -23,7 +22,7 @@ returns-then-end-first c =
     rw (name_here (line) (at) (end) _ c.run_end-after.ensures c.if-end-first.true c.mark_at-mark.ensures) (c.named.ensures _ 0 (after))
 
 pub slice_bounds-word_of-end : goal.slice_bounds-word_of-end
-slice_bounds-word_of-end c = 
+slice_bounds-word_of-end c =
     let at : ℕ = c.args.at.0 in
     let end : ℕ = c.run_end-after.result.0 in
     let line : List ℕ = c.args.line.now in
@@ -31,7 +30,7 @@ slice_bounds-word_of-end c =
     omega (arith, within)
 
 pub returns-in-Plain : goal.returns-in-Plain
-returns-in-Plain c = 
+returns-in-Plain c =
     let end : ℕ = c.run_end-after.result.0 in
     let at : ℕ = c.args.at.0 in
     let line : List ℕ = c.args.line.now in
@@ -40,7 +39,7 @@ returns-in-Plain c =
     rw (read, c.in-Plain.is) (c.plain.ensures _ _ (after))
 
 pub returns-in-Dollared : goal.returns-in-Dollared
-returns-in-Dollared c = 
+returns-in-Dollared c =
     let end : ℕ = c.run_end-after.result.0 in
     let at : ℕ = c.args.at.0 in
     let line : List ℕ = c.args.line.now in
@@ -49,7 +48,7 @@ returns-in-Dollared c =
     rw (read, c.in-Dollared.is) (c.dollared.ensures _ _ (after))
 
 pub returns-in-Remark : goal.returns-in-Remark
-returns-in-Remark c = 
+returns-in-Remark c =
     let end : ℕ = c.run_end-after.result.0 in
     let at : ℕ = c.args.at.0 in
     let line : List ℕ = c.args.line.now in
@@ -57,7 +56,7 @@ returns-in-Remark c =
     rw (read, c.in-Remark.is) c.up_to.ensures
 
 pub returns-in-Items : goal.returns-in-Items
-returns-in-Items c = 
+returns-in-Items c =
     let end : ℕ = c.run_end-after.result.0 in
     let at : ℕ = c.args.at.0 in
     let line : List ℕ = c.args.line.now in
@@ -66,7 +65,7 @@ returns-in-Items c =
     rw (read, c.in-Items.is) (c.up_to-in-Items.ensures ∙ ap (λ n. Keyword Data upto n) (after))
 
 pub returns-in-Free : goal.returns-in-Free
-returns-in-Free c = 
+returns-in-Free c =
     let end : ℕ = c.run_end-after.result.0 in
     let at : ℕ = c.args.at.0 in
     let line : List ℕ = c.args.line.now in
