@@ -1,5 +1,5 @@
--- Calls of a function that is lent a slice of records, by its contract. The toolchain makes no `Post` of its `ensures`, as it does for other
--- functions; so what the contract allows is written out beside it, and `Says` that it is what the `ensures` says.
+-- Calls of a function that is lent a slice of records, by its contract: what the contract allows is written out, so that another contract may
+-- name it, and `Says` is that it is what the `ensures` says.
 use Rattle.std.specs.Prelude.{◌≡◌}
 use seplogic.Ra.Ura.{Ura}
 use contract.Lifetimes.{Lfts}
