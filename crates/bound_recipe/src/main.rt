@@ -4,21 +4,35 @@
 
 mod answers;
 
+ghost use Rattle.std.specs.Bool.{OnTrue};
+ghost use Rattle.std.specs.Io.KnownBytes.{Appends};
+ghost use Rattle.bounding.specs.Bounding.{bound_of};
+ghost use Rattle.bound_recipe.specs.Answers.{line_of};
+
 use answers::line_of;
-use console::{Taken, complain, recipe_room, take_front, write_text};
+use console::{Taken, argument_count, complain, recipe_room, take_front, write_text};
+use std::io::Write;
 
 // The place of the argument; the program's own name is the first.
 const RECIPE: usize = 1;
 
-fn main() {
-    if os::arg_count() != RECIPE + 1 {
-        complain(b"usage: bound_recipe RECIPE");
+// Writes the line of a recipe, or says on standard error why it can't; whether it was written.
+fn tell<W: Write, E: Write>(out: &mut W, err: &mut E, text: &[u8]) -> bool
+    ensures { OnTrue result (Appends (W.contents out.old) (W.contents out.new) (line_of (bound_of text.now))) }
+{
+    write_text(out, err, line_of(text))
+}
+
+fn main(rt: HostRuntime) {
+    let mut err = rt.stderr();
+    if argument_count(&rt) != RECIPE + 1 {
+        complain(&mut err, b"usage: bound_recipe RECIPE");
         return;
     }
     let mut text = recipe_room();
-    let taken = take_front(RECIPE, &mut text);
+    let taken = take_front(&rt, &mut err, RECIPE, &mut text);
     let Taken::All(len) = taken else {
         return;
     };
-    write_text(line_of(&text[..len]));
+    tell(&mut rt.stdout(), &mut err, &text[..len]);
 }

@@ -5,9 +5,15 @@
 mod answers;
 
 ghost use Rattle.std.specs.Prelude.{◌≡◌, length};
+ghost use Rattle.std.specs.Bool.{OnTrue};
+ghost use Rattle.std.specs.Io.KnownBytes.{Appends};
+ghost use Rattle.callers_of.specs.Answers.{answer_to};
 
 use answers::answer_of;
-use console::{Setting, Taken, complain, number_argument, recipe_room, take_front, write};
+use console::{
+    Setting, Taken, argument_count, complain, number_argument, recipe_room, take_front, write,
+};
+use std::io::Write;
 use words::LineNumber;
 
 // Places among the arguments, of which the program's own name is the first.
@@ -22,25 +28,34 @@ fn answer_room() -> [u8; 131072]
     [0; 131072]
 }
 
-fn tell(text: &[u8], number: LineNumber) {
-    let mut out = answer_room();
-    let count = answer_of(text, number, &mut out);
-    write(&out[..count]);
+// Writes what a recipe says of a line, or says on standard error why it can't; whether it was written.
+fn tell<W: Write, E: Write>(out: &mut W, err: &mut E, text: &[u8], number: LineNumber) -> bool
+    ensures { OnTrue result (Appends (W.contents out.old) (W.contents out.new) (answer_to text.now number)) }
+{
+    let mut room = answer_room();
+    let count = answer_of(text, number, &mut room);
+    write(out, err, &room[..count])
 }
 
-fn main() {
-    if os::arg_count() != LINE + 1 {
-        complain(b"usage: callers_of RECIPE LINE");
+fn main(rt: HostRuntime) {
+    let mut err = rt.stderr();
+    if argument_count(&rt) != LINE + 1 {
+        complain(&mut err, b"usage: callers_of RECIPE LINE");
         return;
     }
-    let given = number_argument(b"LINE", LINE, 0, LineNumber::LARGEST as u32);
+    let given = number_argument(&rt, &mut err, b"LINE", LINE, 0, LineNumber::LARGEST as u32);
     let Setting::Is(number) = given else {
         return;
     };
     let mut text = recipe_room();
-    let taken = take_front(RECIPE, &mut text);
+    let taken = take_front(&rt, &mut err, RECIPE, &mut text);
     let Taken::All(len) = taken else {
         return;
     };
-    tell(&text[..len], LineNumber(number as u16));
+    tell(
+        &mut rt.stdout(),
+        &mut err,
+        &text[..len],
+        LineNumber(number as u16),
+    );
 }

@@ -5,11 +5,17 @@
 mod answers;
 
 ghost use Rattle.std.specs.Prelude.{◌≡◌, ◌≤◌, length};
+ghost use Rattle.std.specs.Bool.{OnTrue};
+ghost use Rattle.std.specs.Io.KnownBytes.{Appends};
+ghost use Rattle.compare.specs.Comparing.{compared_of};
+ghost use Rattle.compare_recipes.specs.Answers.{told_of};
 
 use answers::answer_of;
 use console::{
-    Setting, Taken, complain, number_argument, recipe_room, take_front, write, write_text,
+    Setting, Taken, argument_count, complain, number_argument, recipe_room, take_front,
+    write_answer,
 };
+use std::io::Write;
 
 // Places among the arguments, of which the program's own name is the first.
 const OLD: usize = 1;
@@ -29,53 +35,66 @@ fn large_room() -> [u8; 1048576]
     [0; 1048576]
 }
 
-fn compare_and_tell(old: &[u8], new: &[u8], out: &mut [u8]) {
-    let answer = answer_of(old, new, out);
-    let written = answer.written;
-    let line = answer.line;
-    if write(&out[..written]) {
-        write_text(line);
-    }
+// Writes what comparing two editions answers, or says on standard error why it can't; whether it was written.
+fn compare_and_tell<W: Write, E: Write>(
+    out: &mut W,
+    err: &mut E,
+    old: &[u8],
+    new: &[u8],
+    room: &mut [u8],
+) -> bool
+    ensures { OnTrue result (Appends (W.contents out.old) (W.contents out.new)
+        (told_of old.now new.now (compared_of old.now new.now (length room.old)))) }
+{
+    let answer = answer_of(old, new, room);
+    write_answer(out, err, answer, room)
 }
 
-fn compare_within(old: &[u8], new: &[u8], room: usize)
+fn compare_within(rt: &HostRuntime, old: &[u8], new: &[u8], room: usize)
     requires { room ≤ 1048576 }
 {
     let mut out = large_room();
-    compare_and_tell(old, new, &mut out[..room]);
+    compare_and_tell(
+        &mut rt.stdout(),
+        &mut rt.stderr(),
+        old,
+        new,
+        &mut out[..room],
+    );
 }
 
-fn compare_with_new(old: &[u8], room: usize)
+fn compare_with_new(rt: &HostRuntime, old: &[u8], room: usize)
     requires { room ≤ 1048576 }
 {
     let mut new = recipe_room();
-    let taken = take_front(NEW, &mut new);
+    let taken = take_front(rt, &mut rt.stderr(), NEW, &mut new);
     let Taken::All(len) = taken else {
         return;
     };
-    compare_within(old, &new[..len], room);
+    compare_within(rt, old, &new[..len], room);
 }
 
-fn compare_files(room: usize)
+fn compare_files(rt: &HostRuntime, room: usize)
     requires { room ≤ 1048576 }
 {
     let mut old = recipe_room();
-    let taken = take_front(OLD, &mut old);
+    let taken = take_front(rt, &mut rt.stderr(), OLD, &mut old);
     let Taken::All(len) = taken else {
         return;
     };
-    compare_with_new(&old[..len], room);
+    compare_with_new(rt, &old[..len], room);
 }
 
-fn main() {
-    let count = os::arg_count();
+fn main(rt: HostRuntime) {
+    let mut err = rt.stderr();
+    let count = argument_count(&rt);
     if count <= NEW || ROOM < count - 1 {
-        complain(b"usage: compare_recipes OLD NEW [ROOM]");
+        complain(&mut err, b"usage: compare_recipes OLD NEW [ROOM]");
         return;
     }
-    let room = number_argument(b"ROOM", ROOM, USUAL_ROOM, MOST_ROOM);
+    let room = number_argument(&rt, &mut err, b"ROOM", ROOM, USUAL_ROOM, MOST_ROOM);
     let Setting::Is(most) = room else {
         return;
     };
-    compare_files(most as usize);
+    compare_files(&rt, most as usize);
 }

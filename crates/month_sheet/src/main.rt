@@ -3,90 +3,64 @@
 // refused and the number of the record that is no record, or one too many.
 #![tactic(auto)]
 
-use console::{complain, complain_of_reading, write};
+use console::{
+    LONGEST, argument_count, complain, complain_of_reading, open_path, path_given, read_some, write,
+};
 use sheet::{Report, Sheet, begin, finish, take};
+use std::io;
+use std::io::{Read, Write};
 
 // The place of the argument; the program's own name is the first.
 const FILE: usize = 1;
 
-// More parts than any file has, so that reading ends.
-const MOST_PARTS: usize = 18446744073709551615;
+// How many bytes of a file are looked at together.
+const PART: usize = 4096;
 
-// Whether a file was read to its end.
-#[derive(Clone, Copy)]
-enum Reading {
-    Whole,
-    Failed,
-}
-
-#[derive(Clone, Copy)]
-struct FileTaken {
-    sheet: Sheet,
-    reading: Reading,
-}
-
-// The sheet that an open file holds, read through a small buffer.
-fn take_from(fd: i32) -> FileTaken {
+// The sheet that a file holds, read through a small buffer.
+fn take_from<R: Read>(reader: &mut R) -> io::Result<Sheet> {
     let mut sheet = begin();
-    let mut buffer = io::buffer();
-    let mut left = MOST_PARTS;
-    while left != 0 {
-        let got = libc::read(fd, &mut buffer);
-        if got == 0 {
-            return FileTaken {
-                sheet,
-                reading: Reading::Whole,
-            };
+    let mut buffer = [0u8; PART];
+    // More parts than any file has, so that reading ends.
+    for _ in 0..u64::MAX {
+        let count = read_some(reader, &mut buffer)?;
+        if count == 0 {
+            return Ok(sheet);
         }
-        if got < 0 {
-            return FileTaken {
-                sheet,
-                reading: Reading::Failed,
-            };
-        }
-        let count = io::count(got, &buffer);
         sheet = take(sheet, &buffer[..count]);
-        left -= 1;
     }
-    FileTaken {
-        sheet,
-        reading: Reading::Failed,
-    }
+    Err(io::Error::from(io::ErrorKind::FileTooLarge))
 }
 
-fn write_report(report: Report) {
+fn write_report<W: Write, E: Write>(out: &mut W, err: &mut E, report: Report) {
     let bytes = report.bytes;
     let len = report.len;
     if len <= Report::ROOM {
-        write(&bytes[..len]);
+        write(out, err, &bytes[..len]);
     }
 }
 
-fn total_path(path: &[u8]) {
-    let fd = os::open_read(path);
-    if fd < 0 {
-        complain_of_reading(path);
-        return;
-    }
-    let taken = take_from(fd);
-    let reading = taken.reading;
-    match reading {
-        Reading::Whole => write_report(finish(taken.sheet)),
-        Reading::Failed => complain_of_reading(path),
-    }
-    libc::close(fd);
+fn sheet_at(rt: &HostRuntime, path: &[u8]) -> io::Result<Sheet> {
+    let mut file = open_path(rt, path)?;
+    take_from(&mut file)
 }
 
-fn main() {
-    if os::arg_count() != FILE + 1 {
-        complain(b"usage: month_sheet FILE");
+fn total_path(rt: &HostRuntime, path: &[u8]) {
+    let mut err = rt.stderr();
+    match sheet_at(rt, path) {
+        Ok(sheet) => write_report(&mut rt.stdout(), &mut err, finish(sheet)),
+        Err(error) => complain_of_reading(&mut err, path, &error),
+    }
+}
+
+fn main(rt: HostRuntime) {
+    let mut err = rt.stderr();
+    if argument_count(&rt) != FILE + 1 {
+        complain(&mut err, b"usage: month_sheet FILE");
         return;
     }
-    let mut path = io::buffer();
-    let len = os::arg(FILE, &mut path);
-    if os::errno() != 0 {
-        os::fail(b"cannot take an argument");
+    let mut path = [0u8; LONGEST];
+    let Some(len) = path_given(&rt, &mut err, FILE, &mut path) else {
         return;
-    }
-    total_path(&path[..len]);
+    };
+    total_path(&rt, &path[..len]);
 }

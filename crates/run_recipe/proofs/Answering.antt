@@ -1,15 +1,17 @@
 -- What is to be written of a run follows from what the runner answers.
-use mathlib.Core.Path.{◌≡◌, refl, sym, ap, ◌∙◌}
+use mathlib.Core.Path.{◌≡◌, refl, sym, ap, ap₂, ◌∙◌}
 use mathlib.Core.List.{List, ◌++◌}
 use Prim.Native.Nat.{ℕ, ◌≤◌}
 use native.Mathlib.Omega.{arith}
 use lib.ListN.{length, drop, length-append}
 use lib.Seq.{take-append_seam}
-use Rattle.io.specs.Counts.{IsPrefixLen}
-use Rattle.io.proofs.Counting.{prefix_len_of_le}
+use Rattle.console.specs.Counts.{IsPrefixLen}
+use Rattle.console.proofs.Counting.{prefix_len_of_le}
 use Rattle.whole.specs.Bytes.{bytes}
 use Rattle.whole.specs.Texts.{held}
 use Rattle.whole.specs.declared.texts.Text.{Text}
+use Rattle.whole.proofs.Numerals.{held_front}
+use Rattle.console.specs.Answers as written
 use Rattle.variables.specs.declared.tables.Tables.{Tables}
 use Rattle.index.specs.Index.{index_words, indexed_of, held_after, index_after}
 use Rattle.index.specs.declared.making.Indexed.{Indexed}
@@ -19,7 +21,8 @@ use Rattle.runner.specs.Run.{Ran, answer_of, room_after}
 use Rattle.runner.specs.declared.running.Ran as code
 use Rattle.runner.specs.declared.running.Outcome.{Outcome}
 use Rattle.runner.specs.declared.running.Outcome.TheVariants.{Ended, Stopped, Out, Failed, Refused}
-use Rattle.run_recipe.specs.Answers.{word_of, last_line, Tells}
+use Rattle.run_recipe.specs.declared.answers.Answer.{Answer}
+use Rattle.run_recipe.specs.Answers.{word_of, last_line, Tells, told_of}
 
 -- each word is short
 pub short_word : (o : Outcome) → length (word_of o) ≤ 7
@@ -53,4 +56,12 @@ tells ran tables room r line room' e f g =
       within = rw (count, f) (front_counts out rest);
       printed = rw (count, f) (take-append_seam out rest);
       ending = g ∙ ap (λ (x : code.Ran). held (last_line x.outcome x.steps)) e;
+    }
+
+-- the bytes that are written of it
+pub tells_bytes : {ran : Ran} {a : Answer} {room : List ℕ} → Tells ran a room → written.Tells (told_of ran) (record { written = a.written; line = a.line }) room
+tells_bytes {ran} t =
+    record {
+      within = t.within;
+      written = ap₂ (λ (l m : List ℕ). l ++ m) t.printed (held_front (last_line ran.ending ran.machine.steps) t.ending);
     }

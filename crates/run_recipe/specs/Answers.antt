@@ -1,7 +1,7 @@
 -- What the program writes: what the recipe printed, and then one line: outcome word (ended, stopped, out, error, refused), number, line
 -- (if refused, place), steps, parted by tabs, ended by byte 10.
-use Rattle.std.specs.Prelude.{◌≡◌, cond, List, [], ◌∷◌, ℕ, take}
-use Rattle.io.specs.Counts.{IsPrefixLen}
+use Rattle.std.specs.Prelude.{◌≡◌, cond, List, [], ◌∷◌, ◌++◌, ℕ, take}
+use Rattle.console.specs.Counts.{IsPrefixLen}
 use Rattle.whole.specs.Bytes.{bytes}
 use Rattle.whole.specs.Texts.{held}
 use Rattle.console.specs.Lines.{line}
@@ -29,3 +29,7 @@ pub record Tells (ran : Ran) (a : Answer) (room : List ℕ) : Type 0 where
   pub within : IsPrefixLen a.written room
   pub printed : take a.written room ≡ ran.machine.output
   pub ending : a.line ≡ held (last_line ran.ending ran.machine.steps)
+
+-- the bytes that are written of a run
+abbrev pub told_of : Ran → List ℕ
+told_of ran = ran.machine.output ++ last_line ran.ending ran.machine.steps

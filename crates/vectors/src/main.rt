@@ -9,7 +9,7 @@ mod saying;
 
 ghost use Rattle.std.specs.Prelude.{◌≡◌, ◌<◌, length};
 
-use libc::STDIN_FILENO;
+use std::io::{Read, Stdin, Stdout};
 
 // More bytes than any stored case asks for.
 fn text_room() -> [u8; 20480]
@@ -43,29 +43,30 @@ fn number_at(head: &[u8; 25], at: usize) -> u32 {
 }
 
 // The bytes at the front of a buffer, as far as there is room.
-fn take_in(bytes: &mut [u8], len: usize) {
+fn take_in(cases: &mut Stdin, bytes: &mut [u8], len: usize) {
     if len <= bytes.len() {
-        io::read_full(STDIN_FILENO, &mut bytes[..len]);
+        let _ = cases.read_exact(&mut bytes[..len]);
     }
 }
 
 // Reads one case and writes its answer; false where none is left.
-fn next_case(text: &mut [u8], input: &mut [u8]) -> bool {
+fn next_case(cases: &mut Stdin, out: Stdout, text: &mut [u8], input: &mut [u8]) -> bool {
     let mut head = [0u8; 25];
-    if io::read_full(STDIN_FILENO, &mut head) < 25 {
+    if cases.read_exact(&mut head).is_err() {
         return false;
     }
     let len = number_at(&head, 1) as usize;
     let count = number_at(&head, 5) as usize;
-    take_in(text, len);
-    take_in(input, count);
+    take_in(cases, text, len);
+    take_in(cases, input, count);
     if head[0] == CHECK {
-        checks::answer(text, len);
+        checks::answer(out, text, len);
     } else {
         let space = number_at(&head, 9) as usize;
         let room = number_at(&head, 13) as usize;
         let records = number_at(&head, 21) as usize;
         runs::answer(
+            out,
             text,
             len,
             input,
@@ -79,13 +80,15 @@ fn next_case(text: &mut [u8], input: &mut [u8]) -> bool {
     true
 }
 
-fn main() {
+fn main(rt: HostRuntime) {
+    let mut cases = rt.stdin();
+    let out = rt.stdout();
     let mut text = text_room();
     let mut input = input_room();
     let mut going = true;
     let mut left: u32 = 60000;
     while going && 0 < left {
         left -= 1;
-        going = next_case(&mut text, &mut input);
+        going = next_case(&mut cases, out, &mut text, &mut input);
     }
 }

@@ -3,6 +3,7 @@ ghost use Rattle.std.specs.Prelude.{◌≡◌, ◌<◌, length};
 
 use crate::saying::{front, line_end, number, others, tally, word};
 use runner::{Outcome, Ran, is_refused, run_with};
+use std::io::Stdout;
 use variables::{Numbers, Strings, Tables};
 use words::Name;
 
@@ -22,20 +23,21 @@ fn output_room() -> [u8; 20480]
 }
 
 // Outcome, number, line and place; what does not apply is 0.
-fn ending(name: &[u8], fault: u8, line: u16, place: usize) {
-    word(name);
-    number(fault as u64);
-    number(line as u64);
-    number(place as u64);
+fn ending(out: Stdout, name: &[u8], fault: u8, line: u16, place: usize) {
+    word(out, name);
+    number(out, fault as u64);
+    number(out, line as u64);
+    number(out, place as u64);
 }
 
-fn show_outcome(outcome: Outcome) {
+fn show_outcome(out: Stdout, outcome: Outcome) {
     match outcome {
-        Outcome::Ended => ending(b"ended", 0, 0, 0),
-        Outcome::Stopped(line) => ending(b"stopped", 0, line.0, 0),
-        Outcome::Out(line) => ending(b"out", 0, line.0, 0),
-        Outcome::Failed(error, line) => ending(b"error", whole::number_of(error), line.0, 0),
+        Outcome::Ended => ending(out, b"ended", 0, 0, 0),
+        Outcome::Stopped(line) => ending(out, b"stopped", 0, line.0, 0),
+        Outcome::Out(line) => ending(out, b"out", 0, line.0, 0),
+        Outcome::Failed(error, line) => ending(out, b"error", whole::number_of(error), line.0, 0),
         Outcome::Refused(refusal, place) => ending(
+            out,
             b"refused",
             loader::refusal_number(refusal),
             0,
@@ -48,44 +50,44 @@ fn wide_word(word: u16) -> u64 {
     word as u64
 }
 
-fn show_words(words: &[u16], count: usize) {
+fn show_words(out: Stdout, words: &[u16], count: usize) {
     let mut i = 0;
     while i < count && i < words.len() {
-        number(wide_word(words[i]));
+        number(out, wide_word(words[i]));
         i += 1;
     }
 }
 
 // How many words from a place on are not zero.
-fn other_words(words: &[u16], from: usize) {
+fn other_words(out: Stdout, words: &[u16], from: usize) {
     let mut unused: u64 = 0;
     let mut i = from;
     while i < words.len() {
         unused = tally(unused, words[i] != 0);
         i += 1;
     }
-    number(unused);
+    number(out, unused);
 }
 
 // The names and words in use, and how many of the unused ones are not zero.
-fn show_numbers(numbers: Numbers) {
+fn show_numbers(out: Stdout, numbers: Numbers) {
     let names = numbers.names;
     let words = numbers.words;
     let count = numbers.count % 65;
-    front(&names, Name::WIDTH * count);
-    others(&names, Name::WIDTH * count, 0);
-    show_words(&words, count);
-    other_words(&words, count);
+    front(out, &names, Name::WIDTH * count);
+    others(out, &names, Name::WIDTH * count, 0);
+    show_words(out, &words, count);
+    other_words(out, &words, count);
 }
 
-fn show_strings(strings: Strings) {
+fn show_strings(out: Stdout, strings: Strings) {
     let names = strings.names;
     let lengths = strings.lengths;
     let count = strings.count % 65;
-    front(&names, Name::WIDTH * count);
-    others(&names, Name::WIDTH * count, 0);
-    front(&lengths, count);
-    others(&lengths, count, 0);
+    front(out, &names, Name::WIDTH * count);
+    others(out, &names, Name::WIDTH * count, 0);
+    front(out, &lengths, count);
+    others(out, &lengths, count, 0);
 }
 
 fn wide(byte: u8) -> usize
@@ -107,31 +109,31 @@ fn string_bytes(strings: Strings) -> usize {
 }
 
 // The variables' bytes and zeros after them; a refusal leaves what there was.
-fn show_space(refused: bool, used: usize, space: &[u8]) {
+fn show_space(out: Stdout, refused: bool, used: usize, space: &[u8]) {
     if refused {
-        others(space, 0, OLD);
+        others(out, space, 0, OLD);
     } else {
-        front(space, used);
-        others(space, used, 0);
+        front(out, space, used);
+        others(out, space, used, 0);
     }
 }
 
-fn show(ran: Ran, space: &[u8], room: &[u8]) {
+fn show(out: Stdout, ran: Ran, space: &[u8], room: &[u8]) {
     let outcome = ran.outcome;
-    show_outcome(outcome);
-    number(ran.steps as u64);
+    show_outcome(out, outcome);
+    number(out, ran.steps as u64);
     let written = ran.written;
-    number(written as u64);
-    number(ran.taken as u64);
-    front(room, written);
-    others(room, written, OLD);
+    number(out, written as u64);
+    number(out, ran.taken as u64);
+    front(out, room, written);
+    others(out, room, written, OLD);
     let tables = ran.tables;
     let numbers = tables.numbers;
     let strings = tables.strings;
-    show_space(is_refused(outcome), string_bytes(strings), space);
-    show_numbers(numbers);
-    show_strings(strings);
-    line_end();
+    show_space(out, is_refused(outcome), string_bytes(strings), space);
+    show_numbers(out, numbers);
+    show_strings(out, strings);
+    line_end(out);
 }
 
 // What the tables hold before a run: a number QN that is 41, and a string QT of three bytes. A refusal hands them back.
@@ -160,6 +162,7 @@ fn old_tables() -> Tables {
 }
 
 fn run_in(
+    out: Stdout,
     text: &[u8],
     input: &[u8],
     space: &mut [u8],
@@ -168,11 +171,12 @@ fn run_in(
     records: usize,
 ) {
     let ran = run_with(text, input, space, room, &[], records, budget, old_tables());
-    show(ran, space, room);
+    show(out, ran, space, room);
 }
 
 // Nothing where there is less room than asked for.
 fn run_case(
+    out: Stdout,
     text: &[u8],
     input: &[u8],
     space_len: usize,
@@ -185,6 +189,7 @@ fn run_case(
     if space_len <= 20480 {
         if room_len <= 20480 {
             run_in(
+                out,
                 text,
                 input,
                 &mut space[..space_len],
@@ -197,6 +202,7 @@ fn run_case(
 }
 
 pub(crate) fn answer(
+    out: Stdout,
     text: &[u8],
     len: usize,
     input: &[u8],
@@ -209,6 +215,7 @@ pub(crate) fn answer(
     if len <= text.len() {
         if count <= input.len() {
             run_case(
+                out,
                 &text[..len],
                 &input[..count],
                 space_len,

@@ -1,21 +1,20 @@
 // How an answer is written.
 ghost use Rattle.std.specs.Prelude.{◌<◌, ◌≤◌, ◌+◌};
 
-use libc::STDOUT_FILENO;
+use std::io::{Print, Stdout};
 
-// Fields are parted by blanks.
-pub(crate) fn number(value: u64) {
-    io::print_decimal(STDOUT_FILENO, value);
-    io::write_all(STDOUT_FILENO, b" ");
+// Fields are parted by blanks. What can't be written is not said.
+pub(crate) fn number(out: Stdout, value: u64) {
+    let _ = print!(out; "{value} ");
 }
 
-pub(crate) fn word(word: &[u8]) {
-    io::write_all(STDOUT_FILENO, word);
-    io::write_all(STDOUT_FILENO, b" ");
+pub(crate) fn word(out: Stdout, word: &[u8]) {
+    let _ = out.write_all(word);
+    let _ = out.write_all(b" ");
 }
 
-pub(crate) fn line_end() {
-    io::write_all(STDOUT_FILENO, b"\n");
+pub(crate) fn line_end(out: Stdout) {
+    let _ = out.write_all(b"\n");
 }
 
 fn wide(byte: u8) -> u64 {
@@ -23,11 +22,11 @@ fn wide(byte: u8) -> u64 {
 }
 
 // So many bytes at the front, each by its number.
-pub(crate) fn front(bytes: &[u8], count: usize) {
-    number(count as u64);
+pub(crate) fn front(out: Stdout, bytes: &[u8], count: usize) {
+    number(out, count as u64);
     let mut i = 0;
     while i < count && i < bytes.len() {
-        number(wide(bytes[i]));
+        number(out, wide(bytes[i]));
         i += 1;
     }
 }
@@ -44,12 +43,12 @@ pub(crate) fn tally(count: u64, differs: bool) -> u64
 }
 
 // How many bytes from a place on are others than this one.
-pub(crate) fn others(bytes: &[u8], from: usize, byte: u8) {
+pub(crate) fn others(out: Stdout, bytes: &[u8], from: usize, byte: u8) {
     let mut count: u64 = 0;
     let mut i = from;
     while i < bytes.len() {
         count = tally(count, bytes[i] != byte);
         i += 1;
     }
-    number(count);
+    number(out, count);
 }

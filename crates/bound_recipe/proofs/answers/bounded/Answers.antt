@@ -1,0 +1,10 @@
+-- A word that was put into an empty text, a field and an end are a line (`line_put`).
+use Rattle.std.proofs.Common.{[], ◌∷◌, arith}
+use Rattle.whole.specs.Bytes.{bytes}
+use Rattle.console.proofs.Writing.{line_put}
+use Rattle.bound_recipe.proofs.answers.bounded.Goals as goal
+
+pub returns : goal.returns
+unfolding bytes
+returns c =
+    rw (c.end_line.ensures, c.put_field-counted.ensures, c.put_bytes-word.ensures, c.empty.ensures) (line_put (bytes "bounded") (c.args.steps ∷ []) (omega arith))
