@@ -1,7 +1,6 @@
 -- The part that is cut is the run, which ends within the line; past the line's end it is empty.
 use native.Mathlib.Nat.{add-zero}
 use native.Mathlib.Omega.{arith}
-use borrow.Author.Rules.{rules}
 use lib.ListN.{drop_of_length-le}
 use Rattle.whole.specs.Bytes.{leading}
 use Rattle.words.proofs.Runs.{run_within, run_part}

@@ -1,6 +1,6 @@
 -- The loop keeps that from its length on stand only blanks.
 use native.Mathlib.Omega.{arith}
-use Rattle.items.proofs.Cutting.{BlankFrom, blank_from_end, blank_more, blanks_end, all_blank}
+use Rattle.items.proofs.Cutting.{blank_more, blanks_end, all_blank}
 use Rattle.items.proofs.reading.cut_length.Goals as goal
 
 pub returns-then-bytes-len-ne32 : goal.returns-then-bytes-len-ne32

@@ -1,5 +1,4 @@
-use native.Mathlib.Omega.{arith}
-use Rattle.items.proofs.Cutting.{BlankFrom, blank_from_end, blank_more, blanks_end, all_blank}
+use Rattle.items.proofs.Cutting.{BlankFrom}
 use Rattle.items.proofs.reading.cut_length.Given as goal
 
 abbrev pub invariant-loop-len : goal.invariant-loop-len

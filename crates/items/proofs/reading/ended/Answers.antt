@@ -1,5 +1,4 @@
 -- Each arm is a byte that the definition names.
-use borrow.Author.Rules.{rules}
 use borrow.Author.Tests.{ne_eqb}
 use Rattle.items.proofs.Inside.{ended_past, ended_here}
 use Rattle.items.proofs.reading.ended.Goals as goal

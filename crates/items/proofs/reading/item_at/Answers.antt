@@ -1,8 +1,6 @@
 -- The first byte that is no blank tells which item it is; a quote is a byte of the line.
-use borrow.Author.Rules.{rules}
 use borrow.Author.Tests.{ne_eqb}
 use Rattle.items.specs.Items.{item_at}
-use Rattle.items.proofs.Inside.{quote_inside}
 use Rattle.items.proofs.reading.item_at.Goals as goal
 
 pub returns-then-byte_at-eq34 : goal.returns-then-byte_at-eq34
