@@ -1,5 +1,5 @@
 -- What the loop keeps holds at the start, a turn keeps it, and at the end it is what the run comes to.
-use Rattle.std.proofs.Common.{sym, ◌∙◌}
+use Rattle.std.proofs.Common.{◌<◌, ◌^◌, sym, ◌∙◌, arith}
 use Rattle.runner.proofs.Walking.{loaded_ordered, keeps_begun, keeps_awaits, keeps_on, keeps_nearer, keeps_told, keeps_over}
 use Rattle.runner.proofs.lending.run_loaded.Goals as goal
 
@@ -11,7 +11,8 @@ loop-names-init c = keeps_begun _ _ _ _ _ _ _ _ _ _ _ c.requires c.begins-going.
 
 pub step-next-requires : goal.step-next-requires
 step-next-requires c =
-    keeps_awaits _ _ _ _ _ _ _ _ _ _ _ _ _ _ _ c.loop-names.invariant (sym c.goes.ensures ∙ c.loop-names-test.true) c.ranges.budget
+    let small : c.args.budget < 2 ^ 32 = omega arith in
+    keeps_awaits _ _ _ _ _ _ _ _ _ _ _ _ _ _ _ c.loop-names.invariant (sym c.goes.ensures ∙ c.loop-names-test.true) small
 
 pub loop-names-preserved : goal.loop-names-preserved
 loop-names-preserved c =

@@ -1,0 +1,9 @@
+-- An arm for each place that a statement leads to.
+use mathlib.Core.Path.{refl}
+use Rattle.runner.proofs.Entering.{row_of_lines}
+use borrow.Author.Rules.{rules}
+use Rattle.runner.proofs.standing.following.Goals as goal
+
+pub returns-in-Enter : goal.returns-in-Enter
+returns-in-Enter c = rw c.in-Enter.is
+    (record { rowed = c.entered.ensures.rowed; stands = λ text t b m. rw (row_of_lines c.row_of.ensures t b) (c.entered.ensures.stands text t tt m) })

@@ -1,0 +1,10 @@
+-- From the row that the line at the position has.
+use Rattle.runner.proofs.Entering.{onward_over, onward_at}
+use borrow.Author.Rules.{rules}
+use Rattle.runner.proofs.standing.onward.Goals as goal
+
+pub returns-then-position : goal.returns-then-position
+returns-then-position c = record { rowed = c.entered.ensures.rowed; stands = λ text t w m. onward_over c.row_of-here.ensures t w m c.if-position.true c.entered.result (c.entered.ensures.stands text t tt m) }
+
+pub returns : goal.returns
+returns c = record { rowed = c.row_of-here.ensures.inside; stands = λ text t w m. onward_at c.row_of-here.ensures t w m c.if-position.false }
