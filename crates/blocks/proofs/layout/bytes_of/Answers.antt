@@ -15,9 +15,9 @@ loop-i-init c = (omega arith, c.requires, refl, refl)
 
 pub loop-i-preserved : goal.loop-i-preserved
 loop-i-preserved c = (
-      omega arith,
-      c.loop-i.invariant.1,
-      simp length-set c.loop-i.invariant.2,
-      word_written c.loop-i.bytes c.args.words.now c.loop-i.i c.low_byte.result c.high_byte.result (omega arith)
-          (omega arith) c.low_byte.ensures c.high_byte.ensures c.loop-i.invariant.3,
-    )
+  omega arith,
+  c.loop-i.invariant.1,
+  simp length-set c.loop-i.invariant.2,
+  word_written c.loop-i.bytes c.args.words.now c.loop-i.i c.low_byte.result c.high_byte.result (omega arith)
+      (omega arith) c.low_byte.ensures c.high_byte.ensures c.loop-i.invariant.3,
+)

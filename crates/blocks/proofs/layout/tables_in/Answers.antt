@@ -5,10 +5,10 @@ use Rattle.blocks.proofs.layout.tables_in.Goals as goal
 -- w is where the words are known, and l where the lengths are
 pub returns : goal.returns
 returns c = rw (
-      c.names_at-number_names.ensures,
-      c.words_at-words.ensures,
-      c.names_at-string_names.ensures,
-      c.lengths_at-lengths.ensures,
-      c.wide.ensures.0,
-      c.wide-2.ensures.0,
-    )
+  c.names_at-number_names.ensures,
+  c.words_at-words.ensures,
+  c.names_at-string_names.ensures,
+  c.lengths_at-lengths.ensures,
+  c.wide.ensures.0,
+  c.wide-2.ensures.0,
+)

@@ -15,7 +15,7 @@ loop-i-init c = (omega arith, refl, refl)
 
 pub loop-i-preserved : goal.loop-i-preserved
 loop-i-preserved c = (
-      omega arith,
-      simp length-set c.loop-i.invariant.1,
-      word_read c.loop-i.words c.args.bytes.now c.loop-i.i c.word_of.result (omega arith) c.word_of.ensures c.loop-i.invariant.2,
-    )
+  omega arith,
+  simp length-set c.loop-i.invariant.1,
+  word_read c.loop-i.words c.args.bytes.now c.loop-i.i c.word_of.result (omega arith) c.word_of.ensures c.loop-i.invariant.2,
+)

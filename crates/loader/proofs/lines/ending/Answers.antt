@@ -34,19 +34,19 @@ returns-then-text-next c = rw (drop_next _ _ c.if-text-here.false, drop_of_lengt
 pub returns-then-text-next-eq-LINE_FEED : goal.returns-then-text-next-eq-LINE_FEED
 unfolding ending_of
 returns-then-text-next-eq-LINE_FEED c = rw (
-      drop_next _ _ c.if-text-here.false,
-      drop_next _ _ c.if-text-next.false,
-      ne_eqb _ _ c.if-first-eq-LINE_FEED.false,
-      eq-eqb _ _ c.if-first-ne-CARRIAGE_RETURN.false,
-      eq-eqb _ _ c.if-text-next-eq-LINE_FEED.true,
-    )
+  drop_next _ _ c.if-text-here.false,
+  drop_next _ _ c.if-text-next.false,
+  ne_eqb _ _ c.if-first-eq-LINE_FEED.false,
+  eq-eqb _ _ c.if-first-ne-CARRIAGE_RETURN.false,
+  eq-eqb _ _ c.if-text-next-eq-LINE_FEED.true,
+)
 
 pub returns-else-text-next-eq-LINE_FEED : goal.returns-else-text-next-eq-LINE_FEED
 unfolding ending_of
 returns-else-text-next-eq-LINE_FEED c = rw (
-      drop_next _ _ c.if-text-here.false,
-      drop_next _ _ c.if-text-next.false,
-      ne_eqb _ _ c.if-first-eq-LINE_FEED.false,
-      eq-eqb _ _ c.if-first-ne-CARRIAGE_RETURN.false,
-      ne_eqb _ _ c.if-text-next-eq-LINE_FEED.false,
-    )
+  drop_next _ _ c.if-text-here.false,
+  drop_next _ _ c.if-text-next.false,
+  ne_eqb _ _ c.if-first-eq-LINE_FEED.false,
+  eq-eqb _ _ c.if-first-ne-CARRIAGE_RETURN.false,
+  ne_eqb _ _ c.if-text-next-eq-LINE_FEED.false,
+)
