@@ -1,10 +1,7 @@
 -- The loop keeps that from the byte reached on the extent is the same.
-use mathlib.Core.Path.{◌≡◌, refl, sym, ◌∙◌}
-use Prim.Native.Nat.{◌-◌}
+use mathlib.Core.Path.{sym, ◌∙◌}
 use native.Mathlib.Omega.{arith}
-use borrow.Author.Rules.{rules}
-use lib.ListN.{length, drop}
-use Rattle.loader.specs.Lines.{extent_at}
+use lib.ListN.{drop}
 use Rattle.loader.proofs.Extents.{walk_on, walk_end, walk_out, ending_small}
 use Rattle.loader.proofs.lines.extent_at.Goals as goal
 

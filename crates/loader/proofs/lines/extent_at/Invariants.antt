@@ -1,10 +1,7 @@
-use mathlib.Core.Path.{◌≡◌, refl, sym, ◌∙◌}
+use mathlib.Core.Path.{◌≡◌}
 use Prim.Native.Nat.{◌-◌}
-use native.Mathlib.Omega.{arith}
-use borrow.Author.Rules.{rules}
 use lib.ListN.{length, drop}
 use Rattle.loader.specs.Lines.{extent_at}
-use Rattle.loader.proofs.Extents.{walk_on, walk_end, walk_out, ending_small}
 use Rattle.loader.proofs.lines.extent_at.Given as goal
 
 abbrev pub invariant-loop-at : goal.invariant-loop-at

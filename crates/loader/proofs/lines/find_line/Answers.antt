@@ -1,13 +1,10 @@
 -- The loop keeps that the search from the line reached on finds the same.
-use mathlib.Core.Path.{◌≡◌, refl, sym, ap, ◌∙◌}
-use Prim.Native.Nat.{◌-◌}
+use mathlib.Core.Path.{sym, ap, ◌∙◌}
 use native.Mathlib.Omega.{arith}
-use borrow.Author.Rules.{rules}
 use borrow.Author.Tests.{eq-eqb, ne_eqb}
-use lib.ListN.{length}
-use Rattle.loader.specs.Lines.{lines_of, first_of, has, from_number}
+use Rattle.loader.specs.Lines.{first_of, has, from_number}
 use Rattle.loader.specs.declared.lines.LineFound.TheVariants as line
-use Rattle.loader.proofs.Extents.{lines_at, lines_out, walked}
+use Rattle.loader.proofs.Extents.{lines_out, walked}
 use Rattle.loader.proofs.Found.{digits_end, found_here, from_hit, from_miss}
 use Rattle.loader.proofs.lines.find_line.Goals as goal
 

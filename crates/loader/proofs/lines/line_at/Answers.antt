@@ -1,7 +1,6 @@
 -- The line at a place is the one walked there, with the number of its bytes.
 use mathlib.Core.Path.{sym, ap, ◌∙◌}
 use native.Mathlib.Omega.{arith}
-use borrow.Author.Rules.{rules}
 use lib.ListN.{drop_of_length-le}
 use Rattle.loader.specs.Lines.{lines_from}
 use Rattle.loader.specs.declared.lines.LineFound.TheVariants as line

@@ -1,7 +1,6 @@
 -- Each case of `number_of`, by what `leading_digits` tells of the digits and their value.
 use mathlib.Core.Path.{sym, ap, ap₂, ◌∙◌}
 use native.Mathlib.Omega.{arith}
-use borrow.Author.Rules.{rules}
 use Rattle.whole.specs.Digits.{leading_value, digits_of}
 use Rattle.whole.proofs.Reading.{value_in, value_out}
 use Rattle.words.specs.Places.{line_number}

@@ -1,7 +1,6 @@
 -- Each test of `judged` comes out as the code's own.
 use mathlib.Core.Path.{sym, ◌∙◌}
 use borrow.Author.Tests.{lt-ltb, le-ltb}
-use borrow.Author.Rules.{rules}
 use lib.ListN.{length}
 use Rattle.loader.specs.Loading.{judged}
 use Rattle.words.specs.Places.{longest_line}

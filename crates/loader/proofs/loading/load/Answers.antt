@@ -1,12 +1,10 @@
 -- The loop keeps that the lines from the one reached on load as the text does.
-use mathlib.Core.Path.{◌≡◌, sym, ◌∙◌}
-use Prim.Native.Nat.{◌-◌}
+use mathlib.Core.Path.{sym, ◌∙◌}
 use native.Mathlib.Omega.{arith}
-use borrow.Author.Rules.{rules}
 use borrow.Author.Tests.{lt-ltb, le-ltb}
 use lib.ListN.{length}
 use Rattle.loader.specs.Loading.{load_lines, load_of, longest_text}
-use Rattle.loader.proofs.Extents.{lines_at, passed, lines_out, walked, walked_size}
+use Rattle.loader.proofs.Extents.{passed, lines_out, walked, walked_size}
 use Rattle.loader.proofs.Rising.{load_good, load_bad, judged_good, judged_bad}
 use Rattle.loader.proofs.loading.load.Goals as goal
 

@@ -1,7 +1,6 @@
 -- Each test of `numbered` comes out as the code's own.
 use native.Mathlib.Omega.{arith}
 use borrow.Author.Tests.{lt-ltb, le-ltb, le-leb, lt-leb}
-use borrow.Author.Rules.{rules}
 use Rattle.loader.specs.Loading.{numbered, most_lines}
 use Rattle.loader.proofs.loading.numbered.Goals as goal
 

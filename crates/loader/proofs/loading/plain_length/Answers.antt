@@ -1,12 +1,8 @@
 -- The loop keeps that the bytes passed are plain.
 use mathlib.Core.Path.{sym, ap, ◌∙◌}
-use Prim.Native.Nat.{◌-◌}
-use native.Mathlib.Omega.{arith}
-use borrow.Author.Rules.{rules}
-use borrow.Author.Tests.{not-true, not-false}
 use lib.ListN.{length}
 use lib.Seq.{length-take-le}
-use Rattle.whole.proofs.Reading.{Passed, passed_none, passed_more, ended_inside, ended_last}
+use Rattle.whole.proofs.Reading.{passed_more, ended_inside, ended_last}
 use Rattle.loader.specs.Loading.{is_plain}
 use Rattle.loader.proofs.loading.plain_length.Goals as goal
 

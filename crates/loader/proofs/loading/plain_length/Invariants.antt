@@ -1,11 +1,6 @@
-use mathlib.Core.Path.{sym, ap, ◌∙◌}
 use Prim.Native.Nat.{◌-◌}
-use native.Mathlib.Omega.{arith}
-use borrow.Author.Rules.{rules}
-use borrow.Author.Tests.{not-true, not-false}
 use lib.ListN.{length}
-use lib.Seq.{length-take-le}
-use Rattle.whole.proofs.Reading.{Passed, passed_none, passed_more, ended_inside, ended_last}
+use Rattle.whole.proofs.Reading.{Passed}
 use Rattle.loader.specs.Loading.{is_plain}
 use Rattle.loader.proofs.loading.plain_length.Given as goal
 
