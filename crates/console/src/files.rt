@@ -51,21 +51,20 @@ fn fill<R: Read>(reader: &mut R, bytes: &mut [u8]) -> io::Result<usize>
     Ok(at)
 }
 
-// What a reader has, at the front of lent bytes.
+// What a reader has, at the front of lent bytes. One that goes on where it had stopped was not read well.
 fn take_from<R: Read>(reader: &mut R, bytes: &mut [u8]) -> io::Result<Taken>
     ensures fronted { IfOk result (λ taken. Fronted taken bytes.new) }
     ensures taken { IfOk result (λ taken. IsTakenOf taken (R.remaining reader.old) bytes.new) }
 {
     let count = fill(reader, bytes)?;
-    if count < bytes.len() {
-        return Ok(Taken::All(count));
-    }
     let mut one = [0u8; 1];
     if read_some(reader, &mut one)? == 0 {
-        Ok(Taken::All(count))
-    } else {
-        Ok(Taken::Front)
+        return Ok(Taken::All(count));
     }
+    if count < bytes.len() {
+        return Err(io::Error::from(ErrorKind::Other));
+    }
+    Ok(Taken::Front)
 }
 
 // Says on standard error why a file can't be read.
