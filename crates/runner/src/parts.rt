@@ -1,5 +1,4 @@
-// The parts of what a run holds by value. What sees the lent stack reads no field itself: each type spelled out there is dear to its
-// proof.
+// The parts of what a run holds by value, for the functions over the lent stack: these only call, and read no field themselves.
 ghost use Rattle.std.specs.Prelude.{◌≡◌, ◌+◌, min};
 ghost use Rattle.machine.specs.Machine.{most_records};
 ghost use Rattle.runner.specs.bridge.Lending.{lookup_of};
