@@ -2,7 +2,6 @@
 use borrow.Author.Rules.{rules}
 use Rattle.blocks.proofs.layout.tables_in.Goals as goal
 
--- w is where the words are known, and l where the lengths are
 pub returns : goal.returns
 returns c = rw (
   c.names_at-number_names.ensures,

@@ -1,4 +1,4 @@
--- Five copies that fill the block; d is where the first is made.
+-- Five copies that fill the block.
 use mathlib.Core.Path.{◌∙◌}
 use borrow.Author.Rules.{rules}
 use Rattle.variables.specs.bridge.Memory.{numbers_of, strings_of}
