@@ -1,5 +1,5 @@
 -- How long a recipe can take, as statements about every call of `run` and of `bound_of`: `Calls` says what a call is. A statement has the proof
--- of its name, with hyphens, in `proofs/Bounds.antt`. Above each stand what it says, what it does not say, and two wrong programs that it rules out.
+-- of its name, in snake case, in `proofs/Bounds.antt`. Above each stand what it says, what it does not say, and two wrong programs that it rules out.
 use Rattle.std.specs.Prelude.{◌≡◌, true, List, ℕ, ◌≤◌}
 use Rattle.words.specs.declared.places.LineNumber.{LineNumber}
 use Rattle.loader.specs.Loading.{load_of}

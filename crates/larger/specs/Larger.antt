@@ -1,5 +1,5 @@
 -- More string space does not change a run (document 02, M-107). The statements are about two calls of `run`, and of the library's function for it.
--- A statement has the proof of its name, with hyphens, in `proofs/Calls.antt`.
+-- A statement has the proof of its name, in snake case, in `proofs/Calls.antt`.
 use Rattle.std.specs.Prelude.{◌≡◌, Bool, true, false, ◌&&◌, List, [], ◌∷◌, ◌++◌, ℕ, ◌-◌, ◌≤◌, length, replicate}
 use Rattle.loader.specs.Lines.{lines_of}
 use Rattle.grammar.specs.Trees.{Formula}

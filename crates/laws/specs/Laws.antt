@@ -1,6 +1,6 @@
 -- Laws that recipe writers lean on, of what formulas come to. X$, N, A, B and C$ stand for any formulas without FRE, and not for variables
 -- alone: FRE would see the strings of the other side. A formula that an operator of the law would part stands in parentheses there, as
--- in any text; parentheses change nothing of what it comes to. A statement has the proof of its name, with hyphens, in `proofs/Texts.antt` or
+-- in any text; parentheses change nothing of what it comes to. A statement has the proof of its name, in snake case, in `proofs/Texts.antt` or
 -- `proofs/Wholes.antt`.
 use Rattle.std.specs.Prelude.{◌≡◌, Bool, true, false, not, ◌&&◌, ◌||◌, List, ◌++◌, ℕ, ◌≤◌, ◌<◌, eqb, length}
 use Rattle.whole.specs.Texts.{longest_string}

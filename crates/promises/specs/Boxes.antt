@@ -1,5 +1,5 @@
 -- Demands 1 and 3 of what a box calls: the library's functions for runs, checks and questions, over all bytes that a host can lend. `Calls`
--- says what a call is. A statement has the proof of its name, with hyphens, in `proofs/Boxes.antt`.
+-- says what a call is. A statement has the proof of its name, in snake case, in `proofs/Boxes.antt`.
 use Rattle.std.specs.Prelude.{◌≡◌, true, false, List, [], ◌∷◌, ◌++◌, ◌↔◌, ℕ, ◌+◌, ◌≤◌, length, get_or}
 use Rattle.whole.specs.Whole.{num}
 use Rattle.host.specs.Answers.{extended_of}

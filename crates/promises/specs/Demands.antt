@@ -1,5 +1,5 @@
 -- The customer's demands, as statements about every call of the code: `Calls` says what a call is. A statement has the proof of its name,
--- with hyphens, in `proofs/Demands.antt`. Above each stand what it says, what it does not say, and two wrong programs that it rules out.
+-- in snake case, in `proofs/Demands.antt`. Above each stand what it says, what it does not say, and two wrong programs that it rules out.
 use Rattle.std.specs.Prelude.{◌≡◌, true, List, ◌↔◌, ℕ, ◌+◌, ◌≤◌, ◌<◌, length}
 use Rattle.whole.specs.declared.errors.Error.TheVariants.{OutOfStringSpace}
 use Rattle.words.specs.Places.{place, line_number}

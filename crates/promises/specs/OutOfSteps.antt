@@ -1,5 +1,5 @@
 -- Out of steps: if the next statement would exceed the budget, the outcome is 'out of steps' at its line. A statement has the proof of its
--- name, with hyphens, in `proofs/OutOfSteps.antt`.
+-- name, in snake case, in `proofs/OutOfSteps.antt`.
 use Rattle.std.specs.Prelude.{◌≡◌, List, ◌↔◌, ℕ, ◌≤◌}
 use Rattle.words.specs.declared.places.LineNumber.{LineNumber}
 use Rattle.loader.specs.Lines.{Line, lines_of}

@@ -1,4 +1,4 @@
--- What the definitions' pairs come to, for their reader; no demand rests on it. A statement has the proof of its name, with hyphens, in
+-- What the definitions' pairs come to, for their reader; no demand rests on it. A statement has the proof of its name, in snake case, in
 -- `proofs/Pairs.antt`.
 --
 -- `partner` (machine/specs/Order) gives a WHILE its WEND by counting those that wait. Many would rather think of a stack of open WHILEs, from

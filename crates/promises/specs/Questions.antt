@@ -1,5 +1,5 @@
 -- Asking for a variable after a run, said of the run's variables: the layout of tables and space is a law (`AskedOverVariables`), not the
--- meaning. A statement has the proof of its name, with hyphens, in `proofs/Questions/Asking.antt`.
+-- meaning. A statement has the proof of its name, in snake case, in `proofs/Questions/Asking.antt`.
 use Rattle.std.specs.Prelude.{◌≡◌, false, cond, List, ◌++◌, ℕ, ◌≤◌, length}
 use Rattle.words.specs.Names.{Telling, name_bytes, telling_of}
 use Rattle.words.specs.Places.{place}

@@ -1,4 +1,4 @@
--- What a text is refused for, row by row of the paper's table, and where. A statement has the proof of its name, with hyphens, in
+-- What a text is refused for, row by row of the paper's table, and where. A statement has the proof of its name, in snake case, in
 -- `proofs/Refusals/` (`Loading`, `Calls`, `Places`).
 use Rattle.std.specs.Prelude.{◌≡◌, Bool, false, List, [], ◌∷◌, ◌++◌, ◌↔◌, ℕ, ◌+◌, ◌≤◌, ◌<◌, length}
 use Rattle.whole.specs.Digits.{is_digit, leading_value}

@@ -1,5 +1,5 @@
 -- Unfinished strings, counted request by request: which strings are unfinished whenever a run asks for another is what `StringSpace` says,
--- and no counter of the machine is used. A statement has the proof of its name, with hyphens, in `proofs/Counting/Runs.antt`.
+-- and no counter of the machine is used. A statement has the proof of its name, in snake case, in `proofs/Counting/Runs.antt`.
 use Rattle.std.specs.Prelude.{◌≡◌, List, ℕ, ◌+◌, ◌≤◌, length}
 use Rattle.loader.specs.Lines.{Line, lines_of}
 use Rattle.loader.specs.Loading.{load_of}

@@ -1,5 +1,5 @@
 -- Sentences of document 01 that the definitions say only by what they do, said outright; no demand rests on them. A statement has the proof
--- of its name, with hyphens, in `proofs/Sentences.antt`.
+-- of its name, in snake case, in `proofs/Sentences.antt`.
 use Rattle.std.specs.Prelude.{◌≡◌, List, map, ℕ, ◌+◌, length}
 use Rattle.words.specs.Classes.{capital_of, is_hex, hex_digit, class_of}
 use Rattle.words.specs.Names.{Telling, telling_of}

@@ -1,5 +1,5 @@
--- Error 7 for records (document 02, M-108): it comes exactly when all records that are lent are taken. A statement has the proof of its name, with
--- hyphens, in `proofs/Seven.antt`.
+-- Error 7 for records (document 02, M-108): it comes exactly when all records that are lent are taken. A statement has the proof of its name, in
+-- snake case, in `proofs/Seven.antt`.
 use Rattle.std.specs.Prelude.{◌≡◌, true, false, List, ◌∷◌, ◌↔◌, ℕ, ◌≤◌, length}
 use Rattle.whole.specs.declared.errors.Error.TheVariants.{OutOfMemory}
 use Rattle.words.specs.Places.{line_number}

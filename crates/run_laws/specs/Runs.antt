@@ -1,7 +1,7 @@
 -- The laws carried to the runner. The carrying is meant so: wherever a run of any call of `run` begins an assignment of one side of a law, what that
 -- statement comes to there, on that machine, is what the assignment of the other side would come to there. It is not said of two texts of
 -- which one has the one side and one the other: places, and so what a line holds and how long it is, would differ, and with them what else the two
--- runs do. A statement has the proof of its name, with hyphens, in `proofs/Runs.antt`.
+-- runs do. A statement has the proof of its name, in snake case, in `proofs/Runs.antt`.
 use Rattle.std.specs.Prelude.{◌≡◌, false, List, ◌++◌, ℕ, ◌≤◌, ◌<◌, length, get_or}
 use Rattle.whole.specs.Texts.{longest_string}
 use Rattle.loader.specs.Lines.{Line, lines_of}

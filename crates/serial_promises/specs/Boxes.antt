@@ -1,5 +1,5 @@
 -- The same of what a box calls: the library's three functions for the serial line, over all bytes and words that a host can lend. A
--- statement has the proof of its name, with hyphens, in `proofs/Boxes.antt`.
+-- statement has the proof of its name, in snake case, in `proofs/Boxes.antt`.
 use Rattle.std.specs.Prelude.{◌≡◌, List, map, ◌↔◌, ℕ, ◌<◌, length}
 use Rattle.loader.specs.Loading.{longest_text, load_of}
 use Rattle.serial.specs.Receiving.{Ended, settled, untouched}

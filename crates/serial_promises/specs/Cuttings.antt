@@ -1,4 +1,4 @@
--- A recipe over the serial line, as statements about every call of the code. A statement has the proof of its name, with hyphens, in
+-- A recipe over the serial line, as statements about every call of the code. A statement has the proof of its name, in snake case, in
 -- `proofs/Cuttings.antt`.
 use Rattle.std.specs.Prelude.{◌≡◌, List, [], ◌∷◌, map, ◌↔◌, ℕ, ◌<◌, length}
 use Rattle.words.specs.Places.{place}
