@@ -1,13 +1,7 @@
 -- Each arm is what the lists of arguments of its functions come to, whatever the count.
-use mathlib.Core.Path.{refl, sym, ◌∙◌}
-use mathlib.Core.List.{[], ◌∷◌}
-use borrow.Author.Rules.{rules}
+use mathlib.Core.Path.{sym}
 use borrow.Author.Tests.{ne_eqb}
-use Rattle.words.specs.declared.symbols.Function.TheVariants.{Len, Asc, Chr, Left, Right, Space, Str, Hex, Val, Abs, Sgn}
 use Rattle.grammar.specs.Functions.{any_for, form_for}
-use Rattle.grammar.specs.bridge.Answers.{wanted_in, wanted_of}
-use Rattle.grammar.specs.declared.wanting.Want.TheVariants.{Whole, Text}
-use Rattle.grammar.proofs.Others.{of_functions}
 use Rattle.grammar.proofs.wanting.wants.Goals as goal
 
 pub returns-then-count-eq3 : goal.returns-then-count-eq3
