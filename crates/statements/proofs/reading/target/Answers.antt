@@ -1,0 +1,26 @@
+-- A name must stand there.
+use mathlib.Core.Path.{refl, ◌∙◌}
+use mathlib.Core.List.{List}
+use Prim.Native.Nat.{ℕ}
+use borrow.Author.Rules.{rules}
+use Rattle.words.specs.declared.names.Name.{Name}
+use Rattle.words.specs.declared.symbols.Scanned.{Scanned}
+use Rattle.grammar.specs.Trees.{line_input}
+use Rattle.grammar.specs.Formulas.{after}
+use Rattle.statements.specs.Statements.{Begun, bad, done, variable_of}
+use Rattle.statements.specs.Parts.{deepest}
+use Rattle.statements.proofs.Findings.{named, unnamed}
+use Rattle.statements.proofs.reading.target.Goals as goal
+
+abbrev go : List ℕ → List ℕ → Scanned → Name → Begun
+go s text t v = done (line_input text (variable_of s v)) (after s t)
+
+pub returns-in-Is : goal.returns-in-Is
+unfolding deepest
+returns-in-Is c = λ text.
+    named c.args.ahead.token (go c.args.line.now text c.args.ahead) bad c.name_at.ensures c.in-Is.is
+    (c.formed.ensures ∙ rw (c.is_of.ensures, c.token_after.ensures))
+
+pub returns-in-None : goal.returns-in-None
+returns-in-None c = λ text.
+    unnamed c.args.ahead.token (go c.args.line.now text c.args.ahead) bad c.name_at.ensures c.in-None.is refl
