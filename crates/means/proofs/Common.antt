@@ -1,7 +1,7 @@
 -- The greatest number that divides two others: it does, none that does is greater, and Euclid's turns keep what divides both.
 use mathlib.Core.Path.{◌≡◌, sym, ◌∙◌}
 use mathlib.Core.Logic.{⊎_elim}
-use mathlib.Core.Bool.{true, false, false≢true, ◌&&◌}
+use mathlib.Core.Bool.{true, false≢true, ◌&&◌}
 use Prim.Native.Nat.{ℕ, zero, suc, ◌%◌, ◌≤◌, ◌<◌, ◌∣◌}
 use native.Mathlib.Nat.{one-dvd, dvd_refl, dvd-zero, dvd-mod_iff, le_of_dvd, le_antisymm, mod-eq-zero_of_dvd, dvd_of_mod-eq-zero}
 use native.Mathlib.Omega.{arith}
