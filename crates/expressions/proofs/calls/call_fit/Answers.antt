@@ -36,20 +36,24 @@ returns-in-One-wants c l e = rw (fit_packed, ← e, c.in-One.is, all_wanted _ (_
 pub returns-after-meets : goal.returns-after-meets
 unfolding all_meet
 returns-after-meets c l e = rw (fit_packed, ← e, c.in-Two.is, all_wanted _ (_ ∷ _ ∷ []) (sym c.in-Two-wants.is ∙ c.wants-in-Two.ensures) (omega arith), and-true, ← c.meets-in-Two.ensures)
-    ((elim c.if-meets.branch [ then-meets w ↦ rw (w.if-meets.true, ← w.meets-then-meets.ensures, ← w.call_sort-is) c.call_sort-in-Two.ensures
+    ((elim c.if-meets.branch [
+      | then-meets w ↦ rw (w.if-meets.true, ← w.meets-then-meets.ensures, ← w.call_sort-is) c.call_sort-in-Two.ensures
       | else-meets w ↦ rw w.if-meets.false (rw (w.call_sort-is, w.if-meets.false) at c.call_sort-in-Two.ensures)
-      ]))
+    ]))
 
 pub returns-after-meets-3 : goal.returns-after-meets-3
 unfolding all_meet
 returns-after-meets-3 c l e = rw (fit_packed, ← e, c.in-Three.is, all_wanted _ (_ ∷ _ ∷ _ ∷ []) (sym c.in-Three-wants.is ∙ c.wants-in-Three.ensures) (omega arith), and-true, ← c.meets-in-Three.ensures)
-    ((elim c.if-meets-2.branch [ then-meets-2 w ↦ rw (w.if-meets-2.true, ← w.meets-then-meets-2.ensures, ← w.value-is) ((elim c.if-meets-3.branch [ then-meets-3 x ↦ rw (x.if-meets-3.true, ← x.meets-then-meets-3.ensures, ← x.call_sort-is) c.call_sort-in-Three.ensures
-      | else-meets-3 x ↦ rw x.if-meets-3.false (rw (x.call_sort-is, x.if-meets-3.false) at c.call_sort-in-Three.ensures)
+    ((elim c.if-meets-2.branch [
+      | then-meets-2 w ↦ rw (w.if-meets-2.true, ← w.meets-then-meets-2.ensures, ← w.value-is) ((elim c.if-meets-3.branch [
+        | then-meets-3 x ↦ rw (x.if-meets-3.true, ← x.meets-then-meets-3.ensures, ← x.call_sort-is) c.call_sort-in-Three.ensures
+        | else-meets-3 x ↦ rw x.if-meets-3.false (rw (x.call_sort-is, x.if-meets-3.false) at c.call_sort-in-Three.ensures)
       ]))
-      | else-meets-2 w ↦ rw w.if-meets-2.false ((elim c.if-meets-3.branch [ then-meets-3 x ↦ absurd (false≢true (sym w.if-meets-2.false ∙ sym w.value-is ∙ x.if-meets-3.true))
-      | else-meets-3 x ↦ rw (x.call_sort-is, x.if-meets-3.false) at c.call_sort-in-Three.ensures
+      | else-meets-2 w ↦ rw w.if-meets-2.false ((elim c.if-meets-3.branch [
+        | then-meets-3 x ↦ absurd (false≢true (sym w.if-meets-2.false ∙ sym w.value-is ∙ x.if-meets-3.true))
+        | else-meets-3 x ↦ rw (x.call_sort-is, x.if-meets-3.false) at c.call_sort-in-Three.ensures
       ]))
-      ]))
+    ]))
 
 pub returns-in-Many : goal.returns-in-Many
 returns-in-Many c l e = rw (fit_packed, ← e, c.in-Many.is)
