@@ -12,7 +12,7 @@ use Rattle.grammar.specs.Trees.{Formula, number, Variable, assign, for, while}
 use Rattle.grammar.specs.Formulas as formulas
 use Rattle.grammar.specs.Formulas.{Reading, after, quoted_bytes}
 use Rattle.expressions.specs.Types.{sort_of, depth_of}
-use Rattle.statements.specs.Statements.{bad, done, choice, target_at, input_at}
+use Rattle.statements.specs.Statements.{done, choice, target_at, input_at}
 use Rattle.expressions.specs.Types.{is_whole, is_of}
 use Rattle.statements.specs.Parts.{is_number, deepest}
 use Rattle.statements.specs.bridge.Answers.{fits, known_sort, is_quoted, formed_read, bound_of, begun_answer}

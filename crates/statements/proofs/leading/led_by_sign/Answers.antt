@@ -1,6 +1,5 @@
 -- Each arm is a clause of the definition, and the last is the others.
 use borrow.Enum.Refused.{opened as unsealed}
-use borrow.Author.Rules.{rules}
 use Rattle.statements.proofs.Others.{no_mark}
 use Rattle.statements.proofs.leading.led_by_sign.Goals as goal
 

@@ -1,6 +1,5 @@
 -- ELSE, and every other word.
 use borrow.Enum.Refused.{opened as unsealed}
-use borrow.Author.Rules.{rules}
 use Rattle.statements.proofs.Others.{no_else, some_else}
 use Rattle.statements.proofs.leading.led_by_word.Goals as goal
 

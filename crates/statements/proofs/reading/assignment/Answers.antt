@@ -1,6 +1,5 @@
 -- An equals sign and a formula must stand there.
 use mathlib.Core.Path.{◌∙◌}
-use borrow.Author.Rules.{rules}
 use Rattle.grammar.specs.Formulas.{formula_of}
 use Rattle.statements.specs.Statements.{variable_of}
 use Rattle.expressions.proofs.Answering.{not_read, answered_well}

@@ -1,5 +1,4 @@
 -- The formula's depth and type join those before it.
-use borrow.Author.Rules.{rules}
 use Rattle.grammar.specs.Formulas.{formula_of}
 use Rattle.expressions.proofs.Answering.{not_read, answered_well}
 use Rattle.statements.proofs.Readings.{bound_good}

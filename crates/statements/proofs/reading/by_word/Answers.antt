@@ -1,6 +1,5 @@
 -- Each arm is of words that lead the same statement, and the last is the others.
 use mathlib.Core.Path.{◌∙◌, ap}
-use borrow.Author.Rules.{rules}
 use Rattle.statements.specs.bridge.Answers.{begun_answer}
 use Rattle.statements.proofs.Others.{word_jumps, word_alone, no_word}
 use Rattle.statements.proofs.reading.by_word.Goals as goal

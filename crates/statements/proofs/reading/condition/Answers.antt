@@ -1,6 +1,5 @@
 -- A formula with the beginning of a part after it.
 use mathlib.Core.Path.{refl}
-use borrow.Author.Rules.{rules}
 use Rattle.grammar.specs.Formulas.{formula_of}
 use Rattle.expressions.proofs.Answering.{answered_well, not_read}
 use Rattle.statements.proofs.Findings.{passed, failed}

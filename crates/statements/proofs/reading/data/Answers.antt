@@ -1,12 +1,8 @@
-use borrow.Author.Rules.{rules}
-use mathlib.Core.Path.{◌≡◌, refl, sym, ◌∙◌}
+use mathlib.Core.Path.{refl, sym, ◌∙◌}
 use native.Mathlib.Omega.{arith}
-use Rattle.items.specs.Items.{items_from}
 use Rattle.items.proofs.Inside.{comma_inside}
-use Prim.Native.Nat.{◌+◌, ◌-◌}
-use lib.ListN.{length}
 use Rattle.statements.proofs.Findings.{passed, failed}
-use Rattle.statements.proofs.Naming.{held_read, data_begins, data_stops, data_last, data_more}
+use Rattle.statements.proofs.Naming.{data_begins, data_stops, data_last, data_more}
 use Rattle.statements.proofs.reading.data.Goals as goal
 
 pub loop-item-init : goal.loop-item-init

@@ -1,7 +1,6 @@
 -- TO and a formula must follow the first one.
 use mathlib.Core.Path.{◌∙◌}
 use native.Mathlib.Nat.{zero-max}
-use borrow.Author.Rules.{rules}
 use Rattle.grammar.specs.Formulas.{after, formula_of}
 use Rattle.statements.specs.Parts.{is_number}
 use Rattle.statements.proofs.Findings.{passed, failed}

@@ -1,6 +1,5 @@
 -- INPUT must follow, and then a text with a semicolon, or at once the variable.
 use mathlib.Core.List.{[]}
-use borrow.Author.Rules.{rules}
 use Rattle.statements.proofs.Findings.{passed, failed}
 use Rattle.statements.proofs.Readings.{input_bare, input_stops, input_text}
 use Rattle.statements.proofs.reading.line_input.Goals as goal

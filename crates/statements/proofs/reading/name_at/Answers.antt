@@ -1,6 +1,5 @@
 -- A name is told; every other token is none.
 use borrow.Enum.Refused.{opened as unsealed}
-use borrow.Author.Rules.{rules}
 use Rattle.statements.proofs.Others.{no_name}
 use Rattle.statements.proofs.reading.name_at.Goals as goal
 

@@ -1,6 +1,5 @@
 -- THEN, or GOTO and a line number: what follows any condition.
 use mathlib.Core.Path.{◌≡◌, refl, sym, ◌∙◌}
-use borrow.Author.Rules.{rules}
 use Rattle.words.specs.declared.places.LineNumber.{LineNumber}
 use Rattle.words.specs.declared.symbols.Token.{Token}
 use Rattle.grammar.specs.bridge.Answers.{line_of}

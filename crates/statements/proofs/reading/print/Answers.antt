@@ -4,27 +4,25 @@ use mathlib.Core.Bool.{Bool, true, false, ◌&&◌}
 use mathlib.Core.List.{List}
 use Prim.Native.Nat.{ℕ, max}
 use native.Mathlib.Omega.{arith}
-use borrow.Author.Rules.{rules}
 use Rattle.words.specs.declared.symbols.Scanned.{Scanned}
 use Rattle.grammar.specs.Tests.{ends_statement}
-use Rattle.grammar.specs.Formulas.{enough, formula_of}
+use Rattle.grammar.specs.Formulas.{formula_of}
 use Rattle.expressions.specs.Types.{is_some, depth_of}
-use Rattle.skimming.specs.bridge.Remaining.{weight}
 use Rattle.expressions.specs.bridge.Answers.{capped_depth}
-use Rattle.statements.specs.Statements.{is_separator, items_at, print_at}
-use Rattle.statements.specs.bridge.Answers.{known_sort, begun_answer}
+use Rattle.statements.specs.Statements.{is_separator}
+use Rattle.statements.specs.bridge.Answers.{known_sort}
 use Rattle.skimming.proofs.Weights.{after_lighter}
 use Rattle.skimming.proofs.Grammar.{formula_lighter}
 use Rattle.expressions.proofs.Answering.{AnsweredWell, answered_well, not_read}
 use Rattle.statements.proofs.Findings.{passed, failed}
-use Rattle.statements.proofs.Printing.{continued, separator_reads, print_begins, print_separator, print_ends, print_bad, print_last, print_more}
+use Rattle.statements.proofs.Printing.{separator_reads, print_begins, print_separator, print_ends, print_bad, print_last, print_more}
 use Rattle.statements.proofs.reading.print.Goals as goal
 
 pub loop-here-init : goal.loop-here-init
 loop-here-init c = print_begins c.args.line.now c.args.ahead
 
 pub loop-here-smaller-then-separates : goal.loop-here-smaller-then-separates
-loop-here-smaller-then-separates c = 
+loop-here-smaller-then-separates c =
     let here : Scanned = c.loop-here.here in
     let separator : is_separator (here).token ≡ true = sym c.separates.ensures ∙ c.if-separates.true in
     let line : List ℕ = c.args.line.now in
@@ -32,7 +30,7 @@ loop-here-smaller-then-separates c =
     rw c.token_after-here.ensures (omega arith)
 
 pub loop-here-preserved-then-separates : goal.loop-here-preserved-then-separates
-loop-here-preserved-then-separates c = 
+loop-here-preserved-then-separates c =
     let here : Scanned = c.loop-here.here in
     let separator : is_separator (here).token ≡ true = sym c.separates.ensures ∙ c.if-separates.true in
     let typed : Bool = c.loop-here.typed in
@@ -41,7 +39,7 @@ loop-here-preserved-then-separates c =
     rw c.token_after-here.ensures (print_separator (line) (here) (depth) (typed) c.loop-here.invariant (separator))
 
 pub returns-then-ends : goal.returns-then-ends
-returns-then-ends c = 
+returns-then-ends c =
     let here : Scanned = c.loop-here.here in
     let no_separator : is_separator (here).token ≡ false = sym c.separates.ensures ∙ c.if-separates.false in
     let typed : Bool = c.loop-here.typed in
@@ -51,7 +49,7 @@ returns-then-ends c =
     ∙ sym (print_ends (line) (here) (depth) (typed) c.loop-here.invariant (no_separator) (sym c.ends.ensures ∙ c.if-ends.true))
 
 pub returns-in-Bad : goal.returns-in-Bad
-returns-in-Bad c = 
+returns-in-Bad c =
     let here : Scanned = c.loop-here.here in
     let goes_on : ends_statement (here).token ≡ false = sym c.ends.ensures ∙ c.if-ends.false in
     let no_separator : is_separator (here).token ≡ false = sym c.separates.ensures ∙ c.if-separates.false in
@@ -62,7 +60,7 @@ returns-in-Bad c =
     sym (print_bad (line) (here) (depth) (typed) c.loop-here.invariant (no_separator) (goes_on) none)
 
 pub returns-then-not-separates : goal.returns-then-not-separates
-returns-then-not-separates c = 
+returns-then-not-separates c =
     let here : Scanned = c.loop-here.here in
     let line : List ℕ = c.args.line.now in
     let read : AnsweredWell (formula_of (line) (here)) c.in-Good.ahead c.in-Good.sort c.in-Good.deepest = answered_well (formula_of (line) (here)) c.formula_at.ensures c.in-Good.is in
@@ -77,7 +75,7 @@ returns-then-not-separates c =
     ∙ sym (print_last (line) (here) (depth) (typed) c.loop-here.invariant (no_separator) (goes_on) (read).is (deep) (some) last)
 
 pub loop-here-smaller : goal.loop-here-smaller
-loop-here-smaller c = 
+loop-here-smaller c =
     let here : Scanned = c.loop-here.here in
     let line : List ℕ = c.args.line.now in
     let read : AnsweredWell (formula_of (line) (here)) c.in-Good.ahead c.in-Good.sort c.in-Good.deepest = answered_well (formula_of (line) (here)) c.formula_at.ensures c.in-Good.is in
@@ -85,7 +83,7 @@ loop-here-smaller c =
     omega arith
 
 pub loop-here-preserved : goal.loop-here-preserved
-loop-here-preserved c = 
+loop-here-preserved c =
     let here : Scanned = c.loop-here.here in
     let line : List ℕ = c.args.line.now in
     let read : AnsweredWell (formula_of (line) (here)) c.in-Good.ahead c.in-Good.sort c.in-Good.deepest = answered_well (formula_of (line) (here)) c.formula_at.ensures c.in-Good.is in

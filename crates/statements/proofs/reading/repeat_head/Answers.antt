@@ -1,6 +1,5 @@
 -- A condition must stand there.
 use mathlib.Core.Path.{◌∙◌}
-use borrow.Author.Rules.{rules}
 use Rattle.grammar.specs.Formulas.{formula_of}
 use Rattle.expressions.proofs.Answering.{not_read, answered_well}
 use Rattle.statements.proofs.Readings.{repeated}

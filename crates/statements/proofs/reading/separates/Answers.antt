@@ -1,5 +1,4 @@
 -- The two tests are those of the definition.
-use borrow.Author.Rules.{rules}
 use Rattle.statements.proofs.reading.separates.Goals as goal
 
 pub returns-then-sign_stands : goal.returns-then-sign_stands

@@ -1,5 +1,4 @@
 -- It is led by what stands at the place.
-use borrow.Author.Rules.{rules}
 use Rattle.statements.specs.Statements.{begun_at}
 use Rattle.statements.proofs.reading.statement_at.Goals as goal
 

@@ -1,5 +1,4 @@
 -- Both cases are clauses of the definition.
-use borrow.Author.Rules.{rules}
 use Rattle.statements.proofs.reading.statement_led.Goals as goal
 
 pub returns-in-By : goal.returns-in-By

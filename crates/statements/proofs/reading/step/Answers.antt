@@ -2,7 +2,6 @@
 use mathlib.Core.Path.{◌∙◌}
 use mathlib.Core.Bool.{Bool, ◌&&◌}
 use Prim.Native.Nat.{ℕ}
-use borrow.Author.Rules.{rules}
 use Rattle.grammar.specs.Trees.{Formula, Variable}
 use Rattle.grammar.specs.Formulas.{after, formula_of}
 use Rattle.expressions.specs.Types.{depth_of, is_whole}

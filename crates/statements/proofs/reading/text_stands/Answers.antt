@@ -1,6 +1,5 @@
 -- Every other token is no text.
 use borrow.Enum.Refused.{opened as unsealed}
-use borrow.Author.Rules.{rules}
 use Rattle.statements.proofs.Others.{no_text}
 use Rattle.statements.proofs.reading.text_stands.Goals as goal
 
