@@ -1,12 +1,9 @@
 -- The loop keeps that the bytes passed are those of the words passed.
-use mathlib.Core.Path.{◌≡◌, refl, sym, ap, ◌∙◌}
-use Prim.Native.Nat.{◌*◌, ◌-◌, ◌≤◌}
+use mathlib.Core.Path.{refl}
 use native.Mathlib.Omega.{arith}
-use lib.ListN.{length, take, length-set}
-use lib.Seq.{take_all}
+use lib.ListN.{length-set}
 use Rattle.blocks.specs.Blocks.{word_bytes}
 use Rattle.blocks.proofs.Words.{word_written}
-use Rattle.variables.specs.Variables.{most_variables}
 use Rattle.blocks.proofs.layout.bytes_of.Goals as goal
 
 pub loop-i-init : goal.loop-i-init

@@ -1,7 +1,5 @@
 -- The part of the block is copied over as many zeros.
 use mathlib.Core.Path.{◌∙◌}
-use Prim.Native.Nat.{◌-◌}
-use borrow.Author.Rules.{rules}
 use Rattle.blocks.proofs.Parts.{part_copied}
 use Rattle.variables.specs.Variables.{most_variables}
 use Rattle.blocks.proofs.layout.lengths_at.Goals as goal

@@ -1,7 +1,5 @@
 -- The part of the block is copied over as many zeros.
 use mathlib.Core.Path.{◌∙◌}
-use Prim.Native.Nat.{◌-◌}
-use borrow.Author.Rules.{rules}
 use Rattle.variables.specs.Tables.{names_long}
 use Rattle.blocks.proofs.Parts.{part_copied}
 use Rattle.blocks.proofs.layout.names_at.Goals as goal

@@ -1,5 +1,4 @@
 -- Each part of the tables from its place in the block.
-use borrow.Author.Rules.{rules}
 use Rattle.blocks.proofs.layout.tables_in.Goals as goal
 
 pub returns : goal.returns

@@ -1,12 +1,9 @@
 -- The loop keeps that the words passed are those of the bytes passed.
-use mathlib.Core.Path.{◌≡◌, refl, sym, ◌∙◌}
-use Prim.Native.Nat.{◌-◌, ◌≤◌}
+use mathlib.Core.Path.{refl}
 use native.Mathlib.Omega.{arith}
-use lib.ListN.{length, take, length-set}
-use lib.Seq.{take_all}
+use lib.ListN.{length-set}
 use Rattle.blocks.specs.Blocks.{words_from}
 use Rattle.blocks.proofs.Words.{word_read}
-use Rattle.variables.specs.Variables.{most_variables}
 use Rattle.blocks.proofs.layout.words_of.Goals as goal
 
 pub loop-i-init : goal.loop-i-init

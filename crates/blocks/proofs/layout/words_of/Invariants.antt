@@ -1,10 +1,7 @@
-use mathlib.Core.Path.{◌≡◌, refl, sym, ◌∙◌}
+use mathlib.Core.Path.{◌≡◌}
 use Prim.Native.Nat.{◌-◌, ◌≤◌}
-use native.Mathlib.Omega.{arith}
-use lib.ListN.{length, take, length-set}
-use lib.Seq.{take_all}
+use lib.ListN.{length, take}
 use Rattle.blocks.specs.Blocks.{words_from}
-use Rattle.blocks.proofs.Words.{word_read}
 use Rattle.variables.specs.Variables.{most_variables}
 use Rattle.blocks.proofs.layout.words_of.Given as goal
 
