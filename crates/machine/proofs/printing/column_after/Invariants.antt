@@ -1,0 +1,14 @@
+use mathlib.Core.Path.{◌≡◌, refl, sym, ◌∙◌}
+use mathlib.Core.Logic.{⊎_elim}
+use Prim.Native.Nat.{◌+◌, ◌-◌, ◌≤◌}
+use native.Mathlib.Omega.{arith}
+use lib.ListN.{length, drop}
+use Rattle.machine.specs.Machine.{column_after}
+use Rattle.machine.proofs.Writing.{column_feed, column_byte, column_out}
+use Rattle.machine.proofs.printing.column_after.Given as goal
+
+abbrev pub invariant-loop-i : goal.invariant-loop-i
+invariant-loop-i l = (l.count ≤ l.column + l.i) × (l.i ≤ length l.bytes) × (column_after l.count (drop l.i l.bytes) ≡ column_after l.column l.bytes)
+
+abbrev pub decreases-loop-i : goal.decreases-loop-i
+decreases-loop-i l = length l.bytes - l.i

@@ -1,0 +1,6 @@
+-- Its items are those from the first line on.
+use borrow.Author.Rules.{rules}
+use Rattle.machine.proofs.state.Machine.fresh.Goals as goal
+
+pub returns : goal.returns
+returns c = rw c.from_line.ensures
