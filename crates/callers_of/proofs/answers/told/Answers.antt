@@ -1,11 +1,26 @@
 -- The line is laid, and the callers' lines after it (`all_told`).
-use Rattle.std.proofs.Common.{◌≡◌, ◌≤◌, refl, ap, ◌∙◌, length, take, length-take-le, rules, arith}
+use Rattle.std.proofs.Common.{◌≡◌, ◌≤◌, refl, sym, ap, ◌∙◌, length, take, length-take-le, rules, arith}
 use Rattle.whole.specs.Texts.{held}
 use Rattle.index.specs.Asking.{line_in, callers_in}
 use Rattle.index.proofs.Calling.{callers_few}
 use Rattle.callers_of.specs.Answers.{start_line}
 use Rattle.callers_of.proofs.Telling.{front_callers, callers_long, all_told}
 use Rattle.callers_of.proofs.answers.told.Goals as goal
+
+pub slice_bounds-callers-end : goal.slice_bounds-callers-end
+slice_bounds-callers-end c =
+    let few : c.callers_in-count.result ≤ 512 = omega (arith, c.callers_in-count.ensures.value, callers_few c.args.index.now c.args.number) in
+    let long : length c.callers_in-count.new.callers ≡ 512
+    = callers_long _ (callers_in c.args.index.now c.args.number) refl (callers_few c.args.index.now c.args.number) c.callers_in-count.ensures.callers_after in
+    omega (arith, long, few)
+
+pub slice_bounds-put_callers-end : goal.slice_bounds-put_callers-end
+slice_bounds-put_callers-end c =
+    let few : c.callers_in-count.result ≤ 512 = omega (arith, c.callers_in-count.ensures.value, callers_few c.args.index.now c.args.number) in
+    let long : length c.callers_in-count.new.callers ≡ 512
+    = callers_long _ (callers_in c.args.index.now c.args.number) refl (callers_few c.args.index.now c.args.number) c.callers_in-count.ensures.callers_after in
+    let within : c.callers_in-count.result ≤ length c.callers_in-count.new.callers = omega (arith, long, few) in
+    sym (length-take-le _ _ within)
 
 pub put_callers-requires : goal.put_callers-requires
 put_callers-requires c =
