@@ -3,7 +3,6 @@
 -- of the left's type. Arguments are tested likewise, one by one, before the next is begun.
 use Rattle.std.specs.Prelude.{Bool, true, false, cond, not, List, [], ◌∷◌, ◌++◌, ℕ, zero, suc, ltb, eqb}
 use Rattle.whole.specs.Whole.{applied, negated, flipped, say}
-use Rattle.whole.specs.declared.arithmetic.Answer.TheVariants.{Whole}
 use Rattle.whole.specs.declared.arithmetic.Operator.{Operator}
 use Rattle.whole.specs.declared.arithmetic.Operator.TheVariants.{
   Multiply,
