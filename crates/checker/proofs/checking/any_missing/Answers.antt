@@ -3,17 +3,15 @@ use mathlib.Core.Path.{◌≡◌, refl, sym, ◌∙◌}
 use mathlib.Core.List.{List}
 use Prim.Native.Nat.{ℕ}
 use native.Mathlib.Omega.{arith}
-use borrow.Author.Rules.{rules}
 use Rattle.loader.specs.Lines.{lines_of}
 use Rattle.grammar.specs.Trees.{Part}
 use Rattle.statements.specs.Parts.{statements_of}
-use Rattle.statements.proofs.Parts.{weight_at}
 use Rattle.reader.specs.Lines.{holds, judgement}
 use Rattle.reader.specs.bridge.Walking.{Further}
 use Rattle.reader.specs.declared.branches.Start.{Start}
 use Rattle.reader.proofs.Visits.{further}
 use Rattle.checker.specs.Check.{any_missing}
-use Rattle.checker.proofs.Missing.{Noticed, line_noticed, Later, noticed_here, noticed_later}
+use Rattle.checker.proofs.Missing.{line_noticed, Later, noticed_here, noticed_later}
 use Rattle.checker.proofs.checking.any_missing.Goals as goal
 
 pub loop-read-init : goal.loop-read-init
@@ -24,7 +22,7 @@ returns-then-is_missing c part e = noticed_here (lines_of c.args.text.now) c.arg
     c.statement_at-read.ensures c.named_by-names.ensures refl (sym c.is_missing.ensures ∙ c.if-is_missing.true)
 
 pub returns-in_default : goal.returns-in_default
-returns-in_default c part e = 
+returns-in_default c part e =
     let line : List ℕ = c.args.line.now in
     let text : List ℕ = c.args.text.now in
     let rest : (f : Start) → c.next_statement.result ≡ f → (part : Part) → judgement line ≡ holds part → Later (lines_of text) line f (any_missing (lines_of text) (statements_of part)) = λ f₀ f part e. noticed_later (lines_of text) line c.loop-read.at.0 (c.loop-read.invariant part e)
@@ -33,13 +31,13 @@ returns-in_default c part e =
     rest _ c.in_default.is part e
 
 pub loop-read-smaller : goal.loop-read-smaller
-loop-read-smaller c = 
+loop-read-smaller c =
     let line : List ℕ = c.args.line.now in
     let less : (f : Start) → c.next_statement.result ≡ f → Further line c.loop-read.at.0 f = λ f₀ f. further line c.loop-read.at.0 c.statement_at-read.ensures (sym f ∙ c.next_statement.ensures) in
     let l = less _ c.in-At.is in omega (arith, l)
 
 pub loop-read-preserved : goal.loop-read-preserved
-loop-read-preserved c part e = 
+loop-read-preserved c part e =
     let line : List ℕ = c.args.line.now in
     let text : List ℕ = c.args.text.now in
     let rest : (f : Start) → c.next_statement.result ≡ f → (part : Part) → judgement line ≡ holds part → Later (lines_of text) line f (any_missing (lines_of text) (statements_of part)) = λ f₀ f part e. noticed_later (lines_of text) line c.loop-read.at.0 (c.loop-read.invariant part e)

@@ -1,18 +1,11 @@
-use mathlib.Core.Path.{◌≡◌, refl, sym, ◌∙◌}
-use mathlib.Core.List.{List}
-use Prim.Native.Nat.{ℕ}
-use native.Mathlib.Omega.{arith}
-use borrow.Author.Rules.{rules}
+use mathlib.Core.Path.{◌≡◌}
 use Rattle.loader.specs.Lines.{lines_of}
 use Rattle.grammar.specs.Trees.{Part}
 use Rattle.statements.specs.Parts.{statements_of}
 use Rattle.statements.proofs.Parts.{weight_at}
 use Rattle.reader.specs.Lines.{holds, judgement}
-use Rattle.reader.specs.bridge.Walking.{Further}
-use Rattle.reader.specs.declared.branches.Start.{Start}
-use Rattle.reader.proofs.Visits.{further}
 use Rattle.checker.specs.Check.{any_missing}
-use Rattle.checker.proofs.Missing.{Noticed, line_noticed, Later, noticed_here, noticed_later}
+use Rattle.checker.proofs.Missing.{Noticed}
 use Rattle.checker.proofs.checking.any_missing.Given as goal
 
 abbrev pub invariant-loop-read : goal.invariant-loop-read

@@ -1,13 +1,11 @@
 -- The loop's invariant: the lines from the one reached on are sound, and the first faulty one of them decides.
-use mathlib.Core.Path.{◌≡◌, sym, ◌∙◌, ap}
+use mathlib.Core.Path.{sym, ◌∙◌, ap}
 use mathlib.Core.List.{List}
-use Prim.Native.Nat.{ℕ, ◌-◌}
+use Prim.Native.Nat.{ℕ}
 use native.Mathlib.Omega.{arith}
-use borrow.Author.Rules.{rules}
-use lib.ListN.{length}
 use Rattle.loader.specs.Lines.{lines_of}
 use Rattle.loader.proofs.Extents.{lines_at}
-use Rattle.loader.proofs.Rising.{Rising, recipe}
+use Rattle.loader.proofs.Rising.{recipe}
 use Rattle.loader.proofs.Spans.{none_left, Spanned, spanned_as}
 use Rattle.checker.specs.Check.{first_fault, check_of}
 use Rattle.checker.proofs.Faults.{fault_here, fault_later}
@@ -28,37 +26,37 @@ returns-in_default-line_at c = let e = none_left (lines_at c.args.text.now c.loo
     sym (ap (first_fault (lines_of c.args.text.now)) e) ∙ c.loop-line.invariant.1
 
 pub slice_bounds-fault_in-count : goal.slice_bounds-fault_in-count
-slice_bounds-fault_in-count c = 
+slice_bounds-fault_in-count c =
     let text : List ℕ = c.args.text.now in
     let at_line : Spanned text c.loop-line.at.0 c.in-Is.line = spanned_as text c.loop-line.at.0 c.loop-line.invariant.0 (sym c.line_at.ensures ∙ c.in-Is.is) in
     (at_line).low
 
 pub slice_bounds-fault_in-start : goal.slice_bounds-fault_in-start
-slice_bounds-fault_in-start c = 
+slice_bounds-fault_in-start c =
     let text : List ℕ = c.args.text.now in
     let at_line : Spanned text c.loop-line.at.0 c.in-Is.line = spanned_as text c.loop-line.at.0 c.loop-line.invariant.0 (sym c.line_at.ensures ∙ c.in-Is.is) in
     (at_line).low
 
 pub slice_bounds-fault_in-end : goal.slice_bounds-fault_in-end
-slice_bounds-fault_in-end c = 
+slice_bounds-fault_in-end c =
     let text : List ℕ = c.args.text.now in
     let at_line : Spanned text c.loop-line.at.0 c.in-Is.line = spanned_as text c.loop-line.at.0 c.loop-line.invariant.0 (sym c.line_at.ensures ∙ c.in-Is.is) in
     (at_line).high
 
 pub returns-in-Fault : goal.returns-in-Fault
-returns-in-Fault c = 
+returns-in-Fault c =
     let text : List ℕ = c.args.text.now in
     let at_line : Spanned text c.loop-line.at.0 c.in-Is.line = spanned_as text c.loop-line.at.0 c.loop-line.invariant.0 (sym c.line_at.ensures ∙ c.in-Is.is) in
     fault_here (lines_of (text)) (text) (at_line) (sym c.in-Fault.is ∙ c.fault_in.ensures) ∙ c.loop-line.invariant.1
 
 pub loop-line-smaller : goal.loop-line-smaller
-loop-line-smaller c = 
+loop-line-smaller c =
     let text : List ℕ = c.args.text.now in
     let at_line : Spanned text c.loop-line.at.0 c.in-Is.line = spanned_as text c.loop-line.at.0 c.loop-line.invariant.0 (sym c.line_at.ensures ∙ c.in-Is.is) in
     let r = at_line in omega (arith, r.onward, r.inside)
 
 pub loop-line-preserved : goal.loop-line-preserved
-loop-line-preserved c = 
+loop-line-preserved c =
     let text : List ℕ = c.args.text.now in
     let at_line : Spanned text c.loop-line.at.0 c.in-Is.line = spanned_as text c.loop-line.at.0 c.loop-line.invariant.0 (sym c.line_at.ensures ∙ c.in-Is.is) in
     let r = at_line in

@@ -1,15 +1,10 @@
-use mathlib.Core.Path.{◌≡◌, sym, ◌∙◌, ap}
-use mathlib.Core.List.{List}
-use Prim.Native.Nat.{ℕ, ◌-◌}
-use native.Mathlib.Omega.{arith}
-use borrow.Author.Rules.{rules}
+use mathlib.Core.Path.{◌≡◌}
+use Prim.Native.Nat.{◌-◌}
 use lib.ListN.{length}
 use Rattle.loader.specs.Lines.{lines_of}
 use Rattle.loader.proofs.Extents.{lines_at}
-use Rattle.loader.proofs.Rising.{Rising, recipe}
-use Rattle.loader.proofs.Spans.{none_left, Spanned, spanned_as}
+use Rattle.loader.proofs.Rising.{Rising}
 use Rattle.checker.specs.Check.{first_fault, check_of}
-use Rattle.checker.proofs.Faults.{fault_here, fault_later}
 use Rattle.checker.proofs.checking.check_recipe.Given as goal
 
 abbrev pub invariant-loop-line : goal.invariant-loop-line

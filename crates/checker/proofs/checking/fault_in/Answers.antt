@@ -1,7 +1,6 @@
 -- How the line is judged and whether one that it names is missing decide, as in the definition.
 use mathlib.Core.Path.{◌≡◌, sym, ◌∙◌}
 use mathlib.Core.Bool.{cond}
-use borrow.Author.Rules.{rules}
 use Rattle.whole.specs.declared.errors.Error.TheVariants.{UndefinedLine}
 use Rattle.loader.specs.Lines.{lines_of}
 use Rattle.reader.specs.Lines.{judgement}
@@ -21,13 +20,13 @@ returns-then-not-typed c = rw (c.if-not-typed.true) at
     (fault_by_lem (lines_of c.args.text.now) (judgement c.args.line.now) (sym c.in-Reads.is ∙ c.judge.ensures))
 
 pub returns-then-any_missing : goal.returns-then-any_missing
-returns-then-any_missing c = 
+returns-then-any_missing c =
     let decided : cond c.any_missing.result (Fault UndefinedLine) Sound ≡ fault_in (lines_of c.args.text.now) (judgement c.args.line.now) = rw (c.if-not-typed.false) at
     (fault_read (lines_of c.args.text.now) (judgement c.args.line.now) (sym c.in-Reads.is ∙ c.judge.ensures) c.any_missing.ensures) in
     rw c.if-any_missing.true at (decided)
 
 pub returns-else-any_missing : goal.returns-else-any_missing
-returns-else-any_missing c = 
+returns-else-any_missing c =
     let decided : cond c.any_missing.result (Fault UndefinedLine) Sound ≡ fault_in (lines_of c.args.text.now) (judgement c.args.line.now) = rw (c.if-not-typed.false) at
     (fault_read (lines_of c.args.text.now) (judgement c.args.line.now) (sym c.in-Reads.is ∙ c.judge.ensures) c.any_missing.ensures) in
     rw c.if-any_missing.false at (decided)
