@@ -21,7 +21,6 @@ use Rattle.machine.specs.Machine.{missing, is_call}
 use Rattle.machine.specs.Order.{Stand, some, wend_for}
 use Rattle.machine.specs.Repeats.{is_at, is_while, wend_of, is_partner}
 use Rattle.machine.specs.bridge.Holding.{lines_at, body_of, position_of, blank_record, counts, repeats, passes, back_of, record_of, records_in, Parted, Placed}
-use Rattle.machine.specs.bridge.Wanted as sought
 use Rattle.machine.specs.bridge.Wanted.{is_sought, found_in, entry_at, FoundAt, Told}
 use Rattle.machine.specs.bridge.Seeking.{Wish, nothing, call, loop, loop_of, while_at, while_of, test_of, by_slot, sought_for}
 use Rattle.machine.specs.declared.records.Record.{Record}

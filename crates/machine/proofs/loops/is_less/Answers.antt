@@ -1,6 +1,5 @@
 -- The comparison's word is other than 0 just where it holds.
 use mathlib.Core.Path.{sym, ap, ◌∙◌}
-use borrow.Author.Rules.{rules}
 use Rattle.machine.proofs.Limits.{holds, says}
 use Rattle.machine.proofs.loops.is_less.Goals as goal
 

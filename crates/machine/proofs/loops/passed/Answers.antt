@@ -1,6 +1,5 @@
 -- By the step's sign.
 use mathlib.Core.Path.{sym, ◌∙◌}
-use borrow.Author.Rules.{rules}
 use Rattle.machine.proofs.Limits.{passed_down, passed_never, passed_up}
 use Rattle.machine.proofs.loops.passed.Goals as goal
 

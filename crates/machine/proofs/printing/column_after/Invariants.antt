@@ -1,10 +1,7 @@
-use mathlib.Core.Path.{◌≡◌, refl, sym, ◌∙◌}
-use mathlib.Core.Logic.{⊎_elim}
+use mathlib.Core.Path.{◌≡◌}
 use Prim.Native.Nat.{◌+◌, ◌-◌, ◌≤◌}
-use native.Mathlib.Omega.{arith}
 use lib.ListN.{length, drop}
 use Rattle.machine.specs.Machine.{column_after}
-use Rattle.machine.proofs.Writing.{column_feed, column_byte, column_out}
 use Rattle.machine.proofs.printing.column_after.Given as goal
 
 abbrev pub invariant-loop-i : goal.invariant-loop-i

@@ -11,6 +11,6 @@ returns-then-room-at c = (printed_full c.args.printer c.args.room.now c.args.byt
 
 pub returns : goal.returns
 returns c = (
-      rw c.column_after.ensures (printed_all c.args.printer c.args.room.now c.args.bytes.now (omega arith)),
-      search rules,
-    )
+  rw c.column_after.ensures (printed_all c.args.printer c.args.room.now c.args.bytes.now (omega arith)),
+  search rules,
+)

@@ -1,6 +1,5 @@
 use borrow.Author.Tests.{eq-eqb, ne_eqb}
 use borrow.Author.Tests.{lt-ltb, le-ltb}
-use borrow.Author.Rules.{rules}
 use Rattle.machine.proofs.records.is_sought.Goals as goal
 
 pub returns-then-sought-eq-NEAREST_CALL : goal.returns-then-sought-eq-NEAREST_CALL

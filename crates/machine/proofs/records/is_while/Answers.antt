@@ -1,5 +1,4 @@
 use borrow.Author.Tests.{eq-eqb, ne_eqb}
-use borrow.Author.Rules.{rules}
 use Rattle.machine.proofs.records.is_while.Goals as goal
 
 pub returns-then-entry-ne-REPEAT : goal.returns-then-entry-ne-REPEAT

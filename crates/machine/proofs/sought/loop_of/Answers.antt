@@ -1,6 +1,4 @@
 use borrow.Author.Tests.{le-ltb, lt-ltb}
-use Rattle.variables.specs.declared.tables.Slot.TheVariants as slot
-use borrow.Author.Rules.{rules}
 use Rattle.machine.proofs.sought.loop_of.Goals as goal
 
 pub returns-in-None : goal.returns-in-None

@@ -1,7 +1,6 @@
 use borrow.Enum.Refused.{opened as unsealed}
 use mathlib.Core.Path.{sym}
 use Rattle.machine.proofs.Tokens.{no_name}
-use borrow.Author.Rules.{rules}
 use Rattle.machine.proofs.sought.sought_loop.Goals as goal
 
 pub returns-in-Named : goal.returns-in-Named

@@ -1,7 +1,6 @@
 use borrow.Enum.Refused.{opened as unsealed}
 use mathlib.Core.Path.{refl}
 use Rattle.machine.proofs.Seeking.{for_seeks, next_seeks, while_seeks, wend_seeks, word_seeks}
-use borrow.Author.Rules.{rules}
 use Rattle.machine.proofs.sought.sought_record.Goals as goal
 
 pub returns-in-Nothing : goal.returns-in-Nothing

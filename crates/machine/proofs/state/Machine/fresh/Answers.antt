@@ -1,5 +1,4 @@
 -- Its items are those from the first line on.
-use borrow.Author.Rules.{rules}
 use Rattle.machine.proofs.state.Machine.fresh.Goals as goal
 
 pub returns : goal.returns
