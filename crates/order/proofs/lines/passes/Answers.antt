@@ -1,6 +1,5 @@
 -- By how the line is judged.
 use mathlib.Core.Path.{refl, sym, ◌∙◌}
-use borrow.Author.Rules.{rules}
 use Rattle.reader.specs.Lines.{judgement}
 use Rattle.order.proofs.Lining.{pass_judged}
 use Rattle.order.proofs.lines.passes.Goals as goal

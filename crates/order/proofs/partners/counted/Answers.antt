@@ -1,6 +1,5 @@
 -- By what the statement does.
 use native.Mathlib.Omega.{arith}
-use borrow.Author.Rules.{rules}
 use Rattle.order.proofs.Pairing.{closes_some}
 use Rattle.order.proofs.partners.counted.Goals as goal
 

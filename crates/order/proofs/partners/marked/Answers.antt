@@ -1,6 +1,5 @@
 -- By the two tests.
 use mathlib.Core.Path.{sym, ◌∙◌}
-use borrow.Author.Rules.{rules}
 use Rattle.order.proofs.partners.marked.Goals as goal
 
 pub returns-then-is_keyword : goal.returns-then-is_keyword

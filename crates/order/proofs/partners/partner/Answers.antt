@@ -1,14 +1,13 @@
 -- The loop's invariant: from where the walk is, with those that wait, the partner is the same; and no more wait than was passed.
 use mathlib.Core.Path.{◌≡◌, refl, sym, ◌∙◌, ap}
 use mathlib.Core.List.{List, ◌∷◌}
-use Prim.Native.Nat.{ℕ, ◌+◌, ◌≤◌}
+use Prim.Native.Nat.{ℕ}
 use native.Mathlib.Omega.{arith}
-use borrow.Author.Rules.{rules}
 use Rattle.statements.specs.Parts.{head_of}
-use Rattle.machine.specs.Order.{Stand, partner, pairs_by}
-use Rattle.order.specs.bridge.Walking.{Ahead, Spotted, Walks, Walking, left_of, bracket_of, marked_by}
+use Rattle.machine.specs.Order.{Stand, pairs_by}
+use Rattle.order.specs.bridge.Walking.{Ahead, Spotted, bracket_of, marked_by}
 use Rattle.order.specs.declared.texts.Spot.{Spot}
-use Rattle.order.proofs.Pairing.{Seeking, seeking_over, met, met_here, met_still, whereat, still_few, left_few, spot_marked}
+use Rattle.order.proofs.Pairing.{seeking_over, met, met_here, met_still, whereat, still_few, left_few, spot_marked}
 use Rattle.order.proofs.partners.partner.Goals as goal
 
 pub loop-walk-init : goal.loop-walk-init
@@ -18,7 +17,7 @@ pub returns-in_default : goal.returns-in_default
 returns-in_default c = λ xs w. seeking_over ((rw c.in_default.is at c.loop-walk.invariant.1.1) xs w)
 
 pub lead_of-lead-requires : goal.lead_of-lead-requires
-lead_of-lead-requires c = 
+lead_of-lead-requires c =
     let there : Spot = c.in-At.spot in
     let spotted : Spotted c.args.text.now there = let i = rw c.in-At.is at c.loop-walk.invariant.0 in record { xs = i.xs; ahead = i.walks } in
     spotted
@@ -27,7 +26,7 @@ pub counted-requires : goal.counted-requires
 counted-requires c = omega (arith, c.loop-walk.invariant.1.0)
 
 pub returns-in_default-counted : goal.returns-in_default-counted
-returns-in_default-counted c = 
+returns-in_default-counted c =
     let text : List ℕ = c.args.text.now in
     let there : Spot = c.in-At.spot in
     let marks : (x : Stand) (xs : List Stand) → Ahead text (there) (x ∷ xs) → bracket_of c.marked.result ≡ pairs_by c.args.opens c.args.closes (head_of x.part) = λ x xs a. ap bracket_of (c.marked.ensures ∙ ap (marked_by c.args.opens c.args.closes) c.lead_of-lead.ensures) ∙ spot_marked c.args.opens c.args.closes a in
@@ -36,7 +35,7 @@ returns-in_default-counted c =
     met_here k c.marked.result (marks k.x k.xs k.ahead) (sym c.in_default-counted.is ∙ c.counted.ensures)
 
 pub onward-walk-requires : goal.onward-walk-requires
-onward-walk-requires c = 
+onward-walk-requires c =
     let there : Spot = c.in-At.spot in
     let spotted : Spotted c.args.text.now there = let i = rw c.in-At.is at c.loop-walk.invariant.0 in record { xs = i.xs; ahead = i.walks } in
     (spotted, c.lead_of-lead.ensures)
@@ -45,7 +44,7 @@ pub loop-walk-smaller : goal.loop-walk-smaller
 loop-walk-smaller c = rw c.in-At.is c.onward-walk.ensures.1
 
 pub loop-walk-preserved : goal.loop-walk-preserved
-loop-walk-preserved c = 
+loop-walk-preserved c =
     let text : List ℕ = c.args.text.now in
     let there : Spot = c.in-At.spot in
     let marks : (x : Stand) (xs : List Stand) → Ahead text (there) (x ∷ xs) → bracket_of c.marked.result ≡ pairs_by c.args.opens c.args.closes (head_of x.part) = λ x xs a. ap bracket_of (c.marked.ensures ∙ ap (marked_by c.args.opens c.args.closes) c.lead_of-lead.ensures) ∙ spot_marked c.args.opens c.args.closes a in

@@ -1,13 +1,8 @@
-use mathlib.Core.Path.{◌≡◌, refl, sym, ◌∙◌, ap}
-use mathlib.Core.List.{List, ◌∷◌}
-use Prim.Native.Nat.{ℕ, ◌+◌, ◌≤◌}
-use native.Mathlib.Omega.{arith}
-use borrow.Author.Rules.{rules}
-use Rattle.statements.specs.Parts.{head_of}
+use mathlib.Core.List.{List}
+use Prim.Native.Nat.{◌+◌, ◌≤◌}
 use Rattle.machine.specs.Order.{Stand, partner, pairs_by}
-use Rattle.order.specs.bridge.Walking.{Ahead, Spotted, Walks, Walking, left_of, bracket_of, marked_by}
-use Rattle.order.specs.declared.texts.Spot.{Spot}
-use Rattle.order.proofs.Pairing.{Seeking, seeking_over, met, met_here, met_still, whereat, still_few, left_few, spot_marked}
+use Rattle.order.specs.bridge.Walking.{Walks, Walking, left_of}
+use Rattle.order.proofs.Pairing.{Seeking}
 use Rattle.order.proofs.partners.partner.Given as goal
 
 abbrev pub invariant-loop-walk : goal.invariant-loop-walk

@@ -1,5 +1,4 @@
 -- The walk that begins there has just the statements after it.
-use borrow.Author.Rules.{rules}
 use Rattle.order.proofs.partners.partner_after.Goals as goal
 
 pub returns : goal.returns

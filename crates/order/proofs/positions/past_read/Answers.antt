@@ -1,5 +1,4 @@
 -- By how the statement reads.
-use borrow.Author.Rules.{rules}
 use Rattle.order.proofs.positions.past_read.Goals as goal
 
 pub returns-in-Bad : goal.returns-in-Bad

@@ -1,6 +1,5 @@
 -- What is left of the part after the statement at the spot.
 use native.Mathlib.Omega.{arith}
-use borrow.Author.Rules.{rules}
 use Rattle.order.proofs.Texting.{here_ahead, told}
 use Rattle.order.proofs.Passing.{past_spot}
 use Rattle.order.proofs.positions.position_past.Goals as goal

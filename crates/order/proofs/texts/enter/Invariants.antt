@@ -1,13 +1,9 @@
-use mathlib.Core.Path.{◌≡◌, refl, sym, ◌∙◌}
+use mathlib.Core.Path.{◌≡◌}
 use Prim.Native.Nat.{◌-◌, ◌≤◌}
-use native.Mathlib.Omega.{arith}
-use borrow.Author.Rules.{rules}
 use lib.ListN.{length}
-use Rattle.words.specs.Places.{place}
 use Rattle.machine.specs.bridge.Holding.{lines_at}
 use Rattle.machine.specs.Order.{stands}
 use Rattle.order.specs.bridge.Walking.{Reached}
-use Rattle.order.proofs.Texting.{Here, here_reached, told, reached_next, left_here, enter_over, enter_at, enter_next}
 use Rattle.order.proofs.texts.enter.Given as goal
 
 abbrev pub invariant-loop-line : goal.invariant-loop-line

@@ -3,7 +3,6 @@ use mathlib.Core.Path.{sym, ◌∙◌}
 use mathlib.Core.List.{List}
 use Prim.Native.Nat.{ℕ}
 use native.Mathlib.Omega.{arith}
-use borrow.Author.Rules.{rules}
 use Rattle.order.proofs.Lining.{fails_if, passes_if}
 use Rattle.order.proofs.Texting.{body_at, Here, here_lined, not_none, told, reached_next, later_next, later_at, later_over}
 use Rattle.order.proofs.texts.later.Goals as goal
@@ -12,32 +11,32 @@ pub returns-in_default : goal.returns-in_default
 returns-in_default c = not_none c.requires (sym c.line_at.ensures ∙ c.in_default.is)
 
 pub slice_bounds-passes-count : goal.slice_bounds-passes-count
-slice_bounds-passes-count c = 
+slice_bounds-passes-count c =
     let text : List ℕ = c.args.text.now in
     let here : Here text c.args.place.0 c.in-Is.line = here_lined c.requires (sym c.line_at.ensures ∙ c.in-Is.is) in
     (told (here)).low
 
 pub slice_bounds-passes-start : goal.slice_bounds-passes-start
-slice_bounds-passes-start c = 
+slice_bounds-passes-start c =
     let text : List ℕ = c.args.text.now in
     let here : Here text c.args.place.0 c.in-Is.line = here_lined c.requires (sym c.line_at.ensures ∙ c.in-Is.is) in
     (told (here)).low
 
 pub slice_bounds-passes-end : goal.slice_bounds-passes-end
-slice_bounds-passes-end c = 
+slice_bounds-passes-end c =
     let text : List ℕ = c.args.text.now in
     let here : Here text c.args.place.0 c.in-Is.line = here_lined c.requires (sym c.line_at.ensures ∙ c.in-Is.is) in
     let t = told (here) in omega (arith, t.low, t.high)
 
 pub enter-requires : goal.enter-requires
-enter-requires c = 
+enter-requires c =
     let text : List ℕ = c.args.text.now in
     let here : Here text c.args.place.0 c.in-Is.line = here_lined c.requires (sym c.line_at.ensures ∙ c.in-Is.is) in
     reached_next (here)
 
 -- in each, l is where it is known
 pub returns-then-not-passes : goal.returns-then-not-passes
-returns-then-not-passes c = 
+returns-then-not-passes c =
     let text : List ℕ = c.args.text.now in
     let body : List ℕ = body_at text c.in-Is.line in
     let here : Here text c.args.place.0 c.in-Is.line = here_lined c.requires (sym c.line_at.ensures ∙ c.in-Is.is) in
@@ -45,31 +44,31 @@ returns-then-not-passes c =
     rw (later_next (here) (limit) (fails_if (body) c.passes.result c.if-not-passes.true-raw c.passes.ensures)) at c.enter.ensures.0
 
 pub slice_bounds-first_beyond-count : goal.slice_bounds-first_beyond-count
-slice_bounds-first_beyond-count c = 
+slice_bounds-first_beyond-count c =
     let text : List ℕ = c.args.text.now in
     let here : Here text c.args.place.0 c.in-Is.line = here_lined c.requires (sym c.line_at.ensures ∙ c.in-Is.is) in
     (told (here)).low
 
 pub slice_bounds-first_beyond-start : goal.slice_bounds-first_beyond-start
-slice_bounds-first_beyond-start c = 
+slice_bounds-first_beyond-start c =
     let text : List ℕ = c.args.text.now in
     let here : Here text c.args.place.0 c.in-Is.line = here_lined c.requires (sym c.line_at.ensures ∙ c.in-Is.is) in
     (told (here)).low
 
 pub slice_bounds-first_beyond-end : goal.slice_bounds-first_beyond-end
-slice_bounds-first_beyond-end c = 
+slice_bounds-first_beyond-end c =
     let text : List ℕ = c.args.text.now in
     let here : Here text c.args.place.0 c.in-Is.line = here_lined c.requires (sym c.line_at.ensures ∙ c.in-Is.is) in
     let t = told (here) in omega (arith, t.low, t.high)
 
 pub enter-requires-in-None : goal.enter-requires-in-None
-enter-requires-in-None c = 
+enter-requires-in-None c =
     let text : List ℕ = c.args.text.now in
     let here : Here text c.args.place.0 c.in-Is.line = here_lined c.requires (sym c.line_at.ensures ∙ c.in-Is.is) in
     reached_next (here)
 
 pub returns-in-At : goal.returns-in-At
-returns-in-At c = 
+returns-in-At c =
     let text : List ℕ = c.args.text.now in
     let body : List ℕ = body_at text c.in-Is.line in
     let here : Here text c.args.place.0 c.in-Is.line = here_lined c.requires (sym c.line_at.ensures ∙ c.in-Is.is) in
@@ -79,7 +78,7 @@ returns-in-At c =
     ((rw c.in-At.is at c.first_beyond.ensures) k.part k.is)
 
 pub returns-in-None : goal.returns-in-None
-returns-in-None c = 
+returns-in-None c =
     let text : List ℕ = c.args.text.now in
     let body : List ℕ = body_at text c.in-Is.line in
     let here : Here text c.args.place.0 c.in-Is.line = here_lined c.requires (sym c.line_at.ensures ∙ c.in-Is.is) in

@@ -1,7 +1,6 @@
 -- The bytes of the line are those that the definition says.
 use mathlib.Core.Path.{◌∙◌, ap}
 use native.Mathlib.Omega.{arith}
-use borrow.Author.Rules.{rules}
 use mathlib.Core.Bool.{true}
 use Rattle.scanner.specs.Tokens.{token_at}
 use Rattle.statements.specs.Statements.{lead_of}

@@ -4,7 +4,6 @@ use mathlib.Core.Bool.{true}
 use mathlib.Core.List.{List, ◌∷◌}
 use Prim.Native.Nat.{ℕ}
 use native.Mathlib.Omega.{arith}
-use borrow.Author.Rules.{rules}
 use Rattle.scanner.specs.Tokens.{token_at}
 use Rattle.grammar.specs.Trees.{Part}
 use Rattle.statements.specs.Statements.{lead_of}
@@ -29,7 +28,7 @@ pub enter-requires : goal.enter-requires
 enter-requires c = reached_next (here_ahead c.requires.0.ahead)
 
 pub returns-in-At : goal.returns-in-At
-returns-in-At c = 
+returns-in-At c =
     let spot : Spot = c.args.spot in
     let text : List ℕ = c.args.text.now in
     let line : List ℕ = body_at text spot.line in
@@ -42,7 +41,7 @@ returns-in-At c =
     )
 
 pub returns-in-None : goal.returns-in-None
-returns-in-None c = 
+returns-in-None c =
     let spot : Spot = c.args.spot in
     let text : List ℕ = c.args.text.now in
     let line : List ℕ = body_at text spot.line in
