@@ -1,2 +1,6 @@
-// What the month's sheet promises, as statements about every call of its functions: there is no code here.
+// What the month's sheet promises, as statements about every call of its functions, named in the contract of the one function here.
 #![tactic(auto)]
+
+mod holding;
+
+pub use holding::totals_hold;
