@@ -3,5 +3,7 @@
 #![tactic(auto)]
 
 mod guarding;
+mod holding;
 
 pub use guarding::{CheckedOutcome, CheckedRun, run_checked};
+pub use holding::demands_hold;
