@@ -1,0 +1,11 @@
+use Prim.Native.Nat.{◌-◌, ◌≤◌}
+use native.Mathlib.Omega.{arith}
+use borrow.Author.Rules.{rules}
+use Rattle.index.proofs.Calling.{Called, none_called, callers_all, called_more, all_called}
+use Rattle.index.proofs.asking.callers_in.Given as goal
+
+abbrev pub invariant-loop-i : goal.invariant-loop-i
+invariant-loop-i l = (l.pairs ≤ 1024) × Called l.index l.wanted l.pairs l.initial.callers l.callers l.count l.i
+
+abbrev pub decreases-loop-i : goal.decreases-loop-i
+decreases-loop-i l = l.pairs - l.i

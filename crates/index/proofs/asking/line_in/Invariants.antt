@@ -1,0 +1,16 @@
+use mathlib.Core.Path.{◌≡◌, ◌∙◌, ap}
+use Prim.Native.Nat.{◌+◌, ◌*◌, ◌-◌, ◌≤◌}
+use native.Mathlib.Omega.{arith}
+use borrow.Author.Rules.{rules}
+use lib.ListN.{drop}
+use Rattle.words.specs.Places.{line_number}
+use Rattle.index.specs.Asking.{start_among, line_in}
+use Rattle.index.specs.declared.asking.LineStart.TheVariants.{At}
+use Rattle.index.proofs.Strides.{start_all, start_here, start_later, start_none}
+use Rattle.index.proofs.asking.line_in.Given as goal
+
+abbrev pub invariant-loop-row : goal.invariant-loop-row
+invariant-loop-row l = (l.count ≤ 512) × (start_among l.wanted (l.count - l.row) (drop (1 + 6 * l.row) l.index) ≡ line_in l.index (line_number l.wanted))
+
+abbrev pub decreases-loop-row : goal.decreases-loop-row
+decreases-loop-row l = l.count - l.row

@@ -1,0 +1,13 @@
+use mathlib.Core.Path.{◌≡◌, refl, sym, ◌∙◌}
+use Prim.Native.Nat.{◌*◌, ◌-◌}
+use native.Mathlib.Omega.{arith}
+use lib.ListN.{drop}
+use Rattle.index.specs.bridge.Noting.{named_among}
+use Rattle.index.proofs.Strides.{named_here, named_later, named_none}
+use Rattle.index.proofs.pairs.is_noted.Given as goal
+
+abbrev pub invariant-loop-i : goal.invariant-loop-i
+invariant-loop-i l = named_among l.named (l.count - l.i) (drop (2 * l.i) l.pairs) ≡ named_among l.named (l.count - l.from) (drop (2 * l.from) l.pairs)
+
+abbrev pub decreases-loop-i : goal.decreases-loop-i
+decreases-loop-i l = l.count - l.i
