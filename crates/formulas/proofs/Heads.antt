@@ -17,7 +17,7 @@ use Rattle.words.specs.declared.symbols.Scanned.{Scanned}
 use Rattle.words.specs.declared.symbols.Sign.{Sign}
 use Rattle.words.specs.declared.symbols.Sign.TheVariants.{Open, Minus}
 use Rattle.words.specs.declared.symbols.Token.TheVariants as token
-use Rattle.scanner.specs.Tokens.{reads, token_at}
+use Rattle.scanner.specs.Tokens.{token_at}
 use Rattle.scanner.proofs.Ends.{scanned_ends}
 use Rattle.grammar.specs.Trees.{Formula, number, variable, text, minus, none}
 use Rattle.grammar.specs.Formulas.{not_level, tightest, good, after, quoted_bytes}
