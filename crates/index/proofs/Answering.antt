@@ -26,7 +26,7 @@ use Rattle.index.specs.Pairs.{pairs_of}
 use Rattle.index.specs.Index.{row_of, rows_of, line_table, pair_words, pair_table, most_pairs, pairs_at, index_words, blank, index_of, indexed_of}
 use Rattle.index.specs.Asking.{start_among, line_in, naming_among, callers_in}
 use Rattle.index.specs.Law.{start_of, AnswersAsTheText}
-use Rattle.index.specs.declared.making.Indexed.TheVariants.{Fine, Refused}
+use Rattle.index.specs.declared.making.Indexed.TheVariants.{Fine}
 use Rattle.index.proofs.Laying.{blank_long}
 use Rattle.index.proofs.Noting.{pair_words_long}
 use Rattle.index.proofs.Tabling.{verdict_error}

@@ -1,8 +1,7 @@
 -- The room has the lines so far that name the line, and the pairs from the one reached on tell the others.
-use Prim.Native.Nat.{◌-◌, ◌≤◌}
 use native.Mathlib.Omega.{arith}
 use borrow.Author.Rules.{rules}
-use Rattle.index.proofs.Calling.{Called, none_called, callers_all, called_more, all_called}
+use Rattle.index.proofs.Calling.{none_called, callers_all, called_more, all_called}
 use Rattle.index.proofs.asking.callers_in.Goals as goal
 
 pub loop-i-init : goal.loop-i-init

@@ -1,7 +1,5 @@
 use Prim.Native.Nat.{◌-◌, ◌≤◌}
-use native.Mathlib.Omega.{arith}
-use borrow.Author.Rules.{rules}
-use Rattle.index.proofs.Calling.{Called, none_called, callers_all, called_more, all_called}
+use Rattle.index.proofs.Calling.{Called}
 use Rattle.index.proofs.asking.callers_in.Given as goal
 
 abbrev pub invariant-loop-i : goal.invariant-loop-i

@@ -1,11 +1,6 @@
 -- The loop keeps that the rows from the one reached on tell what all of them do.
-use mathlib.Core.Path.{◌≡◌, ◌∙◌, ap}
-use Prim.Native.Nat.{◌+◌, ◌*◌, ◌-◌, ◌≤◌}
+use mathlib.Core.Path.{◌∙◌, ap}
 use native.Mathlib.Omega.{arith}
-use borrow.Author.Rules.{rules}
-use lib.ListN.{drop}
-use Rattle.words.specs.Places.{line_number}
-use Rattle.index.specs.Asking.{start_among, line_in}
 use Rattle.index.specs.declared.asking.LineStart.TheVariants.{At}
 use Rattle.index.proofs.Strides.{start_all, start_here, start_later, start_none}
 use Rattle.index.proofs.asking.line_in.Goals as goal

@@ -1,12 +1,8 @@
-use mathlib.Core.Path.{◌≡◌, ◌∙◌, ap}
+use mathlib.Core.Path.{◌≡◌}
 use Prim.Native.Nat.{◌+◌, ◌*◌, ◌-◌, ◌≤◌}
-use native.Mathlib.Omega.{arith}
-use borrow.Author.Rules.{rules}
 use lib.ListN.{drop}
 use Rattle.words.specs.Places.{line_number}
 use Rattle.index.specs.Asking.{start_among, line_in}
-use Rattle.index.specs.declared.asking.LineStart.TheVariants.{At}
-use Rattle.index.proofs.Strides.{start_all, start_here, start_later, start_none}
 use Rattle.index.proofs.asking.line_in.Given as goal
 
 abbrev pub invariant-loop-row : goal.invariant-loop-row

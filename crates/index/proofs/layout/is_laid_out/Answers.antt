@@ -1,10 +1,9 @@
 -- The loop keeps that the words from the one reached on are the same just if all are.
 use mathlib.Core.Path.{◌≡◌, refl, sym, ◌∙◌}
-use Prim.Native.Nat.{◌-◌, ◌≤◌, ◌<◌}
+use Prim.Native.Nat.{◌≤◌, ◌<◌}
 use native.Mathlib.Omega.{arith}
 use borrow.Author.Tests.{le-leb}
-use lib.ListN.{length, drop}
-use Rattle.words.specs.Spellings.{same_bytes}
+use lib.ListN.{length}
 use Rattle.words.proofs.Comparing.{same_next, same_differ, same_ended}
 use Rattle.index.specs.bridge.Laying.{laid_out}
 use Rattle.index.proofs.Laying.{laid_long}
@@ -23,7 +22,7 @@ pub bounds-index-i : goal.bounds-index-i
 bounds-index-i c = omega arith
 
 pub returns-then-word_at-index : goal.returns-then-word_at-index
-returns-then-word_at-index c = 
+returns-then-word_at-index c =
     let inside : c.loop-i.i < length c.args.index.now = c.loop-i-test.true in
     let long : length (laid_out c.args.table.now c.args.count c.args.pairs.now) ≡ length c.args.index.now = laid_long c.args.table.now c.args.pairs.now c.args.count c.requires.1 c.requires.2 ∙ sym c.requires.0 in
     sym (same_differ _ _ _ (omega (arith, inside, long)) (inside) (λ q. c.if-word_at-index.true (c.word_at.ensures ∙ q))) ∙ c.loop-i.invariant
@@ -35,13 +34,13 @@ pub loop-i-smaller : goal.loop-i-smaller
 loop-i-smaller c = omega arith
 
 pub loop-i-preserved : goal.loop-i-preserved
-loop-i-preserved c = 
+loop-i-preserved c =
     let inside : c.loop-i.i < length c.args.index.now = c.loop-i-test.true in
     let long : length (laid_out c.args.table.now c.args.count c.args.pairs.now) ≡ length c.args.index.now = laid_long c.args.table.now c.args.pairs.now c.args.count c.requires.1 c.requires.2 ∙ sym c.requires.0 in
     sym (same_next _ _ _ (omega (arith, inside, long)) (inside) (sym c.word_at.ensures ∙ c.if-word_at-index.false)) ∙ c.loop-i.invariant
 
 pub returns : goal.returns
-returns c = 
+returns c =
     let long : length (laid_out c.args.table.now c.args.count c.args.pairs.now) ≡ length c.args.index.now = laid_long c.args.table.now c.args.pairs.now c.args.count c.requires.1 c.requires.2 ∙ sym c.requires.0 in
     let all : length (laid_out c.args.table.now c.args.count c.args.pairs.now) ≤ c.loop-i.i = omega (arith, c.loop-i-test.false, long) in
     sym (same_ended _ c.args.index.now _ all ∙ le-leb _ _ c.loop-i-test.false) ∙ c.loop-i.invariant

@@ -1,12 +1,8 @@
-use mathlib.Core.Path.{◌≡◌, refl, sym, ◌∙◌}
-use Prim.Native.Nat.{◌-◌, ◌≤◌, ◌<◌}
-use native.Mathlib.Omega.{arith}
-use borrow.Author.Tests.{le-leb}
+use mathlib.Core.Path.{◌≡◌}
+use Prim.Native.Nat.{◌-◌}
 use lib.ListN.{length, drop}
 use Rattle.words.specs.Spellings.{same_bytes}
-use Rattle.words.proofs.Comparing.{same_next, same_differ, same_ended}
 use Rattle.index.specs.bridge.Laying.{laid_out}
-use Rattle.index.proofs.Laying.{laid_long}
 use Rattle.index.proofs.layout.is_laid_out.Given as goal
 
 abbrev pub invariant-loop-i : goal.invariant-loop-i

@@ -1,6 +1,5 @@
 -- The number of pairs and the pairs after it are laid one after the other.
 use native.Mathlib.Omega.{arith}
-use borrow.Author.Rules.{rules}
 use Rattle.index.proofs.Laying.{counted_long, all_long, all_laid}
 use Rattle.index.proofs.layout.lay_out.Goals as goal
 

@@ -25,7 +25,7 @@ unfolding blank
 note_lines-requires c = (c.make_rows.ensures, refl)
 
 pub overflow_mul-end : goal.overflow_mul-end
-overflow_mul-end c = 
+overflow_mul-end c =
     let text : List ℕ = c.args.text.now in
     let made : Made text c.make_rows.new.rows c.note_lines.new.pairs c.in-Count.count c.used_words-used.result = record {
       tabled = c.make_rows.ensures;
@@ -36,7 +36,7 @@ overflow_mul-end c =
     omega (arith, few made)
 
 pub slice_bounds-rows-end : goal.slice_bounds-rows-end
-slice_bounds-rows-end c = 
+slice_bounds-rows-end c =
     let text : List ℕ = c.args.text.now in
     let made : Made text c.make_rows.new.rows c.note_lines.new.pairs c.in-Count.count c.used_words-used.result = record {
       tabled = c.make_rows.ensures;
@@ -47,7 +47,7 @@ slice_bounds-rows-end c =
     short made
 
 pub slice_bounds-lay_out-end-in-Count : goal.slice_bounds-lay_out-end-in-Count
-slice_bounds-lay_out-end-in-Count c = 
+slice_bounds-lay_out-end-in-Count c =
     let text : List ℕ = c.args.text.now in
     let made : Made text c.make_rows.new.rows c.note_lines.new.pairs c.in-Count.count c.used_words-used.result = record {
       tabled = c.make_rows.ensures;
@@ -58,7 +58,7 @@ slice_bounds-lay_out-end-in-Count c =
     sym (front_long made)
 
 pub overflow_cast-count : goal.overflow_cast-count
-overflow_cast-count c = 
+overflow_cast-count c =
     let text : List ℕ = c.args.text.now in
     let made : Made text c.make_rows.new.rows c.note_lines.new.pairs c.in-Count.count c.used_words-used.result = record {
       tabled = c.make_rows.ensures;
@@ -69,7 +69,7 @@ overflow_cast-count c =
     omega (arith, few made)
 
 pub slice_bounds-pairs-end : goal.slice_bounds-pairs-end
-slice_bounds-pairs-end c = 
+slice_bounds-pairs-end c =
     let text : List ℕ = c.args.text.now in
     let made : Made text c.make_rows.new.rows c.note_lines.new.pairs c.in-Count.count c.used_words-used.result = record {
       tabled = c.make_rows.ensures;
@@ -80,7 +80,7 @@ slice_bounds-pairs-end c =
     within made
 
 pub slice_bounds-lay_out-end-in-Count-2 : goal.slice_bounds-lay_out-end-in-Count-2
-slice_bounds-lay_out-end-in-Count-2 c = 
+slice_bounds-lay_out-end-in-Count-2 c =
     let text : List ℕ = c.args.text.now in
     let made : Made text c.make_rows.new.rows c.note_lines.new.pairs c.in-Count.count c.used_words-used.result = record {
       tabled = c.make_rows.ensures;
@@ -91,7 +91,7 @@ slice_bounds-lay_out-end-in-Count-2 c =
     sym (pairs_long made)
 
 pub lay_out-requires : goal.lay_out-requires
-lay_out-requires c = 
+lay_out-requires c =
     let text : List ℕ = c.args.text.now in
     let made : Made text c.make_rows.new.rows c.note_lines.new.pairs c.in-Count.count c.used_words-used.result = record {
       tabled = c.make_rows.ensures;
@@ -108,7 +108,7 @@ returns-in-Full c =
     record { value = kept.0; index_after = kept.1 }
 
 pub returns-in-Count : goal.returns-in-Count
-returns-in-Count c = 
+returns-in-Count c =
     let text : List ℕ = c.args.text.now in
     let made : Made text c.make_rows.new.rows c.note_lines.new.pairs c.in-Count.count c.used_words-used.result = record {
       tabled = c.make_rows.ensures;

@@ -21,7 +21,7 @@ pub returns-in_default : goal.returns-in_default
 returns-in_default c = load_none _ _ (sym c.load.ensures ∙ c.in_default.is)
 
 pub make_rows-requires : goal.make_rows-requires
-make_rows-requires c = 
+make_rows-requires c =
     let fine : load_of c.args.text.now ≡ Fine = sym c.load.ensures ∙ c.in-Fine.is in
     (fine, refl)
 
@@ -30,95 +30,95 @@ unfolding blank
 note_lines-requires c = (c.make_rows.ensures, refl)
 
 pub overflow_mul-end : goal.overflow_mul-end
-overflow_mul-end c = 
+overflow_mul-end c =
     let text : List ℕ = c.args.text.now in
     let made : Made text c.make_rows.new.rows c.note_lines.new.pairs c.in-Count.count c.used_words-used.result = record {
-  tabled = c.make_rows.ensures;
-  keeps = told_count _ (pairs_of text) c.in-Count.is c.note_lines.ensures;
-  long = search (rules, c.make_rows.auto);
-  uses = c.used_words-used.ensures;
-} in
+      tabled = c.make_rows.ensures;
+      keeps = told_count _ (pairs_of text) c.in-Count.is c.note_lines.ensures;
+      long = search (rules, c.make_rows.auto);
+      uses = c.used_words-used.ensures;
+    } in
     omega (arith, few (made))
 
 pub slice_bounds-rows-end : goal.slice_bounds-rows-end
-slice_bounds-rows-end c = 
+slice_bounds-rows-end c =
     let text : List ℕ = c.args.text.now in
     let made : Made text c.make_rows.new.rows c.note_lines.new.pairs c.in-Count.count c.used_words-used.result = record {
-  tabled = c.make_rows.ensures;
-  keeps = told_count _ (pairs_of text) c.in-Count.is c.note_lines.ensures;
-  long = search (rules, c.make_rows.auto);
-  uses = c.used_words-used.ensures;
-} in
+      tabled = c.make_rows.ensures;
+      keeps = told_count _ (pairs_of text) c.in-Count.is c.note_lines.ensures;
+      long = search (rules, c.make_rows.auto);
+      uses = c.used_words-used.ensures;
+    } in
     short (made)
 
 pub slice_bounds-is_laid_out-end : goal.slice_bounds-is_laid_out-end
-slice_bounds-is_laid_out-end c = 
+slice_bounds-is_laid_out-end c =
     let text : List ℕ = c.args.text.now in
     let made : Made text c.make_rows.new.rows c.note_lines.new.pairs c.in-Count.count c.used_words-used.result = record {
-  tabled = c.make_rows.ensures;
-  keeps = told_count _ (pairs_of text) c.in-Count.is c.note_lines.ensures;
-  long = search (rules, c.make_rows.auto);
-  uses = c.used_words-used.ensures;
-} in
+      tabled = c.make_rows.ensures;
+      keeps = told_count _ (pairs_of text) c.in-Count.is c.note_lines.ensures;
+      long = search (rules, c.make_rows.auto);
+      uses = c.used_words-used.ensures;
+    } in
     sym (front_long (made))
 
 pub overflow_cast-count : goal.overflow_cast-count
-overflow_cast-count c = 
+overflow_cast-count c =
     let text : List ℕ = c.args.text.now in
     let made : Made text c.make_rows.new.rows c.note_lines.new.pairs c.in-Count.count c.used_words-used.result = record {
-  tabled = c.make_rows.ensures;
-  keeps = told_count _ (pairs_of text) c.in-Count.is c.note_lines.ensures;
-  long = search (rules, c.make_rows.auto);
-  uses = c.used_words-used.ensures;
-} in
+      tabled = c.make_rows.ensures;
+      keeps = told_count _ (pairs_of text) c.in-Count.is c.note_lines.ensures;
+      long = search (rules, c.make_rows.auto);
+      uses = c.used_words-used.ensures;
+    } in
     omega (arith, few (made))
 
 pub slice_bounds-pairs-end : goal.slice_bounds-pairs-end
-slice_bounds-pairs-end c = 
+slice_bounds-pairs-end c =
     let text : List ℕ = c.args.text.now in
     let made : Made text c.make_rows.new.rows c.note_lines.new.pairs c.in-Count.count c.used_words-used.result = record {
-  tabled = c.make_rows.ensures;
-  keeps = told_count _ (pairs_of text) c.in-Count.is c.note_lines.ensures;
-  long = search (rules, c.make_rows.auto);
-  uses = c.used_words-used.ensures;
-} in
+      tabled = c.make_rows.ensures;
+      keeps = told_count _ (pairs_of text) c.in-Count.is c.note_lines.ensures;
+      long = search (rules, c.make_rows.auto);
+      uses = c.used_words-used.ensures;
+    } in
     within (made)
 
 pub slice_bounds-is_laid_out-end-in-Count : goal.slice_bounds-is_laid_out-end-in-Count
-slice_bounds-is_laid_out-end-in-Count c = 
+slice_bounds-is_laid_out-end-in-Count c =
     let text : List ℕ = c.args.text.now in
     let made : Made text c.make_rows.new.rows c.note_lines.new.pairs c.in-Count.count c.used_words-used.result = record {
-  tabled = c.make_rows.ensures;
-  keeps = told_count _ (pairs_of text) c.in-Count.is c.note_lines.ensures;
-  long = search (rules, c.make_rows.auto);
-  uses = c.used_words-used.ensures;
-} in
+      tabled = c.make_rows.ensures;
+      keeps = told_count _ (pairs_of text) c.in-Count.is c.note_lines.ensures;
+      long = search (rules, c.make_rows.auto);
+      uses = c.used_words-used.ensures;
+    } in
     sym (pairs_long (made))
 
 pub is_laid_out-requires : goal.is_laid_out-requires
-is_laid_out-requires c = 
+is_laid_out-requires c =
     let text : List ℕ = c.args.text.now in
     let made : Made text c.make_rows.new.rows c.note_lines.new.pairs c.in-Count.count c.used_words-used.result = record {
-  tabled = c.make_rows.ensures;
-  keeps = told_count _ (pairs_of text) c.in-Count.is c.note_lines.ensures;
-  long = search (rules, c.make_rows.auto);
-  uses = c.used_words-used.ensures;
-} in
+      tabled = c.make_rows.ensures;
+      keeps = told_count _ (pairs_of text) c.in-Count.is c.note_lines.ensures;
+      long = search (rules, c.make_rows.auto);
+      uses = c.used_words-used.ensures;
+    } in
     (c.if-index-ne-WORDS.false, omega (arith, front_long (made), short (made), (made).long), omega (arith, pairs_long (made), few (made)))
 
 pub returns-in-Full : goal.returns-in-Full
-returns-in-Full c = 
+returns-in-Full c =
     let fine : load_of c.args.text.now ≡ Fine = sym c.load.ensures ∙ c.in-Fine.is in
     pairs_none _ _ (fine) (told_full _ _ c.in-Full.is c.note_lines.ensures)
 
 pub returns-in-Count : goal.returns-in-Count
-returns-in-Count c = 
+returns-in-Count c =
     let text : List ℕ = c.args.text.now in
     let made : Made text c.make_rows.new.rows c.note_lines.new.pairs c.in-Count.count c.used_words-used.result = record {
-  tabled = c.make_rows.ensures;
-  keeps = told_count _ (pairs_of text) c.in-Count.is c.note_lines.ensures;
-  long = search (rules, c.make_rows.auto);
-  uses = c.used_words-used.ensures;
-} in
+      tabled = c.make_rows.ensures;
+      keeps = told_count _ (pairs_of text) c.in-Count.is c.note_lines.ensures;
+      long = search (rules, c.make_rows.auto);
+      uses = c.used_words-used.ensures;
+    } in
     let fine : load_of c.args.text.now ≡ Fine = sym c.load.ensures ∙ c.in-Fine.is in
     c.is_laid_out.ensures ∙ laid_same (text) c.args.index.now (fine) (made).keeps (table (made))

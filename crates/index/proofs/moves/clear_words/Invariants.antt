@@ -1,10 +1,7 @@
-use mathlib.Core.Path.{◌≡◌, refl, sym, ◌∙◌, ap}
+use mathlib.Core.Path.{◌≡◌}
 use Prim.Native.Nat.{◌-◌}
-use native.Mathlib.Omega.{arith}
-use lib.ListN.{length, length-set}
+use lib.ListN.{length}
 use Rattle.space.specs.Moves.{cleared}
-use Rattle.space.proofs.Turns.{clear_turn}
-use Rattle.space.proofs.Frames.{cleared_past}
 use Rattle.index.specs.Index.{blank}
 use Rattle.index.proofs.moves.clear_words.Given as goal
 

@@ -1,10 +1,8 @@
 -- The loop keeps what laying the words that are left makes of the slice.
-use mathlib.Core.Path.{◌≡◌, refl, ◌∙◌}
-use Prim.Native.Nat.{◌+◌, ◌-◌, ◌≤◌}
+use mathlib.Core.Path.{refl, ◌∙◌}
 use native.Mathlib.Nat.{add-zero}
 use native.Mathlib.Omega.{arith}
-use lib.ListN.{length, drop, length-set, drop_of_length-le}
-use Rattle.space.specs.Moves.{overlaid}
+use lib.ListN.{length-set, drop_of_length-le}
 use Rattle.space.proofs.Overlaid.{overlaid_none}
 use Rattle.space.proofs.Turns.{copy_turn}
 use Rattle.index.proofs.moves.put_words.Goals as goal

@@ -1,11 +1,7 @@
-use mathlib.Core.Path.{◌≡◌, refl, ◌∙◌}
+use mathlib.Core.Path.{◌≡◌}
 use Prim.Native.Nat.{◌+◌, ◌-◌, ◌≤◌}
-use native.Mathlib.Nat.{add-zero}
-use native.Mathlib.Omega.{arith}
-use lib.ListN.{length, drop, length-set, drop_of_length-le}
+use lib.ListN.{length, drop}
 use Rattle.space.specs.Moves.{overlaid}
-use Rattle.space.proofs.Overlaid.{overlaid_none}
-use Rattle.space.proofs.Turns.{copy_turn}
 use Rattle.index.proofs.moves.put_words.Given as goal
 
 abbrev pub invariant-loop-i : goal.invariant-loop-i

@@ -1,9 +1,6 @@
 -- The loop keeps that the pairs from the one reached on tell what all of them do.
-use mathlib.Core.Path.{◌≡◌, refl, sym, ◌∙◌}
-use Prim.Native.Nat.{◌*◌, ◌-◌}
+use mathlib.Core.Path.{refl, sym, ◌∙◌}
 use native.Mathlib.Omega.{arith}
-use lib.ListN.{drop}
-use Rattle.index.specs.bridge.Noting.{named_among}
 use Rattle.index.proofs.Strides.{named_here, named_later, named_none}
 use Rattle.index.proofs.pairs.is_noted.Goals as goal
 

@@ -1,9 +1,7 @@
-use mathlib.Core.Path.{◌≡◌, refl, sym, ◌∙◌}
+use mathlib.Core.Path.{◌≡◌}
 use Prim.Native.Nat.{◌*◌, ◌-◌}
-use native.Mathlib.Omega.{arith}
 use lib.ListN.{drop}
 use Rattle.index.specs.bridge.Noting.{named_among}
-use Rattle.index.proofs.Strides.{named_here, named_later, named_none}
 use Rattle.index.proofs.pairs.is_noted.Given as goal
 
 abbrev pub invariant-loop-i : goal.invariant-loop-i

@@ -1,6 +1,5 @@
 -- A statement that names no line, or one that was named before, leaves the pairs as they are (`noted_seen`); else there is one more.
 use native.Mathlib.Omega.{arith}
-use borrow.Author.Rules.{rules}
 use lib.ListN.{length-set}
 use Rattle.index.proofs.Noting.{noted_seen, noted_full, noted_more}
 use Rattle.index.proofs.pairs.note.Goals as goal

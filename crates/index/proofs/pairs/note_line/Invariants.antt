@@ -1,20 +1,15 @@
-use mathlib.Core.Path.{◌≡◌, refl, sym, ◌∙◌}
-use mathlib.Core.List.{List, [], ◌++◌}
-use Prim.Native.Nat.{ℕ, ◌≤◌}
-use native.Mathlib.Omega.{arith}
-use borrow.Author.Rules.{rules}
+use mathlib.Core.Path.{◌≡◌}
+use mathlib.Core.List.{List, []}
+use Prim.Native.Nat.{◌≤◌}
 use lib.ListN.{length}
 use Rattle.grammar.specs.Trees.{Part}
 use Rattle.statements.specs.Parts.{statements_of}
 use Rattle.statements.proofs.Parts.{weight_at}
 use Rattle.reader.specs.Lines.{holds, judgement}
-use Rattle.reader.specs.bridge.Walking.{Further}
-use Rattle.reader.specs.declared.branches.Start.{Start}
-use Rattle.reader.proofs.Visits.{further}
-use Rattle.index.specs.Pairs.{Pair, with_named, named_by, pairs_with}
+use Rattle.index.specs.Pairs.{Pair, named_by}
 use Rattle.index.specs.Index.{most_pairs}
 use Rattle.index.specs.bridge.Noting.{pair_room, Held}
-use Rattle.index.proofs.Walking.{told_count, told_full, Noting, noting_first, Onward, noting_on, noting_full}
+use Rattle.index.proofs.Walking.{Noting}
 use Rattle.index.proofs.pairs.note_line.Given as goal
 
 abbrev pub invariant-loop-more : goal.invariant-loop-more

@@ -1,7 +1,6 @@
 -- By its verdict a row's line reads or not (`row_reads`), and what it names are its pairs (`row_noted`).
 use mathlib.Core.Path.{sym, ◌∙◌}
 use native.Mathlib.Omega.{arith}
-use borrow.Author.Rules.{rules}
 use Rattle.loader.proofs.Spans.{body_at, Spanned}
 use Rattle.reader.specs.Lines.{judgement}
 use Rattle.rows.specs.bridge.Rows.{cell}
@@ -19,22 +18,22 @@ pub span_in-span-requires : goal.span_in-span-requires
 span_in-span-requires c = omega (arith, c.requires.1, (ordered c.requires.0).few)
 
 pub slice_bounds-note_line-count : goal.slice_bounds-note_line-count
-slice_bounds-note_line-count c = 
+slice_bounds-note_line-count c =
     let at_line : Spanned c.args.text.now (cell c.args.rows.now c.args.row.0 1) c.span_in-span.result = row_there c.requires.0 c.args.row.0 c.requires.1 c.span_in-span.ensures in
     (at_line).low
 
 pub slice_bounds-note_line-start : goal.slice_bounds-note_line-start
-slice_bounds-note_line-start c = 
+slice_bounds-note_line-start c =
     let at_line : Spanned c.args.text.now (cell c.args.rows.now c.args.row.0 1) c.span_in-span.result = row_there c.requires.0 c.args.row.0 c.requires.1 c.span_in-span.ensures in
     (at_line).low
 
 pub slice_bounds-note_line-end : goal.slice_bounds-note_line-end
-slice_bounds-note_line-end c = 
+slice_bounds-note_line-end c =
     let at_line : Spanned c.args.text.now (cell c.args.rows.now c.args.row.0 1) c.span_in-span.result = row_there c.requires.0 c.args.row.0 c.requires.1 c.span_in-span.ensures in
     (at_line).high
 
 pub returns : goal.returns
-returns c = 
+returns c =
     let reads : Reads (judgement (body_at c.args.text.now c.span_in-span.result)) = row_reads c.requires.0 c.args.row.0 c.requires.1 c.span_in-span.ensures (sym c.verdict_in.ensures ∙ c.if-verdict_in-ne-READS.false) in
     record {
       within = c.note_line.ensures.within;

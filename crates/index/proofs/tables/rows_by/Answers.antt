@@ -1,7 +1,6 @@
 -- A text's own index begins with the table of its lines (`front_tabled`).
 use mathlib.Core.Path.{sym, ◌∙◌}
 use native.Mathlib.Omega.{arith}
-use borrow.Author.Rules.{rules}
 use Rattle.index.proofs.Owning.{front_long, front_tabled}
 use Rattle.index.proofs.tables.rows_by.Goals as goal
 
