@@ -1,12 +1,10 @@
 -- The loop's invariant: the statements from where the walk is on make of the count what all of them make of none; and no more were counted than passed.
 use mathlib.Core.Path.{sym, ◌∙◌}
 use mathlib.Core.List.{List}
-use Prim.Native.Nat.{ℕ, ◌+◌, ◌≤◌}
+use Prim.Native.Nat.{ℕ}
 use native.Mathlib.Omega.{arith}
-use borrow.Author.Rules.{rules}
 use Rattle.loader.specs.Lines.{lines_of}
 use Rattle.machine.specs.Order.{stands}
-use Rattle.order.specs.bridge.Walking.{left_of}
 use Rattle.order.specs.declared.texts.Walk.TheVariants as walk
 use Rattle.order.proofs.Pairing.{left_few}
 use Rattle.bounding.specs.Bounding.{bound_of}
@@ -28,13 +26,13 @@ pub returns-in_default-walk : goal.returns-in_default-walk
 returns-in_default-walk c = count_over (rw c.in_default-walk.is at c.loop-walk.invariant.0)
 
 pub lead_of-lead-requires : goal.lead_of-lead-requires
-lead_of-lead-requires c = 
+lead_of-lead-requires c =
     let text : List ℕ = c.args.text.now in
     let here : Counts text (walk.At c.in-At.spot) c.loop-walk.count (bound_of text) = rw c.in-At.is at c.loop-walk.invariant.0 in
     count_spotted (here)
 
 pub returns-then-not-leads_on : goal.returns-then-not-leads_on
-returns-then-not-leads_on c = 
+returns-then-not-leads_on c =
     let text : List ℕ = c.args.text.now in
     let here : Counts text (walk.At c.in-At.spot) c.loop-walk.count (bound_of text) = rw c.in-At.is at c.loop-walk.invariant.0 in
     count_back (here) c.lead_of-lead.ensures c.leads_on.ensures c.if-not-leads_on.true-raw
@@ -43,7 +41,7 @@ pub overflow_add-count : goal.overflow_add-count
 overflow_add-count c = omega (arith, c.loop-walk.invariant.1)
 
 pub onward-walk-requires : goal.onward-walk-requires
-onward-walk-requires c = 
+onward-walk-requires c =
     let text : List ℕ = c.args.text.now in
     let here : Counts text (walk.At c.in-At.spot) c.loop-walk.count (bound_of text) = rw c.in-At.is at c.loop-walk.invariant.0 in
     (count_spotted (here), c.lead_of-lead.ensures)
@@ -52,7 +50,7 @@ pub loop-walk-smaller : goal.loop-walk-smaller
 loop-walk-smaller c = rw c.in-At.is c.onward-walk.ensures.1
 
 pub loop-walk-preserved : goal.loop-walk-preserved
-loop-walk-preserved c = 
+loop-walk-preserved c =
     let text : List ℕ = c.args.text.now in
     let here : Counts text (walk.At c.in-At.spot) c.loop-walk.count (bound_of text) = rw c.in-At.is at c.loop-walk.invariant.0 in
     let n = rw c.in-At.is at c.loop-walk.invariant.1 in (

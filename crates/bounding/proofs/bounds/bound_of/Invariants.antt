@@ -1,15 +1,7 @@
-use mathlib.Core.Path.{sym, ◌∙◌}
-use mathlib.Core.List.{List}
-use Prim.Native.Nat.{ℕ, ◌+◌, ◌≤◌}
-use native.Mathlib.Omega.{arith}
-use borrow.Author.Rules.{rules}
-use Rattle.loader.specs.Lines.{lines_of}
-use Rattle.machine.specs.Order.{stands}
+use Prim.Native.Nat.{◌+◌, ◌≤◌}
 use Rattle.order.specs.bridge.Walking.{left_of}
-use Rattle.order.specs.declared.texts.Walk.TheVariants as walk
-use Rattle.order.proofs.Pairing.{left_few}
 use Rattle.bounding.specs.Bounding.{bound_of}
-use Rattle.bounding.proofs.Counting.{Counts, from_first, count_none, count_over, count_spotted, count_back, count_more}
+use Rattle.bounding.proofs.Counting.{Counts}
 use Rattle.bounding.proofs.bounds.bound_of.Given as goal
 
 abbrev pub invariant-loop-walk : goal.invariant-loop-walk

@@ -1,5 +1,4 @@
 -- By the line that is named.
-use borrow.Author.Rules.{rules}
 use Rattle.bounding.proofs.jumps.goes_on.Goals as goal
 
 pub returns-in-Names : goal.returns-in-Names

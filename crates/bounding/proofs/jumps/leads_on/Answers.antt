@@ -1,5 +1,4 @@
 -- By the word.
-use borrow.Author.Rules.{rules}
 use Rattle.bounding.proofs.jumps.leads_on.Goals as goal
 
 pub returns-in-By : goal.returns-in-By

@@ -1,7 +1,6 @@
 -- GOTO, the words that may lead back, and every other word.
 use borrow.Enum.Refused.{opened as unsealed}
 use Rattle.bounding.proofs.Leading.{leads_back, leads_other}
-use borrow.Author.Rules.{rules}
 use Rattle.bounding.proofs.jumps.word_leads_on.Goals as goal
 
 pub returns-in-Goto : goal.returns-in-Goto
