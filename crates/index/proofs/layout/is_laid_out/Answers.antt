@@ -3,7 +3,8 @@ use mathlib.Core.Path.{◌≡◌, refl, sym, ◌∙◌}
 use Prim.Native.Nat.{◌≤◌, ◌<◌}
 use native.Mathlib.Omega.{arith}
 use borrow.Author.Tests.{le-leb}
-use lib.ListN.{length}
+use lib.ListN.{length, get_or}
+use Rattle.std.proofs.Common.{◌≢◌}
 use Rattle.words.proofs.Comparing.{same_next, same_differ, same_ended}
 use Rattle.index.specs.bridge.Laying.{laid_out}
 use Rattle.index.proofs.Laying.{laid_long}
@@ -25,7 +26,8 @@ pub returns-then-word_at-index : goal.returns-then-word_at-index
 returns-then-word_at-index c =
     let inside : c.loop-i.i < length c.args.index.now = c.loop-i-test.true in
     let long : length (laid_out c.args.table.now c.args.count c.args.pairs.now) ≡ length c.args.index.now = laid_long c.args.table.now c.args.pairs.now c.args.count c.requires.1 c.requires.2 ∙ sym c.requires.0 in
-    sym (same_differ _ _ _ (omega (arith, inside, long)) (inside) (λ q. c.if-word_at-index.true (c.word_at.ensures ∙ q))) ∙ c.loop-i.invariant
+    let differ : c.word_at.result ≢ get_or c.args.index.now c.loop-i.i 0 = omega (arith, c.if-word_at-index.true) in
+    sym (same_differ _ _ _ (omega (arith, inside, long)) (inside) (λ q. differ (c.word_at.ensures ∙ q))) ∙ c.loop-i.invariant
 
 pub overflow_add-i : goal.overflow_add-i
 overflow_add-i c = omega arith
@@ -37,7 +39,8 @@ pub loop-i-preserved : goal.loop-i-preserved
 loop-i-preserved c =
     let inside : c.loop-i.i < length c.args.index.now = c.loop-i-test.true in
     let long : length (laid_out c.args.table.now c.args.count c.args.pairs.now) ≡ length c.args.index.now = laid_long c.args.table.now c.args.pairs.now c.args.count c.requires.1 c.requires.2 ∙ sym c.requires.0 in
-    sym (same_next _ _ _ (omega (arith, inside, long)) (inside) (sym c.word_at.ensures ∙ c.if-word_at-index.false)) ∙ c.loop-i.invariant
+    let same : c.word_at.result ≡ get_or c.args.index.now c.loop-i.i 0 = omega (arith, c.if-word_at-index.false) in
+    sym (same_next _ _ _ (omega (arith, inside, long)) (inside) (sym c.word_at.ensures ∙ same)) ∙ c.loop-i.invariant
 
 pub returns : goal.returns
 returns c =
