@@ -1,5 +1,5 @@
 -- A line of the next caller, and those of the others after it (`callers_next`).
-use Rattle.std.proofs.Common.{◌≡◌, ◌+◌, ◌≤◌, refl, ap, ap₂, ◌∙◌, length, get_or, drop, rules, arith}
+use Rattle.std.proofs.Common.{◌+◌, ◌≤◌, ap, ap₂, ◌∙◌, length, get_or, drop, rules, arith}
 use Rattle.space.specs.Moves.{overlaid}
 use Rattle.space.proofs.Overlaid.{overlaid_none}
 use Rattle.callers_of.specs.Answers.{caller_line, caller_lines}
