@@ -26,7 +26,7 @@ use Rattle.runner.specs.Run as run
 use Rattle.runner.specs.Run.{is_refused}
 use Rattle.runner.specs.declared.running.Outcome.{Outcome}
 use Rattle.runner.specs.declared.running.Ran.{Ran}
-use Rattle.promises.specs.Calls.{RunCall, CheckCall, text_of, input_of, space_before, space_after, room_before, room_after, stack_before, lent_of, budget_of, tables_before, recipe_of, tables_handed, space_handed, name_asked}
+use Rattle.promises.specs.Calls.{RunCall, CheckCall, text_of, input_of, space_before, room_before, room_after, stack_before, lent_of, budget_of, tables_before, recipe_of, tables_handed, space_handed, name_asked}
 use Rattle.promises.proofs.Waiting.Runs.{few_unfinished}
 use Rattle.promises.specs.Demands.{RefusedFor, WasRefused, Tells, first_refusal, ChecksExactlyFacts, ran_of, AnswersAlways, StopsWithinBudget, RefusesExactly, RefusalsChangeNothing, StaysWithinMemory, AskedPartsLieInside, RunsAsDefined, MadeExactly, FourteenExactly, ChecksExactly, PassedRecipesEndWell, FewAtOnce}
 use Rattle.promises.specs.Faults.{AllFaultless, FirstFault}

@@ -1,8 +1,15 @@
 -- What `specs/Calls.antt` writes out is what the toolchain made of the contracts: a contract that says less breaks its line.
 use mathlib.Core.Path.{◌≡◌, refl}
+use seplogic.Ra.Ura.{Ura}
+use base.Logic.{SProp}
+use prog.Memory.{Memory}
+use prog.Routine.{Routine}
+use types.Logic.{Logic}
 use contract.Lifetimes.{Lfts}
+use contract.Monad.{Fun}
 use denote.Triple.Entry.{Args, Res}
 use denote.Triple.Clauses.{AtExit}
+use Rattle.calls.specs.Lent as lent
 use Rattle.runner.specs.contracts as runner
 use Rattle.checker.specs.contracts as checker
 use Rattle.asking.specs.contracts as asking
@@ -36,3 +43,12 @@ quernhem_check κs a r e = refl
 pub quernhem_ask : (κs : Lfts host.quernhem_ask.signature.lifetimes) (a : Args host.quernhem_ask.signature κs) (r : Res host.quernhem_ask.signature κs) (e : AtExit host.quernhem_ask.ended κs)
     → made_host.quernhem_ask.Reads.Post κs a r e ≡ AskBoxAllows κs a r e
 quernhem_ask κs a r e = refl
+
+-- ---- and the two of the run, what the `ensures` itself says
+
+module _ {M : Type 1} {𝓤 : Ura M} (𝓛 : Logic 𝓤) (mem : Memory → SProp 𝓤) (routine : Routine → Fun 𝓤) where
+  pub run_says : lent.Says 𝓤 runner.run.ended (runner.run.clauses 𝓛 mem routine) RunAllows
+  run_says κs a g r e = refl
+
+  pub quernhem_run_says : lent.Says 𝓤 host.quernhem_run.ended (host.quernhem_run.clauses 𝓛 mem routine) BoxAllows
+  quernhem_run_says κs a g r e = refl

@@ -20,7 +20,7 @@ use Rattle.host.specs.contracts as host
 
 -- ---- `run(text, input, space, room, index, stack, budget, tables)`
 
--- what its contract allows (`run_says`): whatever the index holds, which is the fifth of what is passed
+-- what its contract allows (`run` of proofs/TheSame): whatever the index holds, which is the fifth of what is passed
 abbrev pub RunAllows : lent.Allows runner.run.ended
 RunAllows lifetimes a r e =
     let ran = run_of a.0.now a.1.0.now (lent_by a.1.1.0.now a.1.1.1.0.now (length a.1.1.1.1.1.0.now)) a.1.1.1.1.1.1.0 in
@@ -104,7 +104,7 @@ name_asked c = c.passed.1.1.0.now
 
 -- ---- `quernhem_run(text, input, space, room, index, records, budget, tables, answer)`
 
--- what its contract allows (`quernhem_run_says`)
+-- what its contract allows (`quernhem_run` of proofs/TheSame)
 abbrev pub BoxAllows : lent.Allows host.quernhem_run.ended
 BoxAllows lifetimes a r e =
     HasRun (run_of a.0.now a.1.0.now (lent_by a.1.1.0.now a.1.1.1.0.now (length a.1.1.1.1.1.0.now)) a.1.1.1.1.1.1.0)

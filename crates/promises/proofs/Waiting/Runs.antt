@@ -18,7 +18,6 @@ use Rattle.turns.specs.Steps.{Next, goes_on, enters, ends, stops, fails, do_stat
 use Rattle.runner.specs.Run.{Ran, line_number_of, Entered, over, faulty, opened, enter, Standing, finished, at, by_entered, entering, onward, following, turn, running, if_loaded, run_of}
 use Rattle.runner.specs.Examples.{lending, nested, nested_highest}
 use Rattle.promises.specs.Unfinished.{most_unfinished, FewUnfinished, MostIsReached}
-use Rattle.promises.proofs.Waiting.Nesting.{Fine}
 use Rattle.promises.proofs.Waiting.Reading.{PartFine, EnteredFine, line_fine}
 use Rattle.promises.proofs.Waiting.Turns.{RestFine, head_fine, Sound, NextFine, statement_sound}
 use Rattle.variables.specs.Strings.{longest_space}

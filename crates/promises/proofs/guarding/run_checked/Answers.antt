@@ -1,6 +1,5 @@
 -- The verdict is the definition's, and so is the run.
 use mathlib.Core.Path.{sym, ◌∙◌}
-use borrow.Author.Rules.{rules}
 use Rattle.promises.proofs.Passage.{passed_run, refused_run, faulty_run}
 use Rattle.promises.proofs.guarding.run_checked.Goals as goal
 
