@@ -22,7 +22,7 @@ use Rattle.words.proofs.Choices.{by_test}
 use Rattle.loader.specs.Lines.{Line, ends_line, dropped, in_front, started_at, with_byte, lines_from, lines_of, from_number}
 use Rattle.grammar.specs.Trees as tree
 use Rattle.grammar.specs.Trees.{Formula, Variable, Item, Statement, Part}
-use Rattle.statements.specs.Parts.{item_formulas, head_of, Rest, part, parts_of, parts_within, heads, statements_of}
+use Rattle.statements.specs.Parts.{item_formulas, head_of, Rest, parts_of, parts_within, heads, statements_of}
 use Rattle.statements.proofs.Depths.{heads_append}
 use Rattle.variables.specs.Strings.{Value, whole, text, Outcome, value, fault, make}
 use Rattle.variables.specs.Variables.{word_of, numbers_full, strings_full}
