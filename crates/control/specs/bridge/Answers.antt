@@ -24,7 +24,6 @@ use Rattle.machine.specs.bridge.Holding.{loop_record, State}
 use Rattle.machine.specs.declared.positions.Position.{Position}
 use Rattle.machine.specs.declared.positions.Next.{Next}
 use Rattle.machine.specs.declared.positions.Next.TheVariants as next
-use Rattle.machine.specs.declared.records.Record.{Record}
 use Rattle.machine.specs.declared.records.Found.{Found}
 use Rattle.machine.specs.declared.records.Found.TheVariants as found
 use Rattle.variables.specs.Variables.{most_variables}
