@@ -34,7 +34,6 @@ use Rattle.grammar.specs.Trees.{Variable, line_input}
 use Rattle.grammar.specs.Formulas.{after, quoted_bytes}
 use Rattle.statements.specs.Statements.{Begun, bad, done, variable_of, target_at, input_at}
 use Rattle.statements.proofs.Findings.{by_name, by_text}
-use Rattle.variables.specs.Strings.{text}
 use Rattle.variables.specs.bridge.Memory.{Tells, Storable, space_stored}
 use Rattle.variables.specs.Tables.{sum_of}
 use Rattle.formulas.specs.bridge.Memory.{Scans}
