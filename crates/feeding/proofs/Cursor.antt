@@ -3,7 +3,7 @@ use mathlib.Core.Path.{◌≡◌, refl, sym, ap, ◌∙◌}
 use mathlib.Core.Logic.{⊎_elim}
 use mathlib.Core.Bool.{true, false, ◌||◌, false≢true}
 use mathlib.Core.List.{List, [], ◌∷◌, ◌++◌}
-use Prim.Native.Nat.{ℕ, suc, ◌+◌, ◌-◌, ◌≤◌}
+use Prim.Native.Nat.{ℕ, suc, ◌+◌, ◌≤◌}
 use native.Mathlib.Omega.{arith}
 use lib.ListN.{length}
 use Rattle.whole.proofs.Never.{never}
@@ -31,7 +31,7 @@ use Rattle.loader.specs.declared.loading.Loaded.TheVariants.{Fine}
 use Rattle.grammar.specs.Tests.{is_symbol, is_keyword}
 use Rattle.grammar.specs.Trees.{Statement, empty, assign, print, if_then, if_else, goto, gosub, return, for, next, next_of, while, wend, line_input, data_of, read, restore, restore_to, end, stop, remark, Part, last, more}
 use Rattle.statements.specs.Parts.{head_of}
-use Rattle.statements.specs.Statements.{bad, done, choice, held, data_at, led_by_word, led_by_token, lead_of, begun_at, good_part, part_of}
+use Rattle.statements.specs.Statements.{done, choice, held, data_at, led_by_word, led_by_token, lead_of, begun_at, good_part, part_of}
 use Rattle.statements.specs.bridge.Answers.{begun_answer}
 use Rattle.statements.specs.declared.leading.Lead.{Lead}
 use Rattle.statements.specs.declared.leading.Lead.TheVariants.{By, Nothing}

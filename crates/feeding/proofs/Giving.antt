@@ -35,7 +35,6 @@ use Rattle.feeding.specs.bridge.Taking.{Took}
 use Rattle.feeding.specs.bridge.Giving.{set_as, machine_of, given_met, Sets, Gives}
 use Rattle.feeding.specs.declared.reading.Given.{Given}
 use Rattle.feeding.specs.declared.reading.Given.TheVariants as answer
-use Rattle.feeding.specs.declared.taking.ItemTaken.TheVariants as taken
 use Rattle.feeding.proofs.Lines.{same_feed}
 
 -- ---- what the code answers
