@@ -1,5 +1,5 @@
 -- A run: line by line, statement by statement, within the budget.
-use Rattle.std.specs.Prelude.{Bool, true, false, cond, List, [], ◌∷◌, ◌++◌, ℕ, zero, suc, ◌+◌, ◌-◌, ltb, length, drop, replicate}
+use Rattle.std.specs.Prelude.{Bool, true, false, cond, List, [], ◌∷◌, ◌++◌, ℕ, zero, suc, ◌-◌, ltb, length, drop, replicate}
 use Rattle.whole.specs.Digits.{leading_value}
 use Rattle.whole.specs.Errors.{error_number}
 use Rattle.whole.specs.declared.errors.Error.{Error}

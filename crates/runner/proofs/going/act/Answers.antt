@@ -1,8 +1,7 @@
 -- The statement that stands there is done, and leads to where the run stands then.
 use native.Mathlib.Omega.{arith}
 use Rattle.rows.proofs.Ordering.{ordered}
-use Rattle.runner.proofs.Turning.{not_over, stands_here, stood_told, acts_begins, acts_made, acts_at}
-use borrow.Author.Rules.{rules}
+use Rattle.runner.proofs.Turning.{stands_here, stood_told, acts_begins, acts_made, acts_at}
 use Rattle.runner.proofs.going.act.Goals as goal
 
 pub span_in-span-requires : goal.span_in-span-requires

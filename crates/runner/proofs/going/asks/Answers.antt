@@ -1,8 +1,7 @@
 -- The statement that stands there: how it is led, and what is looked for.
 use native.Mathlib.Omega.{arith}
 use Rattle.rows.proofs.Ordering.{ordered}
-use Rattle.runner.proofs.Turning.{not_over, stands_here, stood_told, asks_made}
-use borrow.Author.Rules.{rules}
+use Rattle.runner.proofs.Turning.{stands_here, stood_told}
 use Rattle.runner.proofs.going.asks.Goals as goal
 
 pub span_in-span-requires : goal.span_in-span-requires

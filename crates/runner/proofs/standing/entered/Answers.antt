@@ -1,10 +1,7 @@
 -- By whether there is such a row, and then by its verdict.
-use native.Mathlib.Omega.{arith}
 use mathlib.Core.Path.{sym, ◌∙◌}
-use borrow.Author.Tests.{ltb-true, ltb-false, not-true, not-false}
-use Rattle.rows.specs.bridge.Rows.{count_of}
+use borrow.Author.Tests.{ltb-true, ltb-false}
 use Rattle.runner.proofs.Entering.{enter_none, enter_bad, enter_deep, enter_reads}
-use borrow.Author.Rules.{rules}
 use Rattle.runner.proofs.standing.entered.Goals as goal
 
 pub returns-then-not-has_row : goal.returns-then-not-has_row

@@ -1,7 +1,5 @@
 -- An arm for each place that a statement leads to.
-use mathlib.Core.Path.{refl}
 use Rattle.runner.proofs.Entering.{row_of_lines}
-use borrow.Author.Rules.{rules}
 use Rattle.runner.proofs.standing.following.Goals as goal
 
 pub returns-in-Enter : goal.returns-in-Enter

@@ -1,6 +1,5 @@
 -- From the row that the line at the position has.
 use Rattle.runner.proofs.Entering.{onward_over, onward_at}
-use borrow.Author.Rules.{rules}
 use Rattle.runner.proofs.standing.onward.Goals as goal
 
 pub returns-then-position : goal.returns-then-position

@@ -1,7 +1,5 @@
 -- The row of the line being done, or the one that was found; there is one.
-use mathlib.Core.Path.{sym, ap, ◌∙◌}
-use Rattle.runner.proofs.Entering.{row_found, row_missing}
-use borrow.Author.Rules.{rules}
+use Rattle.runner.proofs.Entering.{row_missing}
 use Rattle.runner.proofs.standing.row_of.Goals as goal
 
 pub returns-in-None : goal.returns-in-None
