@@ -1,6 +1,5 @@
 -- A word from 32768 on holds a number below zero.
 use native.Mathlib.Omega.{arith}
-use borrow.Author.Rules.{rules}
 use Rattle.whole.proofs.Numbers.{num_low, num_high}
 use Rattle.host.proofs.answers.extended.Goals as goal
 

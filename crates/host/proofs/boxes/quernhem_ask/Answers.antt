@@ -1,6 +1,5 @@
 -- The answer over the tables that the block means, by its numbers.
 use mathlib.Core.Path.{ap, ◌∙◌}
-use borrow.Author.Rules.{rules}
 use lib.ListN.{length}
 use Rattle.asking.specs.Asking.{ask_of}
 use Rattle.host.specs.Answers.{found_in}

@@ -1,7 +1,6 @@
 -- The answer by its numbers; the tables in the block, unless the run was refused.
 use mathlib.Core.Path.{sym, ◌∙◌}
 use mathlib.Core.List.{[]}
-use borrow.Author.Rules.{rules}
 use Rattle.host.proofs.Kept.{refused_run, finished_run}
 use Rattle.host.proofs.boxes.tell.Goals as goal
 
