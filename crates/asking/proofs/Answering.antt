@@ -1,4 +1,5 @@
 -- Asking for one variable: what the code finds beside what the definition answers.
+use Rattle.std.specs.Prelude.{None, Option, Some, ℕ, Result, Ok, Err}
 use mathlib.Core.Path.{◌≡◌, refl, sym, ap, ◌∙◌}
 use mathlib.Core.List.{List, [], ◌∷◌}
 use Prim.Native.Nat.{ℕ, ◌+◌, ◌≤◌, ◌<◌, min}
@@ -17,31 +18,31 @@ use Rattle.words.specs.declared.symbols.Token.TheVariants as token
 use Rattle.scanner.specs.Tokens.{token_at}
 use Rattle.grammar.specs.Tests.{on_name}
 use Rattle.variables.specs.Tables.{sum_of}
-use Rattle.variables.specs.declared.tables.Slot.{Slot}
-use Rattle.variables.specs.declared.tables.Slot.TheVariants as slot
 use Rattle.variables.specs.declared.tables.Tables.{Tables}
 use Rattle.variables.specs.Variables.{most_variables}
 use Rattle.asking.specs.Asking.{string_asked, asked, ask_of}
 use Rattle.asking.specs.declared.questions.Asked.{Asked}
-use Rattle.asking.specs.declared.questions.Asked.TheVariants.{Text, Refused}
+use Rattle.asking.specs.declared.questions.Asked.TheVariants.{Text}
+use Rattle.loader.specs.declared.refusals.Refusal.{Refusal}
+use Rattle.loader.specs.declared.refusals.Refusal.TheVariants.{NoVariable}
 
 -- ---- a string, by its entry
 
 module _ (lengths : List ℕ) (space : ℕ) where
   -- one that has none is empty
-  pub string_unset : {x : Slot} → x ≡ slot.None → Text (record { 0 = 0 }) 0 ≡ string_asked x lengths space
+  pub string_unset : {x : Option ℕ} → x ≡ None → Ok (Text (record { 0 = 0 }) 0) ≡ string_asked x lengths space
   string_unset e = rw e
 
-  module _ {x : Slot} (i from len : ℕ) (e : x ≡ slot.At i) (h : i < most_variables) (f : from ≡ sum_of (take (min i most_variables) lengths)) (l : len ≡ get_or lengths i 0) where
+  module _ {x : Option ℕ} (i from len : ℕ) (e : x ≡ Some i) (h : i < most_variables) (f : from ≡ sum_of (take (min i most_variables) lengths)) (l : len ≡ get_or lengths i 0) where
     here : from ≡ sum_of (take i lengths)
     here = let m : min i most_variables ≡ i = omega arith in f ∙ ap (λ n. sum_of (take n lengths)) m
 
     -- its bytes end after the space does,
-    pub string_outside : space < from + len → Refused ≡ string_asked x lengths space
+    pub string_outside : space < from + len → Err NoVariable ≡ string_asked x lengths space
     string_outside k = rw (e, ← here, ← l, lt-leb (from + len) space k)
 
     -- or within it
-    pub string_inside : from + len ≤ space → Text (record { 0 = from }) len ≡ string_asked x lengths space
+    pub string_inside : from + len ≤ space → Ok (Text (record { 0 = from }) len) ≡ string_asked x lengths space
     string_inside k = rw (e, ← here, ← l, le-leb (from + len) space k)
 
 -- ---- what is given
@@ -67,23 +68,23 @@ no_name token.Unreadable go other h = refl
 
 module _ (tables : Tables) (space : ℕ) (given : List ℕ) {t : Scanned} (s : t ≡ token_at given (place 0)) where
   -- no name begins it,
-  pub ask_other : OneOf other_tokens (tag_of Rattle.words.specs.contracts.symbols.Token.the_type t.token) → Refused ≡ ask_of tables space given
+  pub ask_other : OneOf other_tokens (tag_of Rattle.words.specs.contracts.symbols.Token.the_type t.token) → Err NoVariable ≡ ask_of tables space given
   unfolding ask_of
-  ask_other h = rw (← s) (sym (no_name t.token _ Refused h))
+  ask_other h = rw (← s) (sym (no_name t.token _ (Err NoVariable) h))
 
   -- blanks do,
-  pub ask_late : {v : Name} → t.token ≡ token.Named v → (v.at ≡ 0 → ⊥) → Refused ≡ ask_of tables space given
+  pub ask_late : {v : Name} → t.token ≡ token.Named v → (v.at ≡ 0 → ⊥) → Err NoVariable ≡ ask_of tables space given
   unfolding ask_of
   ask_late {v} e h = rw (← s, e, ne_eqb v.at 0 h)
 
   -- something follows it,
-  pub ask_more : {v : Name} → t.token ≡ token.Named v → v.at ≡ 0 → (t.next.0 ≡ length given → ⊥) → Refused ≡ ask_of tables space given
+  pub ask_more : {v : Name} → t.token ≡ token.Named v → v.at ≡ 0 → (t.next.0 ≡ length given → ⊥) → Err NoVariable ≡ ask_of tables space given
   unfolding ask_of
   ask_more {v} e z h = rw (← s, e, eq-eqb v.at 0 z, ne_eqb t.next.0 (length given) h)
 
   -- or it is a name, and of its kind
   pub ask_name : {v : Name} → t.token ≡ token.Named v → v.at ≡ 0 → t.next.0 ≡ length given
-      → {k : Kind} {name : Telling} {r : Asked} → v.kind ≡ k → name ≡ telling_of (name_bytes given v) → r ≡ asked k name tables space
+      → {k : Kind} {name : Telling} {r : Result Asked Refusal} → v.kind ≡ k → name ≡ telling_of (name_bytes given v) → r ≡ asked k name tables space
       → r ≡ ask_of tables space given
   unfolding ask_of
   ask_name {v} e z n {k} {name} f g h =

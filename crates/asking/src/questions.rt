@@ -5,75 +5,61 @@ ghost use Rattle.variables.specs.Variables.{word_of};
 ghost use Rattle.words.specs.Names.{name_bytes, telling_of};
 ghost use Rattle.asking.specs.Asking.{string_asked, ask_of};
 
+use loader::Refusal;
 use scanner::token_at;
-use space::Offset;
-use variables::{Numbers, Slot, Strings, Tables, offset_of, slot_of, wide};
+use space::{Offset, fits};
+use variables::{Numbers, Strings, Tables, offset_of, slot_of};
 use words::{Kind, Name, Place, Token};
 
-// A whole number, or a text by its part of the space; or 111.
+// A whole number, or a text by its part of the space.
 #[derive(Clone, Copy)]
 pub enum Asked {
     Whole(u16),
     Text(Offset, usize),
-    Refused,
 }
 
 // An unset number is 0.
-fn number_asked(numbers: Numbers, given: &[u8], name: Name) -> Asked
-    ensures { result ≡ Asked.Whole (word_of (numbers_in (names_in numbers.names) numbers.words) (telling_of (name_bytes given.now name))) }
+fn number_asked(numbers: &Numbers, given: &[u8], name: Name) -> Asked
+    ensures { result ≡ Asked.Whole (word_of (numbers_in (names_in numbers.now.names) numbers.now.words) (telling_of (name_bytes given.now name))) }
 {
-    let names = numbers.names;
-    let words = numbers.words;
-    match slot_of(&names, given, name) {
-        Slot::None => Asked::Whole(0),
-        Slot::At(slot) => Asked::Whole(words[slot]),
+    match slot_of(&numbers.names, given, name) {
+        None => Asked::Whole(0),
+        Some(slot) => Asked::Whole(numbers.words[slot]),
     }
 }
 
 // An unset string is empty; the space handed in may end before another's bytes.
-fn string_asked(strings: Strings, space: &[u8], given: &[u8], name: Name) -> Asked
-    ensures { result ≡ string_asked (slot_in strings.names (telling_of (name_bytes given.now name))) strings.lengths (length space.now) }
+fn string_asked(strings: &Strings, space: &[u8], given: &[u8], name: Name) -> Result<Asked, Refusal>
+    ensures { result ≡ string_asked (slot_in strings.now.names (telling_of (name_bytes given.now name))) strings.now.lengths (length space.now) }
 {
-    let names = strings.names;
-    let lengths = strings.lengths;
-    match slot_of(&names, given, name) {
-        Slot::None => Asked::Text(Offset(0), 0),
-        Slot::At(slot) => {
-            let from = offset_of(&lengths, slot);
-            let start = from.0;
-            let len = wide(lengths[slot]);
-            if space.len() < len {
-                return Asked::Refused;
-            }
-            if space.len() - len < start {
-                return Asked::Refused;
-            }
-            Asked::Text(from, len)
-        }
+    let Some(slot) = slot_of(&strings.names, given, name) else {
+        return Ok(Asked::Text(Offset(0), 0));
+    };
+    let from = offset_of(&strings.lengths, slot);
+    let len = usize::from(strings.lengths[slot]);
+    if !fits(space.len(), from, len) {
+        return Err(Refusal::NoVariable);
     }
+    Ok(Asked::Text(from, len))
 }
 
-// The whole of what is given must be a name.
-pub fn ask(tables: Tables, space: &[u8], name: &[u8]) -> Asked
+// The whole of what is given must be a name; 111 where it is not, or where the space ends before the string's bytes.
+pub fn ask(tables: Tables, space: &[u8], name: &[u8]) -> Result<Asked, Refusal>
     ensures { result ≡ ask_of tables (length space.now) name.now }
 {
     let scanned = token_at(name, Place(0));
     let next = scanned.next.0;
-    let token = scanned.token;
-    let Token::Named(found) = token else {
-        return Asked::Refused;
+    let Token::Named(found) = scanned.token else {
+        return Err(Refusal::NoVariable);
     };
     if found.at != 0 {
-        return Asked::Refused;
+        return Err(Refusal::NoVariable);
     }
     if next != name.len() {
-        return Asked::Refused;
+        return Err(Refusal::NoVariable);
     }
-    let kind = found.kind;
-    let numbers = tables.numbers;
-    let strings = tables.strings;
-    match kind {
-        Kind::Whole => number_asked(numbers, name, found),
-        Kind::Text => string_asked(strings, space, name, found),
+    match found.kind {
+        Kind::Whole => Ok(number_asked(&tables.numbers, name, found)),
+        Kind::Text => string_asked(&tables.strings, space, name, found),
     }
 }

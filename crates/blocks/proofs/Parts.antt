@@ -1,10 +1,9 @@
 -- The parts of a block, laid side by side.
 use mathlib.Core.Path.{◌≡◌, sym, ap, ◌∙◌}
 use mathlib.Core.List.{List, ◌++◌, append_assoc, append-nil}
-use Prim.Native.Nat.{ℕ, ◌+◌, ◌-◌, ◌*◌, ◌≤◌}
+use Prim.Native.Nat.{ℕ, ◌+◌, ◌*◌, ◌≤◌}
 use native.Mathlib.Omega.{arith}
-use lib.ListN.{length, take, drop, replicate, length-append, length-drop, length-replicate, drop_of_length-le}
-use lib.Seq.{length-take-le}
+use lib.ListN.{length, length-append, drop_of_length-le}
 use Rattle.space.specs.Moves.{copied, overlaid}
 use Rattle.space.proofs.Frames.{copied_lies}
 use Rattle.space.proofs.Overlaid.{overlaid-length, overlaid_after}
@@ -48,11 +47,3 @@ module _ (space a b s l c : List ℕ) (whole : length space ≡ counts_at + 2) w
       ∙ copied_after space (((a ++ b) ++ s) ++ l) c counts_at e4 (omega arith)
       ∙ copied_whole space ((((a ++ b) ++ s) ++ l) ++ c) e5
       ∙ simp append_assoc
-
--- a part of so many bytes, copied over as many zeros
-pub part_copied : (block : List ℕ) (from n : ℕ) → from + n ≤ length block
-    → copied (replicate n 0) 0 (take (from + n - from) (drop from block)) ≡ take n (drop from block)
-part_copied block from n h =
-    let k : from + n - from ≡ n = omega arith in
-    let room : n ≤ length (drop from block) = simp length-drop (omega arith) in
-    rw (k, copied_whole (replicate n 0) (take n (drop from block)) (length-take-le n (drop from block) room ∙ sym (length-replicate n 0)))

@@ -1,12 +1,12 @@
 -- Words of two bytes each, and the bytes of words.
 use mathlib.Core.Path.{◌≡◌, refl, sym, ap, ◌∙◌}
 use mathlib.Core.List.{List, [], ◌∷◌, ◌++◌}
-use Prim.Native.Nat.{ℕ, zero, suc, ◌+◌, ◌*◌, ◌/◌, ◌%◌, ◌<◌}
+use Prim.Native.Nat.{ℕ, zero, suc, ◌+◌, ◌*◌, ◌/◌, ◌%◌, ◌≤◌, ◌<◌}
 use native.Mathlib.Nat.{div-add-mod'}
 use native.Mathlib.Numerals.{add-one}
 use native.Mathlib.Omega.{arith}
 use lib.ListN.{length, get_or, set, take, drop, length-set}
-use lib.Seq.{take-suc-set, append_snoc, get_or-drop}
+use lib.Seq.{take_all, take-suc-set, append_snoc, get_or-drop}
 use Rattle.blocks.specs.Blocks.{words_from, word_bytes}
 
 -- ---- words read
@@ -66,6 +66,14 @@ word_written bytes words i low high b h el eh done =
     ∙ ap (λ x. word_bytes (take i words) ++ ((get_or words i 0 % 256) ∷ x ∷ [])) eh
     ∙ sym (bytes_next words i h)
     ∙ ap (λ k. word_bytes (take k words)) (sym (add-one i))
+
+-- all of them are written
+pub all_written : (bytes words : List ℕ) {i n : ℕ} → i ≡ n → length bytes ≡ 2 * n → length words ≡ n
+    → take (2 * i) bytes ≡ word_bytes (take i words) → bytes ≡ word_bytes words
+all_written bytes words {i} {n} e l m done =
+    let b : length bytes ≤ 2 * i = omega arith in
+    let w : length words ≤ i = omega arith in
+    sym (take_all (2 * i) bytes b) ∙ done ∙ ap word_bytes (take_all i words w)
 
 pub word_bytes-length : (words : List ℕ) → length (word_bytes words) ≡ 2 * length words
 unfolding word_bytes

@@ -10,7 +10,7 @@ ghost use Rattle.bounding.specs.Bounding.{bound_of};
 ghost use Rattle.bound_recipe.specs.Answers.{line_of};
 
 use answers::line_of;
-use console::{Taken, argument_count, complain, recipe_room, take_front, write_text};
+use console::{argument_count, complain, recipe_room, take_front, write_text};
 use std::io::Write;
 
 // The place of the argument; the program's own name is the first.
@@ -30,8 +30,7 @@ fn main(rt: HostRuntime) {
         return;
     }
     let mut text = recipe_room();
-    let taken = take_front(&rt, &mut err, RECIPE, &mut text);
-    let Taken::All(len) = taken else {
+    let Some(len) = take_front(&rt, &mut err, RECIPE, &mut text) else {
         return;
     };
     tell(&mut rt.stdout(), &mut err, &text[..len]);

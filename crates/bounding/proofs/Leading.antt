@@ -1,4 +1,5 @@
 -- How a statement is led tells whether it jumps on.
+use Rattle.std.specs.Prelude.{Some, None, Option}
 use mathlib.Core.Path.{◌≡◌, refl, sym, ◌∙◌, ap}
 use mathlib.Core.Bool.{true, false}
 use mathlib.Core.List.{List, [], ◌∷◌}
@@ -14,11 +15,9 @@ use Rattle.words.specs.declared.symbols.Word.TheVariants.{Let, Print, If, Then, 
 use Rattle.scanner.specs.Tokens.{token_at}
 use Rattle.grammar.specs.Trees.{Statement, empty, assign, print, if_then, if_else, goto, gosub, return, for, next, next_of, while, wend, line_input, data_of, read, restore, restore_to, end, stop, remark, Part, last, more}
 use Rattle.grammar.specs.bridge.Answers.{line_of}
-use Rattle.grammar.specs.declared.tests.NamedLine.TheVariants.{Names}
 use Rattle.statements.specs.Parts.{head_of}
 use Rattle.statements.specs.Statements.{done, by_word, lead_of, begun_by, begun_at, good_part, part_of}
 use Rattle.statements.specs.declared.leading.Lead.{Lead}
-use Rattle.statements.specs.declared.leading.Lead.TheVariants.{By, Nothing}
 use Rattle.statements.proofs.Findings.{by_line}
 use Rattle.statements.proofs.Views.{Final, plain, thens, elses, more_view, final_view}
 use Rattle.machine.specs.Order.{Stand, word_of}
@@ -92,7 +91,7 @@ leads_other n Restore t h = refl
 -- ---- the statement that a part begins
 
 -- the word that leads a statement, and of GOTO the line, say whether it jumps on
-word_jumps : (n : ℕ) (w : Word) (t : Scanned) (x : Statement) → word_of x ≡ w → ((l : LineNumber) → x ≡ goto l → line_of t.token ≡ Names l)
+word_jumps : (n : ℕ) (w : Word) (t : Scanned) (x : Statement) → word_of x ≡ w → ((l : LineNumber) → x ≡ goto l → line_of t.token ≡ Some l)
     → word_leads_on n w t ≡ jumps_on n x
 word_jumps n w t empty e h = rw (← e)
 word_jumps n w t (assign v f) e h = rw (← e)
@@ -117,11 +116,11 @@ word_jumps n w t stop e h = rw (← e)
 word_jumps n w t remark e h = rw (← e)
 
 -- the line that a GOTO names is in the token after it
-goto_line : (s : List ℕ) (w : Word) (t : Scanned) (l : LineNumber) (u : Scanned) → w ≡ Goto → by_word s w t ≡ done (goto l) u → line_of t.token ≡ Names l
+goto_line : (s : List ℕ) (w : Word) (t : Scanned) (l : LineNumber) (u : Scanned) → w ≡ Goto → by_word s w t ≡ done (goto l) u → line_of t.token ≡ Some l
 goto_line s w t l u g =
     rw g
-    (by_line (λ b. b ≡ done (goto l) u → line_of t.token ≡ Names l) t.token _ _
-    (λ k n r e. let f : k ≡ l = cc in n ∙ ap Names f) (λ n e. never (cc)))
+    (by_line (λ b. b ≡ done (goto l) u → line_of t.token ≡ Some l) t.token _ _
+    (λ k n r e. let f : k ≡ l = cc in n ∙ ap Some f) (λ n e. never (cc)))
 
 module _ (s : List ℕ) (p : ℕ) where
   record BegunAs (x : Statement) : Type 0 where
@@ -137,13 +136,13 @@ module _ (s : List ℕ) (p : ℕ) where
       by_final (thens f) h = never (cc)
       by_final (elses f) h = never (cc)
 
-  leads_by : (n : ℕ) (k : Lead) → begun_by s k ≡ begun_at s true p → (q : Part) (u : Scanned) → part_of s true p ≡ good_part q u → WordedAs k q
+  leads_by : (n : ℕ) (k : Option Lead) → begun_by s k ≡ begun_at s true p → (q : Part) (u : Scanned) → part_of s true p ≡ good_part q u → WordedAs k q
       → leads_on n k ≡ jumps_on n (head_of q)
-  leads_by n Nothing b q u e h = absurd h
-  leads_by n (By w t) b q u e h =
-      word_jumps n w t (head_of q) h (λ l i.
+  leads_by n None b q u e h = absurd h
+  leads_by n (Some lead) b q u e h =
+      word_jumps n lead.word lead.ahead (head_of q) h (λ l i.
       let f = goto_begun q u e l i in
-      goto_line s w t l f.end (sym h ∙ ap word_of i) (b ∙ f.begun))
+      goto_line s lead.word lead.ahead l f.end (sym h ∙ ap word_of i) (b ∙ f.begun))
 
   part_leads : (n : ℕ) (q : Part) (u : Scanned) → part_of s true p ≡ good_part q u
       → leads_on n (lead_of s true (token_at s (place p))) ≡ jumps_on n (head_of q)

@@ -1,18 +1,15 @@
 -- How long a recipe can take. A recipe is bounded whose every named jump goes to a higher line number than its own, and that has no FOR,
 -- NEXT, GOSUB, RETURN, WHILE or WEND. Its bound is the number of statements in the text, an implied GOTO counted as one. Lines that don't
 -- read count none, and their words are not looked at. A text that doesn't load is refused as in loading.
-use Rattle.std.specs.Prelude.{Bool, true, false, cond, ◌&&◌, List, [], ◌∷◌, ℕ, ltb, length}
+use Rattle.loader.specs.declared.refusals.RefusedAt.{RefusedAt}
+use Rattle.std.specs.Prelude.{Bool, true, false, cond, ◌&&◌, List, [], ◌∷◌, ℕ, ltb, length, Err, Ok, Result, Option, Some, None}
 use Rattle.whole.specs.Digits.{leading_value}
 use Rattle.loader.specs.Lines.{Line, lines_of}
 use Rattle.loader.specs.Loading.{load_of}
 use Rattle.loader.specs.Refusals.{refusal_number}
-use Rattle.loader.specs.declared.loading.Loaded.{Loaded}
-use Rattle.loader.specs.declared.loading.Loaded.TheVariants as loaded
 use Rattle.grammar.specs.Trees.{Statement, empty, assign, print, if_then, if_else, goto, gosub, return, for, next, next_of, while, wend, line_input, data_of, read, restore, restore_to, end, stop, remark}
 use Rattle.statements.specs.Parts.{head_of}
 use Rattle.machine.specs.Order.{Stand, stands}
-use Rattle.bounding.specs.declared.bounds.Bound.{Bound}
-use Rattle.bounding.specs.declared.bounds.Bound.TheVariants.{Steps, NotBounded, Refused}
 
 -- a statement of the line with the number n jumps on: it is no FOR, NEXT, GOSUB, RETURN, WHILE or WEND, and a line that it jumps to is higher; RESTORE is no jump.
 -- THEN n, ELSE n and IF .. GOTO n hold the statement GOTO n; that of an IF itself names none
@@ -59,21 +56,19 @@ is_bounded text = all_jump_on (stands (lines_of text))
 abbrev pub statements_in : List ℕ → ℕ
 statements_in text = length (stands (lines_of text))
 
-abbrev pub if_loaded : Loaded → (Unit {0} → Bound) → Bound
-if_loaded loaded.Fine bound = bound tt
-if_loaded (loaded.Refused refusal p) bound = Refused refusal p
+abbrev pub if_loaded : Result (Unit {0}) RefusedAt → (Unit {0} → Result (Option ℕ) RefusedAt) → Result (Option ℕ) RefusedAt
+if_loaded (Ok _) bound = bound tt
+if_loaded (Err e) bound = Err e
 
-unfoldable pub bound_of : List ℕ → Bound
-bound_of text = if_loaded (load_of text) (λ _. cond (is_bounded text) (Steps (statements_in text)) NotBounded)
+unfoldable pub bound_of : List ℕ → Result (Option ℕ) RefusedAt
+bound_of text = if_loaded (load_of text) (λ _. cond (is_bounded text) (Ok (Some (statements_in text))) (Ok None))
 
 -- ---- what is answered: number and place of a refusal; what does not apply is 0
 
-abbrev pub bound_number : Bound → ℕ
-bound_number (Steps n) = 0
-bound_number NotBounded = 0
-bound_number (Refused r p) = refusal_number r
+abbrev pub bound_number : Result (Option ℕ) RefusedAt → ℕ
+bound_number (Ok b) = 0
+bound_number (Err e) = refusal_number e.refusal
 
-abbrev pub bound_place : Bound → ℕ
-bound_place (Steps n) = 0
-bound_place NotBounded = 0
-bound_place (Refused r p) = p.0
+abbrev pub bound_place : Result (Option ℕ) RefusedAt → ℕ
+bound_place (Ok b) = 0
+bound_place (Err e) = e.place.0

@@ -2,17 +2,17 @@
 ghost use Rattle.std.specs.Prelude.{◌≡◌};
 ghost use Rattle.bounding.specs.bridge.Leading.{goes_on, word_leads_on, leads_on};
 
-use grammar::{NamedLine, line_of};
+use grammar::line_of;
 use statements::Lead;
 use words::{LineNumber, Scanned, Word};
 
 // A named jump goes to a higher line number than its own.
-fn goes_on(own: LineNumber, names: NamedLine) -> bool
+fn goes_on(own: LineNumber, names: Option<LineNumber>) -> bool
     ensures { result ≡ goes_on own.0 names }
 {
     match names {
-        NamedLine::NoLine => true,
-        NamedLine::Names(line) => own.0 < line.0,
+        None => true,
+        Some(line) => own.0 < line.0,
     }
 }
 
@@ -31,11 +31,11 @@ fn word_leads_on(own: LineNumber, word: Word, ahead: Scanned) -> bool
 }
 
 // A statement of the line with a number, by how it is led.
-pub(crate) fn leads_on(own: LineNumber, lead: Lead) -> bool
+pub(crate) fn leads_on(own: LineNumber, lead: Option<Lead>) -> bool
     ensures { result ≡ leads_on own.0 lead }
 {
     match lead {
-        Lead::By(word, ahead) => word_leads_on(own, word, ahead),
-        Lead::Nothing => true,
+        None => true,
+        Some(lead) => word_leads_on(own, lead.word, lead.ahead),
     }
 }

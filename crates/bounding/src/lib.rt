@@ -4,4 +4,4 @@
 mod bounds;
 mod jumps;
 
-pub use bounds::{Bound, bound_of};
+pub use bounds::bound_of;

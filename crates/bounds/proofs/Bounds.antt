@@ -1,4 +1,6 @@
 -- A run of a bounded recipe has always fewer statements ahead, so its steps never exceed them.
+use Rattle.std.specs.Prelude.{Err, Ok, Result, Some, None}
+use Rattle.loader.specs.declared.refusals.RefusedAt.{RefusedAt}
 use mathlib.Core.Path.{◌≡◌, refl, sym, ◌∙◌, ap}
 use mathlib.Core.Bool.{cond}
 use mathlib.Core.List.{List, suffix_refl}
@@ -8,8 +10,6 @@ use Rattle.whole.proofs.Never.{never}
 use Rattle.words.proofs.Choices.{by_test}
 use Rattle.loader.specs.Lines.{Line, lines_of}
 use Rattle.loader.specs.Loading.{load_of}
-use Rattle.loader.specs.declared.loading.Loaded.{Loaded}
-use Rattle.loader.specs.declared.loading.Loaded.TheVariants as loaded
 use Rattle.loader.proofs.Rising.{recipe}
 use Rattle.grammar.specs.Trees.{Part}
 use Rattle.machine.specs.Items.{fresh}
@@ -17,7 +17,6 @@ use Rattle.machine.specs.Machine.{Machine, Lent}
 use Rattle.runner.specs.Run.{Standing, finished, at, entering, turn, running, run_of}
 use Rattle.runner.specs.declared.running.Ran as code
 use Rattle.bounding.specs.Bounding.{is_bounded, statements_in, if_loaded, bound_of}
-use Rattle.bounding.specs.declared.bounds.Bound.TheVariants.{Steps, NotBounded}
 use Rattle.promises.specs.Calls.{text_of, input_of, lent_of, budget_of}
 use Rattle.promises.specs.Passing.{stands_after}
 use Rattle.promises.proofs.Limits.Bounds.{Stands, entering_stands, turn_stands, RunView, long, tall, unloaded, runs, run_view, steps_kept}
@@ -95,15 +94,15 @@ record Reported (text : List ℕ) (n : ℕ) : Type 0 where
   bounded : Bounded text
   counts : statements_in text ≡ n
 
-reported_by : (text : List ℕ) (n : ℕ) (x : Loaded) → load_of text ≡ x → if_loaded x (λ _. cond (is_bounded text) (Steps (statements_in text)) NotBounded) ≡ Steps n
+reported_by : (text : List ℕ) (n : ℕ) (x : Result (Unit {0}) RefusedAt) → load_of text ≡ x → if_loaded x (λ _. cond (is_bounded text) (Ok (Some (statements_in text))) (Ok None)) ≡ Ok (Some n)
     → Reported text n
-reported_by text n loaded.Fine e f =
+reported_by text n (Ok _) e f =
     by_test (is_bounded text)
     (λ t. let g = rw t at f in record { bounded = record { loads = e; bounded = t }; counts = cc })
     (λ t. let g = rw t at f in never (cc))
-reported_by text n (loaded.Refused r p) e f = never (cc)
+reported_by text n (Err x) e f = never (cc)
 
-reported : (text : List ℕ) (n : ℕ) → bound_of text ≡ Steps n → Reported text n
+reported : (text : List ℕ) (n : ℕ) → bound_of text ≡ Ok (Some n) → Reported text n
 unfolding bound_of
 reported text n e = reported_by text n (load_of text) refl e
 

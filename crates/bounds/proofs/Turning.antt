@@ -1,4 +1,5 @@
 -- One turn: each statement of a bounded recipe leaves at least one statement less ahead, wherever the run goes on.
+use Rattle.std.specs.Prelude.{Err, Ok, Result, ℕ}
 use mathlib.Core.Path.{◌≡◌, refl, ◌∙◌, ap}
 use mathlib.Core.Bool.{Bool, true, false, cond, false≢true}
 use mathlib.Core.List.{List, [], ◌∷◌, IsSuffix, suffix-cons, IsSuffix-trans}
@@ -8,8 +9,6 @@ use borrow.Author.Tests.{ltb-true}
 use lib.Dec.{ltb, eqb}
 use lib.ListN.{length, length-append}
 use Rattle.whole.specs.Digits.{leading_value, number_item}
-use Rattle.whole.specs.declared.arithmetic.Answer.{Answer}
-use Rattle.whole.specs.declared.arithmetic.Answer.TheVariants.{Whole, Fault}
 use Rattle.whole.specs.declared.errors.Error.{Error}
 use Rattle.words.specs.declared.names.Kind.{Kind}
 use Rattle.words.specs.declared.names.Kind.TheVariants as kind
@@ -88,9 +87,9 @@ module _ (P : Next → Type 0) (failing : (e : Error) (m : Machine) → P (fails
   given_by : (k : Kind) (name : Telling) (b : List ℕ) (m : Machine) (go : Machine → Next) → ((n : Machine) → P (go n)) → P (given k name b m go)
   given_by kind.Whole name b m go h = by_number (number_item b)
     where
-      by_number : (a : Answer) → P (given_number a name m go)
-      by_number (Whole w) = by_choice P (numbers_full m.variables.numbers name) (failing _ m) (h _)
-      by_number (Fault e) = failing e m
+      by_number : (a : Result ℕ Error) → P (given_number a name m go)
+      by_number (Ok w) = by_choice P (numbers_full m.variables.numbers name) (failing _ m) (h _)
+      by_number (Err e) = failing e m
   given_by kind.Text name b m go h =
       worked_by m (make b (room_of m)) _ (λ v n. by_choice P (strings_full n.variables.strings name) (failing _ n) (h _))
 

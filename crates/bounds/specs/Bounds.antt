@@ -1,11 +1,9 @@
 -- How long a recipe can take, as statements about every call of `run` and of `bound_of`: `Calls` says what a call is. A statement has the proof
 -- of its name, in snake case, in `proofs/Bounds.antt`. Above each stand what it says, what it does not say, and two wrong programs that it rules out.
-use Rattle.std.specs.Prelude.{◌≡◌, true, List, ℕ, ◌≤◌}
+use Rattle.std.specs.Prelude.{◌≡◌, true, List, ℕ, ◌≤◌, Ok, Some}
 use Rattle.words.specs.declared.places.LineNumber.{LineNumber}
 use Rattle.loader.specs.Loading.{load_of}
-use Rattle.loader.specs.declared.loading.Loaded.TheVariants.{Fine}
 use Rattle.bounding.specs.Bounding.{is_bounded, statements_in}
-use Rattle.bounding.specs.declared.bounds.Bound.TheVariants.{Steps}
 use Rattle.runner.specs.declared.running.Outcome.TheVariants.{Out}
 use Rattle.promises.specs.Calls.{RunCall, text_of, budget_of}
 use Rattle.bounds.specs.Calls.{BoundCall, recipe_of, BoundsAlways}
@@ -22,7 +20,7 @@ BoundsAnswerAlways = BoundsAlways
 -- a text that loads, whose every named jump goes to a higher line number than its own, and that has no FOR, NEXT, GOSUB, RETURN, WHILE or WEND
 -- in a line that reads
 pub record Bounded (text : List ℕ) : Type 0 where
-  pub loads : load_of text ≡ Fine
+  pub loads : load_of text ≡ Ok tt
   pub bounded : is_bounded text ≡ true
 
 -- The steps of a run of a bounded recipe never exceed the number of its statements: at any budget, on any input, with any string space and
@@ -49,4 +47,4 @@ pub record Kept (n : ℕ) (c : RunCall) : Type 0 where
 -- say when a number is reported. Ruled out: a report that leaves the branches of an IF out of its count; one that counts only
 -- the lines.
 abbrev pub ReportKept : Type 0
-ReportKept = (b : BoundCall) (n : ℕ) → b.answer ≡ Steps n → (c : RunCall) → text_of c ≡ recipe_of b → Kept n c
+ReportKept = (b : BoundCall) (n : ℕ) → b.answer ≡ Ok (Some n) → (c : RunCall) → text_of c ≡ recipe_of b → Kept n c

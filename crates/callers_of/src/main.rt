@@ -4,52 +4,77 @@
 
 mod answers;
 
-ghost use Rattle.std.specs.Prelude.{◌≡◌, length};
 ghost use Rattle.std.specs.Bool.{OnTrue};
 ghost use Rattle.std.specs.Io.KnownBytes.{Appends};
-ghost use Rattle.callers_of.specs.Answers.{answer_to};
+ghost use Rattle.callers_of.specs.Answers.{caller_lines, answer_to};
+ghost use Rattle.callers_of.specs.bridge.Telling.{told_by};
 
-use answers::answer_of;
+use answers::{caller, started};
 use console::{
-    Setting, Taken, argument_count, complain, number_argument, recipe_room, take_front, write,
+    NumberArgument, argument_count, complain, recipe_room, refused_line, take_front, write_text,
 };
+use index::{Index, Layout, callers_in, index_of, line_in};
+use loader::{Recipe, RefusedAt, refusal_number};
 use std::io::Write;
 use words::LineNumber;
 
 // Places among the arguments, of which the program's own name is the first.
 const RECIPE: usize = 1;
 
-const LINE: usize = 2;
+const LINE: NumberArgument<'static> = NumberArgument {
+    name: b"LINE",
+    place: 2,
+    usual: 0,
+    most: LineNumber::LARGEST as u32,
+};
 
-// Room for a line and 512 callers, each in at most 255 bytes.
-fn answer_room() -> [u8; 131072]
-    ensures { 131072 ≡ length result }
+// Writes a line for each line that names one, or says on standard error why it can't; whether they were written.
+fn tell_callers<W: Write, E: Write>(out: &mut W, err: &mut E, callers: &[u16]) -> bool
+    ensures { OnTrue result (Appends (W.contents out.old) (W.contents out.new) (caller_lines callers.now)) }
 {
-    [0; 131072]
+    for number in callers {
+        if !write_text(out, err, caller(*number)) {
+            return false;
+        }
+    }
+    true
 }
 
-// Writes what a recipe says of a line, or says on standard error why it can't; whether it was written.
+// What an index says of a line.
+fn tell_by<W: Write, E: Write>(out: &mut W, err: &mut E, index: &Index, number: LineNumber) -> bool
+    ensures { OnTrue result (Appends (W.contents out.old) (W.contents out.new) (told_by index.now number)) }
+{
+    let mut callers = [0; Recipe::MOST_LINES];
+    let count = callers_in(index, number, &mut callers);
+    write_text(out, err, started(number, line_in(index, number)))
+        && tell_callers(out, err, &callers[..count])
+}
+
+// What a recipe says of a line.
 fn tell<W: Write, E: Write>(out: &mut W, err: &mut E, text: &[u8], number: LineNumber) -> bool
     ensures { OnTrue result (Appends (W.contents out.old) (W.contents out.new) (answer_to text.now number)) }
 {
-    let mut room = answer_room();
-    let count = answer_of(text, number, &mut room);
-    write(out, err, &room[..count])
+    let mut index = [0; Layout::WORDS];
+    match index_of(text, &mut index) {
+        Ok(()) => tell_by(out, err, &index, number),
+        Err(RefusedAt { refusal, place }) => {
+            let line = refused_line(refusal_number(refusal), place.0 as u64);
+            write_text(out, err, line)
+        }
+    }
 }
 
 fn main(rt: HostRuntime) {
     let mut err = rt.stderr();
-    if argument_count(&rt) != LINE + 1 {
+    if argument_count(&rt) != LINE.place + 1 {
         complain(&mut err, b"usage: callers_of RECIPE LINE");
         return;
     }
-    let given = number_argument(&rt, &mut err, b"LINE", LINE, 0, LineNumber::LARGEST as u32);
-    let Setting::Is(number) = given else {
+    let Some(number) = LINE.given(&rt, &mut err) else {
         return;
     };
     let mut text = recipe_room();
-    let taken = take_front(&rt, &mut err, RECIPE, &mut text);
-    let Taken::All(len) = taken else {
+    let Some(len) = take_front(&rt, &mut err, RECIPE, &mut text) else {
         return;
     };
     tell(

@@ -6,51 +6,44 @@ ghost use Rattle.statements.specs.Parts.{statements_of};
 ghost use Rattle.reader.specs.Lines.{holds, judgement};
 ghost use Rattle.checker.specs.Check.{missing, any_missing, fault_in, check_of};
 ghost use Rattle.checker.specs.bridge.Answers.{names_of};
+ghost use Rattle.checker.specs.declared.checking.Fault.TheVariants.{Refused};
 
-use grammar::NamedLine;
-use loader::{LineFound, Loaded, Refusal, find_line, line_at, load};
-use reader::{Judged, Start, judge, next_statement};
+use loader::{Refusal, RefusedAt, find_line, line_at, load};
+use reader::{judge, next_statement};
 use statements::{StatementRead, statement_at};
 use whole::Error;
 use words::{LineNumber, Place};
 
-// Passed; refused as in loading, and the place; or a fault and its line.
+// Why a recipe does not pass: it is refused as in loading, and the place; or the first faulty line has an error.
 #[derive(Clone, Copy)]
-pub enum Verdict {
-    Passed,
+pub enum Fault {
     Refused(Refusal, Place),
     Faulty(Error, LineNumber),
 }
 
-// A line is sound, or it has a fault.
-#[derive(Clone, Copy)]
-pub enum Soundness {
-    Sound,
-    Fault(Error),
+impl From<RefusedAt> for Fault {
+    ghost from_gives = { λ at fault. fault ≡ Refused at.refusal at.place };
+
+    fn from(at: RefusedAt) -> Fault {
+        Fault::Refused(at.refusal, at.place)
+    }
 }
 
 // Whether a line that a statement names is missing.
-fn is_missing(text: &[u8], names: NamedLine) -> bool
+fn is_missing(text: &[u8], names: Option<LineNumber>) -> bool
     ensures { result ≡ missing (lines_of text.now) names }
 {
-    match names {
-        NamedLine::NoLine => false,
-        NamedLine::Names(number) => match find_line(text, number) {
-            LineFound::None => true,
-            LineFound::Is(_) => false,
-        },
-    }
+    let Some(number) = names else {
+        return false;
+    };
+    find_line(text, number).is_none()
 }
 
-// The line that a statement by itself names.
-pub fn named_by(read: StatementRead) -> NamedLine
+// The line that a statement by itself names, if it was read and names one.
+pub fn named_by(read: Option<StatementRead>) -> Option<LineNumber>
     ensures { result ≡ names_of read }
 {
-    match read {
-        StatementRead::Bad => NamedLine::NoLine,
-        StatementRead::Done(own) => own.names,
-        StatementRead::Choice(own) => own.names,
-    }
+    read?.own().names
 }
 
 // Whether any statement of a line names a line that is missing.
@@ -65,7 +58,7 @@ fn any_missing(text: &[u8], line: &[u8]) -> bool
         if is_missing(text, names) {
             return true;
         }
-        let Start::At(next) = next_statement(read) else {
+        let Some(next) = next_statement(read) else {
             return false;
         };
         at = next;
@@ -73,43 +66,32 @@ fn any_missing(text: &[u8], line: &[u8]) -> bool
 }
 
 // In a line 2, then 16, then 13, then 8.
-fn fault_in(text: &[u8], line: &[u8]) -> Soundness
+fn fault_in(text: &[u8], line: &[u8]) -> Result<(), Error>
     ensures { result ≡ fault_in (lines_of text.now) (judgement line.now) }
 {
-    match judge(line) {
-        Judged::Unreadable => Soundness::Fault(Error::Syntax),
-        Judged::TooDeep => Soundness::Fault(Error::FormulaTooComplex),
-        Judged::Reads(typed) => if !typed {
-            Soundness::Fault(Error::TypeMismatch)
-        } else if any_missing(text, line) {
-            Soundness::Fault(Error::UndefinedLine)
-        } else {
-            Soundness::Sound
-        },
+    let typed = judge(line)?;
+    if !typed {
+        return Err(Error::TypeMismatch);
     }
+    if any_missing(text, line) {
+        return Err(Error::UndefinedLine);
+    }
+    Ok(())
 }
 
 // It loads, then refuses for the first faulty line.
-pub fn check_recipe(text: &[u8]) -> Verdict
+pub fn check_recipe(text: &[u8]) -> Result<(), Fault>
     ensures { result ≡ check_of text.now }
 {
-    if let Loaded::Refused(refusal, place) = load(text) {
-        return Verdict::Refused(refusal, place);
-    }
+    load(text)?;
     let mut at = Place(0);
     loop {
-        let LineFound::Is(line) = line_at(text, at) else {
-            return Verdict::Passed;
+        let Some(line) = line_at(text, at) else {
+            return Ok(());
         };
-        let number = line.number;
-        let body = line.body;
-        let end = line.end;
-        let next = line.next;
-        let from = body.0;
-        let to = end.0;
-        if let Soundness::Fault(error) = fault_in(text, &text[from..to]) {
-            return Verdict::Faulty(error, number);
+        if let Err(error) = fault_in(text, &text[line.body.0..line.end.0]) {
+            return Err(Fault::Faulty(error, line.number));
         }
-        at = next;
+        at = line.next;
     }
 }

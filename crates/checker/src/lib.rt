@@ -3,4 +3,4 @@
 
 mod checking;
 
-pub use checking::{Verdict, check_recipe, named_by};
+pub use checking::{Fault, check_recipe, named_by};

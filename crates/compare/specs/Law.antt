@@ -1,11 +1,10 @@
 -- A law of what is reported, by the two editions alone: a number is reported if and only if it is in just one edition, or in both with
 -- other bytes after it, and the word says which; once, and in rising order. Proved in proofs/Law.antt.
-use Rattle.std.specs.Prelude.{◌≡◌, cond, List, [], ◌∷◌, ℕ, ◌+◌, ◌≤◌, eqb}
+use Rattle.std.specs.Prelude.{◌≡◌, cond, List, [], ◌∷◌, ℕ, ◌+◌, ◌≤◌, eqb, Ok}
 use Rattle.words.specs.Places.{line_number}
 use Rattle.words.specs.Spellings.{same_bytes}
 use Rattle.loader.specs.Lines.{Line, lines_of, after_number}
 use Rattle.loader.specs.Loading.{load_of}
-use Rattle.loader.specs.declared.loading.Loaded.TheVariants.{Fine}
 use Rattle.compare.specs.Differences.{number_in, differences_of}
 use Rattle.compare.specs.declared.merging.Way.TheVariants.{Gone, New, Changed}
 use Rattle.compare.specs.declared.merging.Difference.{Difference}
@@ -42,4 +41,4 @@ pub record Law (old new : List ℕ) : Type 0 where
 
 -- of all editions that load
 abbrev pub ReportsJustDifferences : Type 0
-ReportsJustDifferences = (old new : List ℕ) → load_of old ≡ Fine → load_of new ≡ Fine → Law old new
+ReportsJustDifferences = (old new : List ℕ) → load_of old ≡ Ok tt → load_of new ≡ Ok tt → Law old new

@@ -6,4 +6,4 @@ mod lines;
 mod merging;
 mod records;
 
-pub use comparing::{Compared, compare};
+pub use comparing::{Rejected, compare};

@@ -4,18 +4,17 @@ use mathlib.Core.List.{List, [], ◌∷◌, ◌++◌, append_assoc}
 use Prim.Native.Nat.{ℕ, ◌≤◌}
 use native.Mathlib.Omega.{arith}
 use lib.ListN.{length, drop, length-append}
-use Rattle.whole.specs.Texts.{held, with_byte}
+use Rattle.whole.specs.Texts.{held, with_byte, with_bytes}
 use Rattle.whole.specs.declared.texts.Text.{Text}
-use Rattle.whole.proofs.Numerals.{held_put, numeral-length}
+use Rattle.whole.proofs.Numerals.{held_put, held_bytes, numeral-length}
 use Rattle.compare.specs.Records.{report_of}
 use Rattle.compare.specs.Comparing.{compared_of, out_after}
-use Rattle.compare.specs.declared.comparing.Compared.{Compared}
-use Rattle.compare.specs.declared.comparing.Compared.TheVariants.{Done}
+use Rattle.std.specs.Prelude.{Ok, Result}
+use Rattle.compare.specs.declared.comparing.Rejected.{Rejected}
 use Rattle.compare.proofs.Answered.{done_whole}
-use Rattle.console.specs.Lines.{with_bytes, field, fields}
+use Rattle.console.specs.Lines.{field, fields}
 use Rattle.console.specs.Answers.{Tells}
 use Rattle.console.specs.declared.answers.Answer.{Answer}
-use Rattle.console.proofs.Writing.{held_bytes}
 use Rattle.console.proofs.Telling.{tells_front, tells_line}
 use Rattle.compare_recipes.specs.Answers.{told_of}
 
@@ -47,14 +46,14 @@ line_put word more n p h k =
 
 -- ---- what is to be written
 
-module _ (old new room : List ℕ) {answer : Compared} (is : answer ≡ compared_of old new (length room)) where
+module _ (old new room : List ℕ) {answer : Result ℕ Rejected} (is : answer ≡ compared_of old new (length room)) where
   -- the records
-  pub tells_records : {n : ℕ} {line : Text} {out : List ℕ} → answer ≡ Done n → line ≡ held [] → out ≡ out_after old new room
+  pub tells_records : {n : ℕ} {line : Text} {out : List ℕ} → answer ≡ Ok n → line ≡ held [] → out ≡ out_after old new room
       → Tells (told_of old new (compared_of old new (length room))) (record { written = n; line = line }) out
   unfolding out_after
   tells_records {n} {line} {out} e l o =
-      let c : compared_of old new (length room) ≡ Done n = sym is ∙ e in
-      subst (λ (x : Compared). Tells (told_of old new x) (record { written = n; line = line }) out) (sym c)
+      let c : compared_of old new (length room) ≡ Ok n = sym is ∙ e in
+      subst (λ (x : Result ℕ Rejected). Tells (told_of old new x) (record { written = n; line = line }) out) (sym c)
       (tells_front (report_of old new) (drop n room) (done_whole old new (length room) (sym c)) (o ∙ rw c) l)
 
   -- a line alone

@@ -5,21 +5,20 @@ ghost use Rattle.compare.specs.Comparing.{compared_of};
 ghost use Rattle.console.specs.Answers.{Tells};
 ghost use Rattle.compare_recipes.specs.Answers.{refused_line, told_of};
 
-use compare::{Compared, compare};
+use compare::{Rejected, compare};
 use console::{Answer, end_line, put_bytes, put_field};
-use loader::{Refusal, refusal_number};
+use loader::{RefusedAt, refusal_number};
 use whole::Text;
-use words::Place;
 
 // `refused`, the number and the place, parted by tabs, and more fields.
-fn refused(refusal: Refusal, place: Place, more: &[u8]) -> Text
+fn refused(why: RefusedAt, more: &[u8]) -> Text
     requires { length more.now ≤ 4 }
-    ensures { result ≡ held (refused_line refusal place more.now) }
+    ensures { result ≡ held (refused_line why.refusal why.place more.now) }
 {
-    let number = refusal_number(refusal);
+    let number = refusal_number(why.refusal);
     let word = put_bytes(Text::empty(), b"refused");
     let numbered = put_field(word, number as u64);
-    let placed = put_field(numbered, place.0 as u64);
+    let placed = put_field(numbered, why.place.0 as u64);
     let named = put_bytes(placed, more);
     end_line(named)
 }
@@ -38,12 +37,12 @@ pub(crate) fn answer_of(old: &[u8], new: &[u8], out: &mut [u8]) -> Answer
         result out.new }
 {
     match compare(old, new, out) {
-        Compared::Done(count) => Answer {
-            written: count,
+        Ok(written) => Answer {
+            written,
             line: Text::empty(),
         },
-        Compared::OldRefused(refusal, place) => only(refused(refusal, place, b"\told")),
-        Compared::NewRefused(refusal, place) => only(refused(refusal, place, b"\tnew")),
-        Compared::RoomRefused(refusal, place) => only(refused(refusal, place, b"")),
+        Err(Rejected::Old(why)) => only(refused(why, b"\told")),
+        Err(Rejected::New(why)) => only(refused(why, b"\tnew")),
+        Err(Rejected::Room(why)) => only(refused(why, b"")),
     }
 }

@@ -4,7 +4,7 @@
 
 mod answers;
 
-ghost use Rattle.std.specs.Prelude.{◌≡◌, ◌≤◌, length};
+ghost use Rattle.std.specs.Prelude.{◌≤◌, length};
 ghost use Rattle.std.specs.Bool.{OnTrue};
 ghost use Rattle.std.specs.Io.KnownBytes.{Appends};
 ghost use Rattle.compare.specs.Comparing.{compared_of};
@@ -12,8 +12,7 @@ ghost use Rattle.compare_recipes.specs.Answers.{told_of};
 
 use answers::answer_of;
 use console::{
-    Setting, Taken, argument_count, complain, number_argument, recipe_room, take_front,
-    write_answer,
+    NumberArgument, argument_count, complain, recipe_room, room, take_front, write_answer,
 };
 use std::io::Write;
 
@@ -22,18 +21,12 @@ const OLD: usize = 1;
 
 const NEW: usize = 2;
 
-const ROOM: usize = 3;
-
-// What is lent where the argument is left out, and the most that can be asked for.
-const USUAL_ROOM: u32 = 65536;
-
-const MOST_ROOM: u32 = 1048576;
-
-fn large_room() -> [u8; 1048576]
-    ensures { 1048576 ≡ length result }
-{
-    [0; 1048576]
-}
+const ROOM: NumberArgument<'static> = NumberArgument {
+    name: b"ROOM",
+    place: 3,
+    usual: 65536,
+    most: 1048576,
+};
 
 // Writes what comparing two editions answers, or says on standard error why it can't; whether it was written.
 fn compare_and_tell<W: Write, E: Write>(
@@ -50,51 +43,40 @@ fn compare_and_tell<W: Write, E: Write>(
     write_answer(out, err, answer, room)
 }
 
-fn compare_within(rt: &HostRuntime, old: &[u8], new: &[u8], room: usize)
-    requires { room ≤ 1048576 }
+fn compare_within(rt: &HostRuntime, old: &[u8], new: &[u8], lent: usize)
+    requires { lent ≤ 1048576 }
 {
-    let mut out = large_room();
+    let mut out = room::<1048576>();
     compare_and_tell(
         &mut rt.stdout(),
         &mut rt.stderr(),
         old,
         new,
-        &mut out[..room],
+        &mut out[..lent],
     );
 }
 
-fn compare_with_new(rt: &HostRuntime, old: &[u8], room: usize)
-    requires { room ≤ 1048576 }
+// Nothing where an edition can't be read, of which it is said why.
+fn compare_files(rt: &HostRuntime, lent: usize) -> Option<()>
+    requires { lent ≤ 1048576 }
 {
-    let mut new = recipe_room();
-    let taken = take_front(rt, &mut rt.stderr(), NEW, &mut new);
-    let Taken::All(len) = taken else {
-        return;
-    };
-    compare_within(rt, old, &new[..len], room);
-}
-
-fn compare_files(rt: &HostRuntime, room: usize)
-    requires { room ≤ 1048576 }
-{
+    let mut err = rt.stderr();
     let mut old = recipe_room();
-    let taken = take_front(rt, &mut rt.stderr(), OLD, &mut old);
-    let Taken::All(len) = taken else {
-        return;
-    };
-    compare_with_new(rt, &old[..len], room);
+    let old_len = take_front(rt, &mut err, OLD, &mut old)?;
+    let mut new = recipe_room();
+    let new_len = take_front(rt, &mut err, NEW, &mut new)?;
+    compare_within(rt, &old[..old_len], &new[..new_len], lent);
+    Some(())
 }
 
 fn main(rt: HostRuntime) {
     let mut err = rt.stderr();
     let count = argument_count(&rt);
-    if count <= NEW || ROOM < count - 1 {
+    if count <= NEW || ROOM.place + 1 < count {
         complain(&mut err, b"usage: compare_recipes OLD NEW [ROOM]");
         return;
     }
-    let room = number_argument(&rt, &mut err, b"ROOM", ROOM, USUAL_ROOM, MOST_ROOM);
-    let Setting::Is(most) = room else {
-        return;
-    };
-    compare_files(&rt, most as usize);
+    if let Some(lent) = ROOM.given(&rt, &mut err) {
+        compare_files(&rt, lent as usize);
+    }
 }

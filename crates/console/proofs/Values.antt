@@ -12,7 +12,8 @@ use lib.Seq.{take_all}
 use Rattle.whole.specs.Digits.{leading_digits, value_from}
 use Rattle.whole.proofs.Reading.{take_next, value_more}
 use Rattle.console.specs.Arguments.{number_given, Limited}
-use Rattle.console.specs.declared.arguments.Given.TheVariants.{Number, TooLarge, NoNumber}
+use Rattle.std.specs.Prelude.{Ok, Err}
+use Rattle.console.specs.declared.arguments.BadNumber.TheVariants.{TooLarge, NoNumber}
 
 -- digits that follow make a value no smaller
 grows : (v : ℕ) (s : List ℕ) → v ≤ value_from v s
@@ -43,31 +44,31 @@ whole_value s i v h e = e ∙ ap (value_from 0) (take_all i s h)
 -- ---- what a text gives, in the order of the tests
 
 module _ (s : List ℕ) (most : ℕ) where
-  pub no_digit : length (leading_digits s) ≡ 0 → NoNumber ≡ number_given s most
+  pub no_digit : length (leading_digits s) ≡ 0 → Err NoNumber ≡ number_given s most
   unfolding number_given
   no_digit e = rw (eq-eqb (length (leading_digits s)) 0 e)
 
   module _ (some : length (leading_digits s) ≡ 0 → ⊥) where
-    pub not_digits_alone : length (leading_digits s) < length s → NoNumber ≡ number_given s most
+    pub not_digits_alone : length (leading_digits s) < length s → Err NoNumber ≡ number_given s most
     unfolding number_given
     not_digits_alone h = rw (ne_eqb (length (leading_digits s)) 0 some, lt-ltb (length (leading_digits s)) (length s) h)
 
     module _ (alone : length s ≤ length (leading_digits s)) where
-      pub over_limit : most < value_from 0 s → TooLarge ≡ number_given s most
+      pub over_limit : most < value_from 0 s → Err TooLarge ≡ number_given s most
       unfolding number_given
       over_limit h =
           rw (ne_eqb (length (leading_digits s)) 0 some, le-ltb (length (leading_digits s)) (length s) alone, lt-ltb most (value_from 0 s) h)
 
-      pub within_limit : (v : ℕ) → v ≤ most → v ≡ value_from 0 s → Number v ≡ number_given s most
+      pub within_limit : (v : ℕ) → v ≤ most → v ≡ value_from 0 s → Ok v ≡ number_given s most
       unfolding number_given
       within_limit v h e =
           rw (ne_eqb (length (leading_digits s)) 0 some, le-ltb (length (leading_digits s)) (length s) alone, e, le-ltb most (value_from 0 s) (omega arith))
 
-  limited_if : (t : Bool) → ltb most (value_from 0 s) ≡ t → Limited (cond t TooLarge (Number (value_from 0 s))) most
+  limited_if : (t : Bool) → ltb most (value_from 0 s) ≡ t → Limited (cond t (Err TooLarge) (Ok (value_from 0 s))) most
   limited_if true e = tt
   limited_if false e = ltb-false most (value_from 0 s) e
 
-  limited_in : (a b : Bool) → Limited (cond a NoNumber (cond b NoNumber (cond (ltb most (value_from 0 s)) TooLarge (Number (value_from 0 s))))) most
+  limited_in : (a b : Bool) → Limited (cond a (Err NoNumber) (cond b (Err NoNumber) (cond (ltb most (value_from 0 s)) (Err TooLarge) (Ok (value_from 0 s))))) most
   limited_in true b = tt
   limited_in false true = tt
   limited_in false false = limited_if (ltb most (value_from 0 s)) refl

@@ -1,24 +1,19 @@
 -- Numbers that arguments give.
-use Rattle.std.specs.Prelude.{cond, List, ℕ, ◌≤◌, ltb, eqb, length}
+use Rattle.std.specs.Prelude.{cond, List, ℕ, ◌≤◌, ltb, eqb, length, Option, Result, Ok, Err, IfSome, IfOk}
 use Rattle.whole.specs.Digits.{leading_digits, value_from}
-use Rattle.console.specs.declared.arguments.Given.{Given}
-use Rattle.console.specs.declared.arguments.Given.TheVariants.{Number, TooLarge, NoNumber}
-use Rattle.console.specs.declared.arguments.Setting.{Setting}
-use Rattle.console.specs.declared.arguments.Setting.TheVariants.{Is, Bad}
+use Rattle.console.specs.declared.arguments.BadNumber.{BadNumber}
+use Rattle.console.specs.declared.arguments.BadNumber.TheVariants.{TooLarge, NoNumber}
 
 -- a number is one or more digits and nothing else; it may be at most so large
-unfoldable pub number_given : List ℕ → ℕ → Given
+unfoldable pub number_given : List ℕ → ℕ → Result ℕ BadNumber
 number_given s most =
-    cond (eqb (length (leading_digits s)) 0) NoNumber
-    (cond (ltb (length (leading_digits s)) (length s)) NoNumber
-    (cond (ltb most (value_from 0 s)) TooLarge (Number (value_from 0 s))))
+    cond (eqb (length (leading_digits s)) 0) (Err NoNumber)
+    (cond (ltb (length (leading_digits s)) (length s)) (Err NoNumber)
+    (cond (ltb most (value_from 0 s)) (Err TooLarge) (Ok (value_from 0 s))))
 
 -- a number that was given, or is to go by, is within its limit
-abbrev pub Limited : Given → ℕ → Type 0
-Limited (Number n) most = n ≤ most
-Limited TooLarge most = Unit {0}
-Limited NoNumber most = Unit {0}
+abbrev pub Limited : Result ℕ BadNumber → ℕ → Type 0
+Limited given most = IfOk given (λ n. n ≤ most)
 
-abbrev pub AtMost : Setting → ℕ → Type 0
-AtMost (Is n) most = n ≤ most
-AtMost Bad most = Unit {0}
+abbrev pub AtMost : Option ℕ → ℕ → Type 0
+AtMost setting most = IfSome setting (λ n. n ≤ most)

@@ -2,13 +2,7 @@
 use Rattle.std.specs.Prelude.{List, [], ◌∷◌, ◌++◌, ℕ}
 use Prim.Native.Char.{code}
 use Rattle.whole.specs.Bytes.{bytes}
-use Rattle.whole.specs.Texts.{with_byte, numeral}
-use Rattle.whole.specs.declared.texts.Text.{Text}
-
--- a text with bytes after it, one by one; one of 255 bytes stays as it is
-unfoldable pub with_bytes : Text → List ℕ → Text
-with_bytes t [] = t
-with_bytes t (b ∷ s) = with_bytes (with_byte t b) s
+use Rattle.whole.specs.Texts.{numeral}
 
 -- a number in decimal digits, of which one of 64 bits has at most twenty
 abbrev pub decimal : ℕ → List ℕ

@@ -26,10 +26,5 @@ pub fn write_answer<W: Write, E: Write>(
     requires { IsPrefixLen answer.written room.now }
     ensures { (told : List ℕ) → Tells told answer room.now → OnTrue result (Appends (W.contents out.old) (W.contents out.new) told) }
 {
-    let written = answer.written;
-    let line = answer.line;
-    if write(out, err, &room[..written]) {
-        return write_text(out, err, line);
-    }
-    false
+    write(out, err, &room[..answer.written]) && write_text(out, err, answer.line)
 }

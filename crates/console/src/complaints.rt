@@ -27,14 +27,10 @@ pub fn complain_of<R: Env, W: Write>(rt: &R, err: &mut W, words: &[u8], place: u
 fn words_len(text: &[u8]) -> usize
     ensures { result ≤ length text.now }
 {
-    let mut at = 0;
-    while at < text.len() {
-        if text[at..].starts_with(b" (os error ") {
-            return at;
-        }
-        at += 1;
-    }
-    at
+    let number: &[u8] = b" (os error ";
+    text.windows(number.len())
+        .position(|part| part == number)
+        .unwrap_or(text.len())
 }
 
 // What failed, and why, in the system's words.

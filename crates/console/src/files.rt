@@ -1,6 +1,7 @@
 // Files read into lent bytes.
 ghost use Rattle.std.specs.Prelude.{◌≡◌, ◌≤◌, ◌<◌, IfOk, IfSome, take, length};
 ghost use Rattle.std.specs.Io.KnownBytes.{Consumes, IsAtEnd};
+ghost use Rattle.console.specs.Counts.{IsPrefixLen};
 ghost use Rattle.console.specs.Files.{Fronted, IsTakenOf};
 
 use crate::arguments::LONGEST;
@@ -10,12 +11,11 @@ use std::fs::Files;
 use std::io::{ErrorKind, Read, Write};
 use std::{fs, io};
 
-// What was taken of a file: all of it, so many bytes; as much as there is room for, and there is more; or nothing.
-#[derive(Clone, Copy)]
-pub enum Taken {
-    All(usize),
-    Front,
-    Nothing,
+// Why a file was not taken whole: it has more bytes than there is room for, or it can't be read, and it was said why.
+#[derive(Clone, Copy, Debug, PartialEq, Eq)]
+pub enum Untaken {
+    Longer,
+    Unread,
 }
 
 // One read, tried again where a signal cut it short.
@@ -51,20 +51,21 @@ fn fill<R: Read>(reader: &mut R, bytes: &mut [u8]) -> io::Result<usize>
     Ok(at)
 }
 
-// What a reader has, at the front of lent bytes. One that goes on where it had stopped was not read well.
-fn take_from<R: Read>(reader: &mut R, bytes: &mut [u8]) -> io::Result<Taken>
-    ensures fronted { IfOk result (λ taken. Fronted taken bytes.new) }
+// How many bytes a reader has, which then stand at the front of lent bytes; none where there are more than fit.
+// A reader that goes on where it had stopped was not read well.
+fn take_from<R: Read>(reader: &mut R, bytes: &mut [u8]) -> io::Result<Option<usize>>
+    ensures fronted { IfOk result (λ taken. IfSome taken (λ n. IsPrefixLen n bytes.new)) }
     ensures taken { IfOk result (λ taken. IsTakenOf taken (R.remaining reader.old) bytes.new) }
 {
     let count = fill(reader, bytes)?;
     let mut one = [0u8; 1];
     if read_some(reader, &mut one)? == 0 {
-        return Ok(Taken::All(count));
+        return Ok(Some(count));
     }
     if count < bytes.len() {
         return Err(io::Error::from(ErrorKind::Other));
     }
-    Ok(Taken::Front)
+    Ok(None)
 }
 
 // Says on standard error why a file can't be read.
@@ -81,24 +82,11 @@ pub fn open_path<R: Files>(rt: &R, path: &[u8]) -> io::Result<R::File> {
     }
 }
 
-fn take_open<R: Files>(rt: &R, path: &[u8], bytes: &mut [u8]) -> io::Result<Taken>
-    ensures { IfOk result (λ taken. Fronted taken bytes.new) }
+fn take_path<R: Files>(rt: &R, path: &[u8], bytes: &mut [u8]) -> io::Result<Option<usize>>
+    ensures { IfOk result (λ taken. IfSome taken (λ n. IsPrefixLen n bytes.new)) }
 {
     let mut file = open_path(rt, path)?;
     take_from(&mut file, bytes)
-}
-
-// Reads the file with a path to the front of lent bytes; says on standard error why it can't.
-fn take_path<R: Files, W: Write>(rt: &R, err: &mut W, path: &[u8], bytes: &mut [u8]) -> Taken
-    ensures { Fronted result bytes.new }
-{
-    match take_open(rt, path, bytes) {
-        Ok(taken) => taken,
-        Err(error) => {
-            complain_of_reading(err, path, &error);
-            Taken::Nothing
-        }
-    }
 }
 
 // Puts the path that an argument gives at the front of lent bytes, and says how long it is; says on standard error why it can't.
@@ -129,13 +117,17 @@ pub fn take_file<R: Files + Env, W: Write>(
     err: &mut W,
     place: usize,
     bytes: &mut [u8],
-) -> Taken
+) -> Result<usize, Untaken>
     ensures { Fronted result bytes.new }
 {
     let mut path = [0u8; LONGEST];
-    match path_given(rt, err, place, &mut path) {
-        Some(len) => take_path(rt, err, &path[..len], bytes),
-        None => Taken::Nothing,
+    let len = path_given(rt, err, place, &mut path).ok_or(Untaken::Unread)?;
+    match take_path(rt, &path[..len], bytes) {
+        Ok(taken) => taken.ok_or(Untaken::Longer),
+        Err(error) => {
+            complain_of_reading(err, &path[..len], &error);
+            Err(Untaken::Unread)
+        }
     }
 }
 
@@ -145,19 +137,26 @@ pub fn take_front<R: Files + Env, W: Write>(
     err: &mut W,
     place: usize,
     bytes: &mut [u8],
-) -> Taken
-    ensures { Fronted result bytes.new }
+) -> Option<usize>
+    ensures { IfSome result (λ n. IsPrefixLen n bytes.new) }
 {
-    let taken = take_file(rt, err, place, bytes);
-    if let Taken::Front = taken {
-        return Taken::All(bytes.len());
+    match take_file(rt, err, place, bytes) {
+        Ok(len) => Some(len),
+        Err(Untaken::Longer) => Some(bytes.len()),
+        Err(Untaken::Unread) => None,
     }
-    taken
+}
+
+// Room for so many bytes.
+pub fn room<const N: usize>() -> [u8; N]
+    ensures { N ≡ length result }
+{
+    [0; N]
 }
 
 // Room for a recipe, and one byte: what is longer than a recipe may be is refused (100), however long it is.
 pub fn recipe_room() -> [u8; 16385]
     ensures { 16385 ≡ length result }
 {
-    [0; 16385]
+    room()
 }

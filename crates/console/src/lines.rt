@@ -1,13 +1,13 @@
 // A line built in a buffer by value, and bytes written to a writer.
-ghost use Rattle.std.specs.Prelude.{◌≡◌, ℕ, suc, ◌<◌, ◌^◌, take};
+ghost use Rattle.std.specs.Prelude.{◌≡◌, List, ℕ, ◌+◌, ◌*◌, ◌<◌, length, take};
 ghost use Rattle.std.specs.Bool.{OnTrue};
 ghost use Rattle.std.specs.Io.KnownBytes.{Appends};
-ghost use Rattle.whole.specs.Texts.{held, with_byte, numeral};
-ghost use Rattle.console.specs.Lines.{with_bytes, field, refused_line};
+ghost use Rattle.whole.specs.Texts.{longest_string, held, with_byte, with_bytes};
+ghost use Rattle.console.specs.Lines.{field, line, refused_line};
 
 use crate::complaints::complain_of_error;
 use std::io::Write;
-use whole::Text;
+use whole::{Text, put_numeral};
 
 const TAB: u8 = 9;
 
@@ -18,32 +18,17 @@ pub fn put_bytes(text: Text, bytes: &[u8]) -> Text
     ensures { result ≡ with_bytes text bytes.now }
 {
     let mut longer = text;
-    let mut i = 0;
-    while i < bytes.len() {
-        longer = longer.put(bytes[i]);
-        i += 1;
+    for byte in bytes {
+        longer = longer.put(*byte);
     }
     longer
-}
-
-// The text with the digits of a number after it.
-fn put_decimal(text: Text, value: u64) -> Text
-    ensures { (k : ℕ) → value < 10 ^ suc k → result ≡ with_bytes text (numeral 10 (suc k) value) }
-{
-    let last = b'0' + (value % 10) as u8;
-    if value < 10 {
-        return text.put(last);
-    }
-    let front = put_decimal(text, value / 10);
-    front.put(last)
 }
 
 // The text with a tab and a number after it.
 pub fn put_field(text: Text, value: u64) -> Text
     ensures { result ≡ with_bytes text (field value) }
 {
-    let parted = text.put(TAB);
-    put_decimal(parted, value)
+    put_numeral(text.put(TAB), 10, value)
 }
 
 // The text with a line's end after it.
@@ -53,14 +38,23 @@ pub fn end_line(text: Text) -> Text
     text.put(LINE_FEED)
 }
 
+// A line: a word and numbers, parted by tabs. A text holds the whole of it where there are few.
+pub fn line(word: &[u8], numbers: &[u64]) -> Text
+    ensures { length word.now + 21 * length numbers.now < longest_string → result ≡ held (line word.now numbers.now) }
+{
+    let mut text = put_bytes(Text::empty(), word);
+    for number in numbers {
+        text = put_field(text, *number);
+    }
+    end_line(text)
+}
+
 // The line of a refusal: its number, and the place or the line of which it is said.
+#[tactic(auto, unfolding(whole::specs::Bytes::bytes))]
 pub fn refused_line(number: u8, standing: u64) -> Text
     ensures { result ≡ held (refused_line number standing) }
 {
-    let word = put_bytes(Text::empty(), b"refused");
-    let numbered = put_field(word, number as u64);
-    let placed = put_field(numbered, standing);
-    end_line(placed)
+    line(b"refused", &[u64::from(number), standing])
 }
 
 // Writes bytes, or says on standard error why it can't; whether they were written.
@@ -76,10 +70,10 @@ pub fn write<W: Write, E: Write>(out: &mut W, err: &mut E, bytes: &[u8]) -> bool
     }
 }
 
+// The same of a text's bytes.
 pub fn write_text<W: Write, E: Write>(out: &mut W, err: &mut E, text: Text) -> bool
-    ensures { OnTrue result (Appends (W.contents out.old) (W.contents out.new) (take text.len text.bytes)) }
+    ensures bytes { OnTrue result (Appends (W.contents out.old) (W.contents out.new) (take text.len text.bytes)) }
+    ensures said { (l : List ℕ) → text ≡ held l → OnTrue result (Appends (W.contents out.old) (W.contents out.new) l) }
 {
-    let bytes = text.bytes;
-    let len = text.len as usize;
-    write(out, err, &bytes[..len])
+    write(out, err, &text.bytes[..usize::from(text.len)])
 }

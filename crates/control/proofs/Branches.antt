@@ -1,4 +1,5 @@
 -- IF: a part of the line is entered, or the line is over.
+use Rattle.std.specs.Prelude.{None, Some, Result, Ok}
 use mathlib.Core.Path.{◌≡◌, refl, sym, ap, ◌∙◌}
 use mathlib.Core.Logic.{◌⊎◌}
 use mathlib.Core.Bool.{true, false, cond, false≢true}
@@ -14,7 +15,6 @@ use Rattle.grammar.specs.Tests.{is_keyword}
 use Rattle.grammar.specs.Trees.{Formula, Part, if_then, if_else}
 use Rattle.statements.specs.Statements.{good_part, part_of}
 use Rattle.reader.specs.Lines.{else_at}
-use Rattle.reader.specs.declared.branches.Start.TheVariants as way
 use Rattle.variables.specs.declared.values.Worked.{Worked}
 use Rattle.variables.specs.declared.values.Worked.TheVariants.{Whole}
 use Rattle.variables.specs.bridge.Memory.{mismatch_of}
@@ -28,10 +28,11 @@ use Rattle.machine.specs.declared.records.Record.{Record}
 use Rattle.turns.specs.Steps as step
 use Rattle.turns.specs.Steps.{goes_on, branch, line_over, do_statement}
 use Rattle.control.specs.bridge.Answers.{taken_turn}
-use Rattle.variables.proofs.Agreements.{worked_tag}
+use Rattle.variables.proofs.Agreements.{NoWhole}
 use Rattle.turns.proofs.Keeping.{sound_kept, leaves_unprinted}
 use Rattle.turns.proofs.Leading.{turns_on}
 use Rattle.turns.proofs.Wholes.{turns_none, turns_whole}
+use Rattle.whole.specs.declared.errors.Error.{Error}
 
 -- ---- where the run goes on
 
@@ -54,7 +55,7 @@ module _ {text line : List ℕ} {here : Place} (st : Standing text line here) wh
     -- a part that reads is entered
     turns_part : (at : Place) {p : Part} {u : Scanned} → part_of line true at.0 ≡ good_part p u → Shallow p
         → ((n : spec.Machine) → does n ≡ branch n lines p)
-        → Turns text m input space room told does (taken_turn m here (way.At at)) space room
+        → Turns text m input space room told does (taken_turn m here (Some at)) space room
     turns_part at {p} e low h =
         turns_on (leaves_unprinted sound refl refl refl) (inside_placed at e low)
         (λ rs t n s.
@@ -65,7 +66,7 @@ module _ {text line : List ℕ} {here : Place} (st : Standing text line here) wh
         })
 
     -- the line is over
-    turns_over : ((n : spec.Machine) → does n ≡ line_over n lines) → Turns text m input space room told does (taken_turn m here way.None) space room
+    turns_over : ((n : spec.Machine) → does n ≡ line_over n lines) → Turns text m input space room told does (taken_turn m here None) space room
     turns_over h =
         turns_on (leaves_unprinted sound refl refl refl) (record { begins = st.begins; reads = λ z. absurd (false≢true (sym z)) })
         (λ rs t n s. record { machine = n; is = h n ∙ ap (line_over n) all; same = s })
@@ -92,13 +93,13 @@ module _ {text line input space room space' : List ℕ} {here : Place} {m : Stat
     (at : ℕ) (after : spec.Position) (st : Standing text line here) (sound : Sound m input space room) (lines : after.lines ≡ lines_at text here.0)
     (reads : part_of line true t.next.0 ≡ good_part p u) (low : Shallow p) where
   -- an error, or a text
-  pub if_none : (r : Worked) → (worked_tag r ≡ 1) ⊎ (worked_tag r ≡ 2) → Valued m c t space r space'
+  pub if_none : (r : Result Worked Error) → NoWhole r → Valued m c t space r space'
       → IfTurns text line at m input space room c p u after (turned_to m (next.Fails (mismatch_of r))) space'
   if_none r h v = (λ _. turns_none (thens after p) sound r h v, λ _ q w _ _. turns_none (elses after p q) sound r h v)
 
-  module _ {w : ℕ} {x : Scanned} (v : Valued m c t space (Whole w x) space') where
+  module _ {w : ℕ} {x : Scanned} (v : Valued m c t space (Ok (Whole w x)) space') where
     -- not 0: the first part
-    pub if_true : (w ≡ 0 → ⊥) → IfTurns text line at m input space room c p u after (taken_turn m here (way.At x.next)) space'
+    pub if_true : (w ≡ 0 → ⊥) → IfTurns text line at m input space room c p u after (taken_turn m here (Some x.next)) space'
     if_true z =
         let k = sound_kept v.framed.long sound in
         rw v.goes (

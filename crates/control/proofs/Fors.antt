@@ -1,4 +1,5 @@
 -- FOR: its formulas are worked out, its variable is set, an older loop of it is dropped, and its body is skipped or a record is made.
+use Rattle.std.specs.Prelude.{None, Option, Some, ℕ, Ok}
 use mathlib.Core.Path.{◌≡◌, refl, sym, ap, ◌∙◌}
 use mathlib.Core.Bool.{Bool, true, false, false≢true, cond}
 use mathlib.Core.List.{List}
@@ -37,8 +38,6 @@ use Rattle.machine.specs.declared.positions.Next.{Next}
 use Rattle.machine.specs.declared.positions.Next.TheVariants as next
 use Rattle.machine.specs.Order.{next_for}
 use Rattle.machine.specs.declared.records.Record.{Record}
-use Rattle.machine.specs.declared.records.Found.{Found}
-use Rattle.machine.specs.declared.records.Found.TheVariants as found
 use Rattle.machine.proofs.Stacking.{loop_back, loop_held}
 use Rattle.machine.proofs.Searching.{told_kept}
 use Rattle.turns.specs.Steps as step
@@ -158,29 +157,29 @@ module _ {line : List ℕ} {name : Name} {equals : Scanned} (k : Counts line nam
 -- an older loop of the variable is dropped
 module _ {text : List ℕ} {rs : List Record} {m : State} {input space room : List ℕ} (entry : Record) (name : Telling) {q : spec.Machine}
     (same : Same text rs m input space room q) where
-  same_dropped : (f : Found) → Told text m.tables.numbers.names (is_loop_of name) m.depth f entry rs
+  same_dropped : (f : Option ℕ) → Told text m.tables.numbers.names (is_loop_of name) m.depth f entry rs
       → Same text rs (dropped_to m f) input space room (cleared name q)
-  same_dropped found.None t = rw (ap (spec.sought (is_loop_of name)) same.records ∙ t) same
-  same_dropped (found.At i) t =
+  same_dropped None t = rw (ap (spec.sought (is_loop_of name)) same.records ∙ t) same
+  same_dropped (Some i) t =
       let h : i ≤ m.depth = omega (arith, t.below) in
       rw (ap (spec.sought (is_loop_of name)) same.records ∙ t.is) (same_fewer i h same)
 
 module _ {m : State} {input space room : List ℕ} where
-  sound_dropped : (f : Found) → FoundBelow m.depth f → Sound m input space room → Sound (dropped_to m f) input space room
-  sound_dropped found.None b h = h
-  sound_dropped (found.At i) b h = sound_depth i (omega (arith, h.deep)) h
+  sound_dropped : (f : Option ℕ) → FoundBelow m.depth f → Sound m input space room → Sound (dropped_to m f) input space room
+  sound_dropped None b h = h
+  sound_dropped (Some i) b h = sound_depth i (omega (arith, h.deep)) h
 
-dropped_steps : (m : State) (f : Found) → (dropped_to m f).steps ≡ m.steps
-dropped_steps m found.None = refl
-dropped_steps m (found.At i) = refl
+dropped_steps : (m : State) (f : Option ℕ) → (dropped_to m f).steps ≡ m.steps
+dropped_steps m None = refl
+dropped_steps m (Some i) = refl
 
-dropped_tables : (m : State) (f : Found) → (dropped_to m f).tables ≡ m.tables
-dropped_tables m found.None = refl
-dropped_tables m (found.At i) = refl
+dropped_tables : (m : State) (f : Option ℕ) → (dropped_to m f).tables ≡ m.tables
+dropped_tables m None = refl
+dropped_tables m (Some i) = refl
 
-dropped_printer : (m : State) (f : Found) → (dropped_to m f).printer ≡ m.printer
-dropped_printer m found.None = refl
-dropped_printer m (found.At i) = refl
+dropped_printer : (m : State) (f : Option ℕ) → (dropped_to m f).printer ≡ m.printer
+dropped_printer m None = refl
+dropped_printer m (Some i) = refl
 
 -- a variable is set
 pub sound_set : {m : State} {input space room : List ℕ} (name : Telling) → Tells name → (w : ℕ) → Sound m input space room
@@ -188,7 +187,7 @@ pub sound_set : {m : State} {input space room : List ℕ} (name : Telling) → T
 sound_set name own w s = sound_tables s (number_settled name own w s.settled)
 
 -- the record made is that of the variable's loop
-module _ (text : List ℕ) {m : State} {space : List ℕ} (name : Telling) (own : Tells name) (from limit by : ℕ) (back : Position) (f : Found) (settled : Settled m space)
+module _ (text : List ℕ) {m : State} {space : List ℕ} (name : Telling) (own : Tells name) (from limit by : ℕ) (back : Position) (f : Option ℕ) (settled : Settled m space)
     (yes : (number_set m name from).ok ≡ true) where
   abbrev made : Storage
   made = number_set m name from
@@ -207,7 +206,7 @@ module _ (text : List ℕ) {m : State} {space : List ℕ} (name : Telling) (own 
   loop_placed p =
       rw (dropped_tables made.state f) (record { back = rw (loop_back made.slot limit by back) p; known = λ _. made_slot.0; paired = λ e. absurd (false≢true e) })
 
-module _ {text : List ℕ} {m : State} {input space room : List ℕ} (entry : Record) (at : Place) (name : Telling) (own : Tells name) (from limit by : ℕ) (back : Position) (f : Found)
+module _ {text : List ℕ} {m : State} {input space room : List ℕ} (entry : Record) (at : Place) (name : Telling) (own : Tells name) (from limit by : ℕ) (back : Position) (f : Option ℕ)
     (sound : Sound m input space room) (low : FoundBelow m.depth f) (p : Positioned text back) {r : Turn} (b : LoopBegun text at m name from limit by back f r) where
   abbrev ToldHere : List Record → Type 0
   ToldHere = Told text m.tables.numbers.names (is_loop_of name) m.depth f entry
@@ -273,7 +272,7 @@ module _ {text : List ℕ} {m : State} {input space room : List ℕ} (entry : Re
       turns_loop
 
 -- what the code makes, by whether there was room for the variable, and whether the body is skipped
-module _ (text : List ℕ) (at : Place) (m : State) (name : Telling) (from limit by : ℕ) (back : Position) (f : Found) {s : Storage} (e : s ≡ number_set m name from) where
+module _ (text : List ℕ) (at : Place) (m : State) (name : Telling) (from limit by : ℕ) (back : Position) (f : Option ℕ) {s : Storage} (e : s ≡ number_set m name from) where
   pub begun_full : s.ok ≡ false → LoopBegun text at m name from limit by back f (turned_to s.state (next.Fails OutOfMemory))
   begun_full h =
       let k : (number_set m name from).ok ≡ false = rw e at h in
@@ -294,10 +293,10 @@ module _ (text : List ℕ) (at : Place) (m : State) (name : Telling) (from limit
       record { skip = next.Ends; skips = λ _ so. absurd (false≢true (sym q ∙ so)); is = is ∙ rw (made, low, same, k, q, e) }
 
 -- with the step that was worked out
-module _ {text : List ℕ} {m : State} {input space room : List ℕ} (entry : Record) (at : Place) (name : Telling) (own : Tells name) (from limit : ℕ) (here : Place) (f : Found)
+module _ {text : List ℕ} {m : State} {input space room : List ℕ} (entry : Record) (at : Place) (name : Telling) (own : Tells name) (from limit : ℕ) (here : Place) (f : Option ℕ)
     (sound : Sound m input space room) (low : FoundBelow m.depth f) where
   pub turns_stepped : {by : Formula} {w : ℕ} {u x : Scanned} {space' : List ℕ} {r : Turn} → Positioned text (after_of here u)
-      → Valued m by u space (Whole w x) space' → LoopBegun text at m name from limit w (after_of here x) f r
+      → Valued m by u space (Ok (Whole w x)) space' → LoopBegun text at m name from limit w (after_of here x) f r
       → Turns text m input space room (Told text m.tables.numbers.names (is_loop_of name) m.depth f entry)
       (from_step name at.0 (position_of text (after_of here u)) by from limit) r space' room
   turns_stepped {w = w} {u = u} p v b =

@@ -1,4 +1,5 @@
 -- GOTO, GOSUB and RETURN: the lines that a number leads to, a record more, and the records dropped.
+use Rattle.std.specs.Prelude.{None, Option, Some, ℕ}
 use mathlib.Core.Path.{◌≡◌, refl, ap, ◌∙◌}
 use mathlib.Core.Bool.{Bool, true, false, false≢true}
 use mathlib.Core.List.{List}
@@ -12,8 +13,6 @@ use Rattle.words.specs.declared.places.LineNumber.{LineNumber}
 use Rattle.words.proofs.Choices.{by_test}
 use Rattle.loader.specs.Lines.{Line, lines_of, from_number, find_line}
 use Rattle.loader.specs.declared.lines.LineSpan.{LineSpan}
-use Rattle.loader.specs.declared.lines.LineFound.{LineFound}
-use Rattle.loader.specs.declared.lines.LineFound.TheVariants.{Is, None}
 use Rattle.grammar.specs.Trees as tree
 use Rattle.machine.specs.Machine as spec
 use Rattle.machine.specs.Machine.{is_call}
@@ -22,8 +21,6 @@ use Rattle.machine.specs.bridge.Wanted.{is_sought, found_in, Told}
 use Rattle.machine.specs.declared.positions.Position.{Position}
 use Rattle.machine.specs.declared.positions.Next.TheVariants as next
 use Rattle.machine.specs.declared.records.Record.{Record}
-use Rattle.machine.specs.declared.records.Found.{Found}
-use Rattle.machine.specs.declared.records.Found.TheVariants as found
 use Rattle.machine.specs.declared.records.Sought.{Sought}
 use Rattle.machine.proofs.Stacking.{by_kind, is_call_lem, call_back, call_held}
 use Rattle.machine.proofs.Standing.{found_begins, found_none}
@@ -56,14 +53,14 @@ module _ {text : List ℕ} {m : State} {input space room : List ℕ} (number : L
       turns_fails (leaves_unprinted sound refl refl refl)
       (λ rs t n s. record { machine = n; is = rw (found_none text number e); same = s })
 
-  pub goto_found : (at : ℕ) (after : spec.Position) {span : LineSpan} → find_line text number ≡ Is span
+  pub goto_found : (at : ℕ) (after : spec.Position) {span : LineSpan} → find_line text number ≡ Some span
       → Turns text m input space room AnyRecords (λ n. do_statement text at (tree.goto number) n after) (turned_to m (next.Enter span.place)) space room
   goto_found at after {span} e =
       let f = found_begins text number e in
       turns_enters (leaves_unprinted sound refl refl refl) f.begins
       (λ rs t n s. record { machine = n; is = rw (← f.lines, f.begins.here); same = s })
 
-  pub gosub_found : (at : ℕ) (back : Position) {span : LineSpan} → Positioned text back → find_line text number ≡ Is span
+  pub gosub_found : (at : ℕ) (back : Position) {span : LineSpan} → Positioned text back → find_line text number ≡ Some span
       → Turns text m input space room AnyRecords (λ n. do_statement text at (tree.gosub number) n (position_of text back))
       (pushed_turn m (call_record back) (next.Enter span.place)) space room
   gosub_found at back {span} p e =
@@ -73,7 +70,7 @@ module _ {text : List ℕ} {m : State} {input space room : List ℕ} (number : L
       (λ rs t n s. record { machine = n; is = rw (← f.lines, f.begins.here); same = s })
 
   -- where no record is left
-  pub gosub_full : (at : ℕ) (back : Position) {span : LineSpan} → Positioned text back → find_line text number ≡ Is span
+  pub gosub_full : (at : ℕ) (back : Position) {span : LineSpan} → Positioned text back → find_line text number ≡ Some span
       → leb m.records m.depth ≡ true
       → Turns text m input space room AnyRecords (λ n. do_statement text at (tree.gosub number) n (position_of text back))
       (turned_to m (next.Fails OutOfMemory)) space room
@@ -81,34 +78,34 @@ module _ {text : List ℕ} {m : State} {input space room : List ℕ} (number : L
 
 -- ---- what became of a GOSUB tells of its line and of room
 
-pub calls_none : (f : LineFound) (full : Bool) → calling_of f full ≡ calling.NoLine → f ≡ None
+pub calls_none : (f : Option LineSpan) (full : Bool) → calling_of f full ≡ calling.NoLine → f ≡ None
 calls_none None full e = refl
-calls_none (Is span) true e = never (cc)
-calls_none (Is span) false e = never (cc)
+calls_none (Some span) true e = never (cc)
+calls_none (Some span) false e = never (cc)
 
-pub record FullAt (f : LineFound) (full : Bool) : Type 0 where
+pub record FullAt (f : Option LineSpan) (full : Bool) : Type 0 where
   pub span : LineSpan
-  pub is : f ≡ Is span
+  pub is : f ≡ Some span
   pub so : full ≡ true
 
-pub calls_full : (f : LineFound) (full : Bool) → calling_of f full ≡ calling.NoRecord → FullAt f full
+pub calls_full : (f : Option LineSpan) (full : Bool) → calling_of f full ≡ calling.NoRecord → FullAt f full
 calls_full None full e = never (cc)
-calls_full (Is span) true e = record { span = span; is = refl; so = refl }
-calls_full (Is span) false e = never (cc)
+calls_full (Some span) true e = record { span = span; is = refl; so = refl }
+calls_full (Some span) false e = never (cc)
 
-pub record Finds (f : LineFound) : Type 0 where
+pub record Finds (f : Option LineSpan) : Type 0 where
   pub span : LineSpan
-  pub is : f ≡ Is span
+  pub is : f ≡ Some span
 
-pub calls_to : (f : LineFound) (full : Bool) → calling_of f full ≡ calling.Goes → Finds f
+pub calls_to : (f : Option LineSpan) (full : Bool) → calling_of f full ≡ calling.Goes → Finds f
 calls_to None full e = never (cc)
-calls_to (Is span) true e = never (cc)
-calls_to (Is span) false e = record { span = span; is = refl }
+calls_to (Some span) true e = never (cc)
+calls_to (Some span) false e = record { span = span; is = refl }
 
 -- ---- the nearest GOSUB's record
 
 module _ {text : List ℕ} {m : State} {input space room : List ℕ} (entry : Record) (at : ℕ) (after : spec.Position) (sound : Sound m input space room) where
-  pub back_missing : Turns text m input space room (Told text m.tables.numbers.names is_call m.depth found.None entry) (λ n. do_statement text at tree.return n after)
+  pub back_missing : Turns text m input space room (Told text m.tables.numbers.names is_call m.depth None entry) (λ n. do_statement text at tree.return n after)
       (turned_to m (next.Fails ReturnWithoutGosub)) space room
   back_missing =
       turns_fails (leaves_unprinted sound refl refl refl)
@@ -120,7 +117,7 @@ module _ {text : List ℕ} {m : State} {input space room : List ℕ} (entry : Re
       })
 
   pub back_found : (slot : ℕ) → slot < m.depth
-      → Turns text m input space room (Told text m.tables.numbers.names is_call m.depth (found.At slot) entry) (λ n. do_statement text at tree.return n after)
+      → Turns text m input space room (Told text m.tables.numbers.names is_call m.depth (Some slot) entry) (λ n. do_statement text at tree.return n after)
       (turned_to (with_depth m slot) (next.On (back_of entry))) space room
   back_found slot b =
       turns_unwritten (leaves_unprinted (sound_depth slot (omega (arith, sound.deep)) sound) refl refl refl)
@@ -135,9 +132,9 @@ module _ {text : List ℕ} {m : State} {input space room : List ℕ} (entry : Re
 
 -- ---- what is found is one of the records
 
-below_more : (d : ℕ) (f : Found) → FoundBelow d f → FoundBelow (suc d) f
-below_more d (found.At i) h = omega arith
-below_more d found.None h = tt
+below_more : (d : ℕ) (f : Option ℕ) → FoundBelow d f → FoundBelow (suc d) f
+below_more d (Some i) h = omega arith
+below_more d None h = tt
 
 pub found_low : (k : Sought) (rs : List Record) (d : ℕ) → FoundBelow d (found_in k rs d)
 unfolding found_in

@@ -1,4 +1,5 @@
 -- What GOTO, GOSUB, FOR and NEXT do from the token after the word on.
+use Rattle.std.specs.Prelude.{Option, Some, ℕ}
 use mathlib.Core.Path.{◌≡◌, refl}
 use mathlib.Core.List.{List}
 use Prim.Native.Nat.{ℕ, ◌≤◌}
@@ -14,7 +15,6 @@ use Rattle.words.specs.Places.{longest_line}
 use Rattle.grammar.specs.Trees as tree
 use Rattle.grammar.specs.Formulas.{after}
 use Rattle.grammar.specs.bridge.Answers.{line_of}
-use Rattle.grammar.specs.declared.tests.NamedLine.TheVariants.{Names}
 use Rattle.words.specs.declared.symbols.Word.TheVariants.{For, Goto, Gosub}
 use Rattle.statements.specs.Statements.{Begun, bad, done, variable_of, for_at, by_word}
 use Rattle.machine.specs.Machine as spec
@@ -24,7 +24,6 @@ use Rattle.machine.specs.bridge.Wanted.{Told}
 use Rattle.turns.specs.bridge.Turns.{Turn, turned_to, after_of, Turns, AnyRecords}
 use Rattle.machine.specs.declared.positions.Next.TheVariants as next
 use Rattle.machine.specs.declared.records.Record.{Record}
-use Rattle.machine.specs.declared.records.Found.{Found}
 use Rattle.turns.specs.Steps.{next_on, do_statement}
 use Rattle.turns.specs.bridge.Doing.{Begins, Does}
 use Rattle.statements.proofs.Ways.{by_for}
@@ -50,7 +49,7 @@ for_counts s short w name =
     by_for (λ b. Begins b → Counts s name (after s w)) (λ x. absurd x) s (after s w) (variable_of s name)
     (λ a b c u e h. record { short = short; scans = record { from = w.next; is = refl }; start = a; limit = b; step = c; end = u; is = e; shallow = h.1 })
 
-module _ (text line : List ℕ) (here : Place) (at : ℕ) (m : State) (found : Found) (entry : Record) (input space room : List ℕ) (r : Turn)
+module _ (text line : List ℕ) (here : Place) (at : ℕ) (m : State) (found : Option ℕ) (entry : Record) (input space room : List ℕ) (r : Turn)
     (space' room' : List ℕ) where
   abbrev D : Begun → Type 0
   D b = Does text line here at m found entry input space room r space' room' b
@@ -63,12 +62,12 @@ module _ (text line : List ℕ) (here : Place) (at : ℕ) (m : State) (found : F
       → D (by_word line For t)
   loop_does t name w h = rw w (by_for D tt line (after line t) (variable_of line name) (λ a b c u e p. h a b c u p e))
 
-  pub jump_does : (t : Scanned) (l : LineNumber) → line_of t.token ≡ Names l
+  pub jump_does : (t : Scanned) (l : LineNumber) → line_of t.token ≡ Some l
       → ((after : spec.Position) → Turns text m input space room AnyRecords (λ n. do_statement text at (tree.goto l) n after) r space' room')
       → D (by_word line Goto t)
   jump_does t l e h = rw (on_line_lem t.token (λ l. done (tree.goto l) (after line t)) bad e) (λ p. any_told (h (position_of text (after_of here (after line t)))))
 
-  pub call_does : (t : Scanned) (l : LineNumber) → line_of t.token ≡ Names l
+  pub call_does : (t : Scanned) (l : LineNumber) → line_of t.token ≡ Some l
       → (Positioned text (after_of here (after line t)) → Turns text m input space room AnyRecords
       (λ n. do_statement text at (tree.gosub l) n (position_of text (after_of here (after line t)))) r space' room')
       → D (by_word line Gosub t)

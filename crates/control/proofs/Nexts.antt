@@ -1,4 +1,5 @@
 -- NEXT: the loop that is found turns once more, or is dropped.
+use Rattle.std.specs.Prelude.{Err, None, Ok, Option, Result, Some, ℕ}
 use mathlib.Core.Path.{◌≡◌, refl, sym, ap, subst, ◌∙◌}
 use mathlib.Core.Bool.{Bool, true, false, cond, false≢true}
 use mathlib.Core.List.{List, ◌∷◌}
@@ -8,8 +9,6 @@ use native.Mathlib.Numerals.{add-one}
 use borrow.Author.Tests.{lt-ltb, ltb-true}
 use lib.Dec.{ltb}
 use Rattle.whole.specs.Whole.{applied}
-use Rattle.whole.specs.declared.arithmetic.Answer.{Answer}
-use Rattle.whole.specs.declared.arithmetic.Answer.TheVariants as answer
 use Rattle.whole.specs.declared.arithmetic.Operator.TheVariants.{Add}
 use Rattle.whole.specs.declared.errors.Error.{Error}
 use Rattle.whole.specs.declared.errors.Error.TheVariants.{NextWithoutFor}
@@ -29,8 +28,6 @@ use Rattle.machine.specs.bridge.Wanted.{Told}
 use Rattle.machine.specs.declared.positions.Position.{Position}
 use Rattle.machine.specs.declared.positions.Next.TheVariants as next
 use Rattle.machine.specs.declared.records.Record.{Record}
-use Rattle.machine.specs.declared.records.Found.{Found}
-use Rattle.machine.specs.declared.records.Found.TheVariants as found
 use Rattle.machine.proofs.Stacking.{by_kind, is_loop, records_top}
 use Rattle.turns.specs.Steps as step
 use Rattle.turns.specs.Steps.{goes_on, store_number, turned, next_on}
@@ -51,7 +48,7 @@ abbrev variable : State → Record → Telling
 variable m entry = name_at m.tables.numbers.names entry.slot
 
 -- what the definition does with the loop that was found, and then with its variable set
-abbrev turning : List ℕ → Telling → Record → List spec.Record → spec.Position → Answer → spec.Machine → step.Next
+abbrev turning : List ℕ → Telling → Record → List spec.Record → spec.Position → Result ℕ Error → spec.Machine → step.Next
 turning text v entry under after x n = turned n v entry.limit entry.step (position_of text (back_of entry)) under after x
 
 abbrev going : List ℕ → Telling → Record → List spec.Record → spec.Position → ℕ → spec.Machine → step.Next
@@ -92,10 +89,10 @@ sound_word {m} {input} {space} {room} slot w s =
 
 module _ (text : List ℕ) {m : State} {input space room : List ℕ} (entry : Record) (test : spec.Record → Bool) (after : spec.Position)
     (only : LoopsOnly test) (sound : Sound m input space room) where
-  abbrev Asked : Found → List Record → Type 0
+  abbrev Asked : Option ℕ → List Record → Type 0
   Asked f = Told text m.tables.numbers.names test m.depth f entry
 
-  pub next_missing : Turns text m input space room (Asked found.None) (nexts test after) (turned_to m (next.Fails NextWithoutFor)) space room
+  pub next_missing : Turns text m input space room (Asked None) (nexts test after) (turned_to m (next.Fails NextWithoutFor)) space room
   next_missing =
       turns_fails (leaves_unprinted sound refl refl refl)
       (λ rs t n s. record { machine = n; is = ap (λ x. next_on n x after) (ap (spec.sought test) s.records ∙ t); same = s })
@@ -105,7 +102,7 @@ module _ (text : List ℕ) {m : State} {input space room : List ℕ} (entry : Re
     abbrev under : List Record → List spec.Record
     under rs = records_in text m.tables.numbers.names rs slot
 
-    module _ (rs : List Record) (t : Asked (found.At slot) rs) where
+    module _ (rs : List Record) (t : Asked (Some slot) rs) where
       entry_loop : record_of text m.tables.numbers.names entry
           ≡ spec.loop (variable m entry) entry.limit entry.step (position_of text (back_of entry))
       entry_loop = is_loop text m.tables.numbers.names entry (loop_found text m.tables.numbers.names test only entry t.passes)
@@ -114,7 +111,7 @@ module _ (text : List ℕ) {m : State} {input space room : List ℕ} (entry : Re
         known : entry.slot < m.tables.numbers.count
         known = rw t.at ((s.placed slot low).known (rw t.at at (loop_found text m.tables.numbers.names test only entry t.passes)))
 
-        nexts_turned : {x : Answer} → applied Add (word_in m.tables.numbers.words entry.slot) entry.step ≡ x
+        nexts_turned : {x : Result ℕ Error} → applied Add (word_in m.tables.numbers.words entry.slot) entry.step ≡ x
             → nexts test after n ≡ turning text (variable m entry) entry (under rs) after x n
         nexts_turned {x} e =
             let g = ap (spec.sought test) s.records ∙ t.is ∙ ap (λ r. spec.found r (under rs)) entry_loop in
@@ -123,7 +120,7 @@ module _ (text : List ℕ) {m : State} {input space room : List ℕ} (entry : Re
             ap (λ z. next_on n z after) g
             ∙ ap (λ z. turning text (variable m entry) entry (under rs) after z n) (ap (λ z. applied Add z entry.step) w ∙ e)
 
-        leads_set : (w : ℕ) → applied Add (word_in m.tables.numbers.words entry.slot) entry.step ≡ answer.Whole w
+        leads_set : (w : ℕ) → applied Add (word_in m.tables.numbers.words entry.slot) entry.step ≡ Ok w
             → Leads text rs (word_set m entry.slot w) input space room (nexts test after n) (going text (variable m entry) entry (under rs) after w)
         leads_set w e =
             let go = going text (variable m entry) entry (under rs) after w in
@@ -131,17 +128,17 @@ module _ (text : List ℕ) {m : State} {input space room : List ℕ} (entry : Re
             (set_is sound.settled entry.slot known w) (leads_number (variable m entry) (told_again _) w sound.settled s go) in
             record { machine = l.machine; is = nexts_turned e ∙ l.is; same = l.same }
 
-    pub next_fault : {e : Error} → applied Add (word_in m.tables.numbers.words entry.slot) entry.step ≡ answer.Fault e
-        → Turns text m input space room (Asked (found.At slot)) (nexts test after) (turned_to m (next.Fails e)) space room
+    pub next_fault : {e : Error} → applied Add (word_in m.tables.numbers.words entry.slot) entry.step ≡ Err e
+        → Turns text m input space room (Asked (Some slot)) (nexts test after) (turned_to m (next.Fails e)) space room
     next_fault e =
         turns_fails (leaves_unprinted sound refl refl refl)
         (λ rs t n s. record { machine = n; is = nexts_turned rs t n s e; same = s })
 
     -- its variable is set
-    module _ (w : ℕ) (sum : applied Add (word_in m.tables.numbers.words entry.slot) entry.step ≡ answer.Whole w) where
+    module _ (w : ℕ) (sum : applied Add (word_in m.tables.numbers.words entry.slot) entry.step ≡ Ok w) where
       -- the loop ends,
       pub next_ends : (q : Position) → Positioned text q → after ≡ position_of text q → passed w entry.limit entry.step ≡ true
-          → Turns text m input space room (Asked (found.At slot)) (nexts test after)
+          → Turns text m input space room (Asked (Some slot)) (nexts test after)
           (turned_to (with_depth (word_set m entry.slot w) slot) (next.On q)) space room
       next_ends q p a e =
           let d : slot ≤ m.records = omega (arith, sound.deep) in
@@ -157,7 +154,7 @@ module _ (text : List ℕ) {m : State} {input space room : List ℕ} (entry : Re
 
       -- or turns once more
       pub next_again : passed w entry.limit entry.step ≡ false
-          → Turns text m input space room (Asked (found.At slot)) (nexts test after)
+          → Turns text m input space room (Asked (Some slot)) (nexts test after)
           (turned_to (with_depth (word_set m entry.slot w) (slot + 1)) (next.On (back_of entry))) space room
       next_again e =
           let d : slot + 1 ≤ m.records = omega (arith, sound.deep) in

@@ -1,4 +1,5 @@
 -- A body that is skipped: the NEXT of its FOR, what that names, and where the run goes on.
+use Rattle.std.specs.Prelude.{None, Some, Option}
 use mathlib.Core.Path.{◌≡◌, refl}
 use mathlib.Core.Bool.{true, false, false≢true}
 use mathlib.Core.List.{List, ◌∷◌}
@@ -18,9 +19,8 @@ use Rattle.grammar.specs.Tests.{on_name}
 use Rattle.grammar.specs.Trees as tree
 use Rattle.grammar.specs.Trees.{Statement, Part, last, more}
 use Rattle.statements.specs.Parts.{head_of}
-use Rattle.statements.specs.Statements.{done, variable_of, by_word, begun_by, begun_at, good_part, part_of}
+use Rattle.statements.specs.Statements.{done, variable_of, by_word, begun_by, begun_at, good_part, part_of, led_by}
 use Rattle.statements.specs.declared.leading.Lead.{Lead}
-use Rattle.statements.specs.declared.leading.Lead.TheVariants.{By, Nothing}
 use Rattle.statements.proofs.Views.{Final, plain, thens, elses, more_view, final_view}
 use Rattle.machine.specs.Machine as spec
 use Rattle.machine.specs.bridge.Holding.{body_of}
@@ -29,7 +29,6 @@ use Rattle.machine.specs.declared.positions.Next.TheVariants as next
 use Rattle.machine.specs.Order.{Stand, later, Partner, none, some, closes, word_of, is_led, pairs_by, next_for}
 use Rattle.order.specs.bridge.Walking.{lines_from, Ahead, lead_at, PartnerAs}
 use Rattle.order.specs.declared.texts.Spot.{Spot}
-use Rattle.order.specs.declared.texts.Walk.TheVariants as walk
 use Rattle.order.proofs.Laws.{stand_here, partner-closes}
 use Rattle.order.proofs.Words.{WordedAs, part_led}
 use Rattle.turns.specs.Steps.{names_other, skipped}
@@ -55,11 +54,11 @@ module _ (s : List ℕ) (name : Telling) where
     by_token (Symbol g) e = let f : tree.next ≡ x = cc in rw (← f)
     by_token Unreadable e = let f : tree.next ≡ x = cc in rw (← f)
 
-    next_names : by_word s Next t ≡ done x u → other_led s name (By Next t) ≡ names_other name x
+    next_names : by_word s Next t ≡ done x u → other_led s name (led_by Next t) ≡ names_other name x
     next_names e = by_token t.token e
 
   by_statement : (x : Statement) {w : Word} (t : Scanned) {u : Scanned} → word_of x ≡ w → by_word s w t ≡ done x u → is_led Next x ≡ true
-      → other_led s name (By w t) ≡ names_other name x
+      → other_led s name (led_by w t) ≡ names_other name x
   by_statement tree.next t e b n = next_names t (rw (← e) at b)
   by_statement (tree.next_of v) t e b n = next_names t (rw (← e) at b)
   by_statement tree.empty t e b n = absurd (false≢true n)
@@ -82,10 +81,10 @@ module _ (s : List ℕ) (name : Telling) where
   by_statement tree.stop t e b n = absurd (false≢true n)
   by_statement tree.remark t e b n = absurd (false≢true n)
 
-  by_lead : (l : Lead) (q : Part) {u : Scanned} → WordedAs l q → begun_by s l ≡ done (head_of q) u → is_led Next (head_of q) ≡ true
+  by_lead : (l : Option Lead) (q : Part) {u : Scanned} → WordedAs l q → begun_by s l ≡ done (head_of q) u → is_led Next (head_of q) ≡ true
       → other_led s name l ≡ names_other name (head_of q)
-  by_lead Nothing q w b n = absurd w
-  by_lead (By w t) q e b n = by_statement (head_of q) t e b n
+  by_lead None q w b n = absurd w
+  by_lead (Some lead) q e b n = by_statement (head_of q) lead.ahead e b n
 
 -- a part that a NEXT begins has it first
 record Led (s : List ℕ) (p : ℕ) (x : Statement) : Type 0 where
@@ -98,9 +97,9 @@ module _ (s : List ℕ) (p : ℕ) where
   led_last (thens f) n = absurd (false≢true n)
   led_last (elses f) n = absurd (false≢true n)
 
-  led_by : (q : Part) {u : Scanned} → part_of s true p ≡ good_part q u → is_led Next (head_of q) ≡ true → Led s p (head_of q)
-  led_by (last q x) e n = led_last (final_view s true p e) n
-  led_by (more q x rest) e n = let f = more_view s true p e in record { end = f.end; is = f.begun }
+  led_part : (q : Part) {u : Scanned} → part_of s true p ≡ good_part q u → is_led Next (head_of q) ≡ true → Led s p (head_of q)
+  led_part (last q x) e n = led_last (final_view s true p e) n
+  led_part (more q x rest) e n = let f = more_view s true p e in record { end = f.end; is = f.begun }
 
 pub spot_names : {text : List ℕ} {spot : Spot} {x : Stand} {xs : List Stand} (name : Telling) → Ahead text spot (x ∷ xs)
     → is_led Next (head_of x.part) ≡ true
@@ -109,7 +108,7 @@ unfolding begun_at
 spot_names {text} {spot} {x} name a n =
     let h = stand_here a in
     let s = body_of (lines_from text spot) in
-    let l = led_by s spot.at.0 x.part h.reads n in
+    let l = led_part s spot.at.0 x.part h.reads n in
     by_lead s name (lead_at text spot) x.part (part_led s spot.at.0 x.part h.end h.reads) l.is n
 
 -- ---- the partner of a FOR
@@ -120,11 +119,11 @@ closes_next x e =
     by_test (is_led Next x) (λ n. n) (λ n. let g = rw (f, n) at e in never (cc))
 
 module _ (text : List ℕ) (name : Telling) where
-  pub skips_none : (p : Partner) → PartnerAs text walk.Over p → Skips text name (next.Fails ForWithoutNext) p
+  pub skips_none : (p : Partner) → PartnerAs text None p → Skips text name (next.Fails ForWithoutNext) p
   skips_none none h = refl
   skips_none (some x) h = absurd h
 
-  pub skips_past : (r : code.Next) {spot : Spot} (at : ℕ) (lines : List Line) (p : Partner) → next_for at lines ≡ p → PartnerAs text (walk.At spot) p
+  pub skips_past : (r : code.Next) {spot : Spot} (at : ℕ) (lines : List Line) (p : Partner) → next_for at lines ≡ p → PartnerAs text (Some spot) p
       → ((x : Stand) (xs : List Stand) → Ahead text spot (x ∷ xs) → is_led Next (head_of x.part) ≡ true → PastNext text name r x)
       → Skips text name r p
   skips_past r at lines none e h k = absurd h

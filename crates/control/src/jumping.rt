@@ -1,5 +1,5 @@
 // GOTO, GOSUB and RETURN.
-ghost use Rattle.std.specs.Prelude.{◌≡◌, List, ℕ};
+ghost use Rattle.std.specs.Prelude.{◌≡◌, List, ℕ, None, Some};
 ghost use Rattle.grammar.specs.Trees as tree;
 ghost use Rattle.machine.specs.Machine as spec;
 ghost use Rattle.machine.specs.bridge.Holding.{state_of, position_of, Positioned, Sound};
@@ -8,12 +8,12 @@ ghost use Rattle.machine.specs.bridge.Wanted.{Told};
 ghost use Rattle.rows.specs.bridge.Rows.{Tabled, Ordered};
 ghost use Rattle.turns.specs.Steps.{do_statement};
 ghost use Rattle.turns.specs.bridge.Turns.{turn_of, after_of, Turns, AnyRecords, FoundBelow};
-ghost use Rattle.loader.specs.declared.lines.LineFound.TheVariants.{Is};
 ghost use Rattle.loader.specs.declared.lines.LineSpan.{LineSpan};
 ghost use Rattle.control.specs.bridge.Answers.{calling_of};
+ghost use Rattle.variables.specs.declared.tables.Tables.{Tables};
 
-use loader::LineFound;
-use machine::{Found, Machine, Next, Record, Turned};
+use loader::LineSpan;
+use machine::{Machine, Next, Record, Turned};
 use rows::{Rows, line_numbered};
 use turns::{after, fails, push, turned_to};
 use whole::Error;
@@ -22,14 +22,14 @@ use words::{LineNumber, Place, Scanned};
 // A missing line is 8.
 pub fn goto(rows: &Rows, number: LineNumber, machine: Machine) -> Turned
     requires { Ordered rows.now }
-    ensures { (text input space room names words labels lengths : List ℕ) (at : ℕ) (after : spec.Position) → Tabled text rows.now
-        → Sound (state_of machine names words labels lengths) input space room
-        → Turns text (state_of machine names words labels lengths) input space room AnyRecords
-        (λ n. do_statement text at (tree.goto number) n after) (turn_of result names words labels lengths) space room }
+    ensures { (text input space room : List ℕ) (tables : Tables) (at : ℕ) (after : spec.Position) → Tabled text rows.now
+        → Sound (state_of machine tables) input space room
+        → Turns text (state_of machine tables) input space room AnyRecords
+        (λ n. do_statement text at (tree.goto number) n after) (turn_of result tables) space room }
 {
     match line_numbered(rows, number) {
-        LineFound::None => fails(machine, Error::UndefinedLine),
-        LineFound::Is(span) => {
+        None => fails(machine, Error::UndefinedLine),
+        Some(span) => {
             let place = span.place;
             turned_to(machine, Next::Enter(place))
         }
@@ -45,12 +45,12 @@ pub enum Calling {
 }
 
 // The line is tested before room for a record.
-fn called(found: LineFound, full: bool) -> Calling
+fn called(found: Option<LineSpan>, full: bool) -> Calling
     ensures { result ≡ calling_of found full }
 {
     match found {
-        LineFound::None => Calling::NoLine,
-        LineFound::Is(_) => if full {
+        None => Calling::NoLine,
+        Some(_) => if full {
             Calling::NoRecord
         } else {
             Calling::Goes
@@ -59,12 +59,12 @@ fn called(found: LineFound, full: bool) -> Calling
 }
 
 // Where a line begins that was found.
-fn place_of(found: LineFound) -> Place
-    ensures { (span : LineSpan) → found ≡ Is span → result ≡ span.place }
+fn place_of(found: Option<LineSpan>) -> Place
+    ensures { (span : LineSpan) → found ≡ Some span → result ≡ span.place }
 {
     match found {
-        LineFound::None => Place(0),
-        LineFound::Is(span) => span.place,
+        None => Place(0),
+        Some(span) => span.place,
     }
 }
 
@@ -76,12 +76,12 @@ pub fn gosub(
     machine: Machine,
 ) -> Turned
     requires { Ordered rows.now }
-    ensures { (text input space room names words labels lengths : List ℕ) (at : ℕ) → Tabled text rows.now
-        → Sound (state_of machine names words labels lengths) input space room
+    ensures { (text input space room : List ℕ) (tables : Tables) (at : ℕ) → Tabled text rows.now
+        → Sound (state_of machine tables) input space room
         → Positioned text (after_of here ahead)
-        → Turns text (state_of machine names words labels lengths) input space room AnyRecords
+        → Turns text (state_of machine tables) input space room AnyRecords
         (λ n. do_statement text at (tree.gosub number) n (position_of text (after_of here ahead)))
-        (turn_of result names words labels lengths) space room }
+        (turn_of result tables) space room }
 {
     let full = machine.records <= machine.depth;
     let found = line_numbered(rows, number);
@@ -96,15 +96,15 @@ pub fn gosub(
 }
 
 // Records are dropped through the nearest GOSUB's.
-pub fn come_back(machine: Machine, found: Found, entry: Record) -> Turned
+pub fn come_back(machine: Machine, found: Option<usize>, entry: Record) -> Turned
     requires { FoundBelow machine.depth found }
-    ensures { (text input space room names words labels lengths : List ℕ) (at : ℕ) (after : spec.Position) → Sound (state_of machine names words labels lengths) input space room
-        → Turns text (state_of machine names words labels lengths) input space room (Told text names is_call machine.depth found entry)
-        (λ n. do_statement text at tree.return n after) (turn_of result names words labels lengths) space room }
+    ensures { (text input space room : List ℕ) (tables : Tables) (at : ℕ) (after : spec.Position) → Sound (state_of machine tables) input space room
+        → Turns text (state_of machine tables) input space room (Told text tables.numbers.names is_call machine.depth found entry)
+        (λ n. do_statement text at tree.return n after) (turn_of result tables) space room }
 {
     match found {
-        Found::None => fails(machine, Error::ReturnWithoutGosub),
-        Found::At(slot) => {
+        None => fails(machine, Error::ReturnWithoutGosub),
+        Some(slot) => {
             let mut m = machine;
             m.depth = slot;
             turned_to(m, Next::On(entry.back()))

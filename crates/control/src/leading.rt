@@ -1,5 +1,5 @@
 // GOTO, GOSUB, FOR and NEXT, from the token after the word on.
-ghost use Rattle.std.specs.Prelude.{List, ℕ, ◌≤◌, length};
+ghost use Rattle.std.specs.Prelude.{List, ℕ, ◌≤◌, length, Option};
 ghost use Rattle.machine.specs.bridge.Holding.{state_of, Settled, Sound};
 ghost use Rattle.turns.specs.bridge.Turns.{turn_of, FoundBelow};
 ghost use Rattle.order.specs.bridge.Walking.{Lined};
@@ -8,15 +8,16 @@ ghost use Rattle.words.specs.declared.symbols.Word.TheVariants as led;
 ghost use Rattle.statements.specs.Statements.{by_word};
 ghost use Rattle.turns.specs.bridge.Doing.{Begins, Does};
 ghost use Rattle.words.specs.Places.{longest_line};
+ghost use Rattle.variables.specs.declared.tables.Tables.{Tables};
 
 use crate::jumping::{gosub, goto};
 use crate::looping::{for_loop, next_turn};
-use grammar::{NamedLine, line_of};
-use machine::{Found, Machine, Record, Turned};
+use grammar::line_of;
+use machine::{Machine, Record, Turned};
 use rows::Rows;
 use scanner::token_at;
 use turns::fails;
-use variables::{NameTable, Tables};
+use variables::Tables;
 use whole::Error;
 use words::{Kind, Place, Scanned, Token};
 
@@ -28,23 +29,19 @@ pub fn count(
     at: Place,
     target: Scanned,
     machine: Machine,
-    names: &mut NameTable,
-    words: &mut [u16; Tables::MOST],
-    labels: &NameTable,
-    lengths: &[u8; Tables::MOST],
-    found: Found,
+    tables: &mut Tables,
+    found: Option<usize>,
     space: &mut [u8],
 ) -> Turned
-    requires { Begins (by_word line.now led.For target) × ((length line.now ≤ longest_line) × (Settled (state_of machine names.old words.old labels.now lengths.now) space.old × (FoundBelow machine.depth found × Lined text.now here.0))) }
-    ensures { (input room : List ℕ) (entry : Record) → Sound (state_of machine names.old words.old labels.now lengths.now) input space.old room
-        → Does text.now line.now here at.0 (state_of machine names.old words.old labels.now lengths.now) found entry input space.old room (turn_of result names.new words.new labels.now lengths.now) space.new room (by_word line.now led.For target) }
+    requires { Begins (by_word line.now led.For target) × ((length line.now ≤ longest_line) × (Settled (state_of machine tables.old) space.old × (FoundBelow machine.depth found × Lined text.now here.0))) }
+    ensures { (input room : List ℕ) (entry : Record) → Sound (state_of machine tables.old) input space.old room
+        → Does text.now line.now here at.0 (state_of machine tables.old) found entry input space.old room (turn_of result tables.new) space.new room (by_word line.now led.For target) }
 {
     let token = target.token;
     let equals = token_at(line, target.next);
     match token {
         Token::Named(name) => for_loop(
-            text, line, here, at, name, equals, machine, names, words, labels, lengths, found,
-            space,
+            text, line, here, at, name, equals, machine, tables, found, space,
         ),
         _ => fails(machine, Error::Syntax),
     }
@@ -56,14 +53,14 @@ pub fn next_loop(
     here: Place,
     target: Scanned,
     machine: Machine,
-    words: &mut [u16; Tables::MOST],
-    found: Found,
+    tables: &mut Tables,
+    found: Option<usize>,
     entry: Record,
 ) -> Turned
     requires { FoundBelow machine.depth found }
-    ensures { (text input space room names labels lengths : List ℕ) (at : ℕ) → Sound (state_of machine names words.old labels lengths) input space room
-        → Does text line.now here at (state_of machine names words.old labels lengths) found entry input space room
-        (turn_of result names words.new labels lengths) space room (by_word line.now led.Next target) }
+    ensures { (text input space room : List ℕ) (at : ℕ) → Sound (state_of machine tables.old) input space room
+        → Does text line.now here at (state_of machine tables.old) found entry input space room
+        (turn_of result tables.new) space room (by_word line.now led.Next target) }
 {
     let token = target.token;
     match token {
@@ -75,40 +72,40 @@ pub fn next_loop(
                     here,
                     token_at(line, target.next),
                     machine,
-                    words,
+                    tables,
                     found,
                     entry,
                 ),
             }
         }
-        _ => next_turn(here, target, machine, words, found, entry),
+        _ => next_turn(here, target, machine, tables, found, entry),
     }
 }
 
 pub fn jump(rows: &Rows, target: Scanned, machine: Machine) -> Turned
     requires { Ordered rows.now }
-    ensures { (text line input space room names words labels lengths : List ℕ) (here : Place) (at : ℕ) (found : Found) (entry : Record) → Tabled text rows.now
-        → Sound (state_of machine names words labels lengths) input space room
-        → Does text line here at (state_of machine names words labels lengths) found entry input space room
-        (turn_of result names words labels lengths) space room (by_word line led.Goto target) }
+    ensures { (text line input space room : List ℕ) (tables : Tables) (here : Place) (at : ℕ) (found : Option ℕ) (entry : Record) → Tabled text rows.now
+        → Sound (state_of machine tables) input space room
+        → Does text line here at (state_of machine tables) found entry input space room
+        (turn_of result tables) space room (by_word line led.Goto target) }
 {
     let token = target.token;
     match line_of(token) {
-        NamedLine::NoLine => fails(machine, Error::Syntax),
-        NamedLine::Names(number) => goto(rows, number, machine),
+        None => fails(machine, Error::Syntax),
+        Some(number) => goto(rows, number, machine),
     }
 }
 
 pub fn call(rows: &Rows, line: &[u8], here: Place, target: Scanned, machine: Machine) -> Turned
     requires { Ordered rows.now }
-    ensures { (text input space room names words labels lengths : List ℕ) (at : ℕ) (found : Found) (entry : Record) → Tabled text rows.now
-        → Sound (state_of machine names words labels lengths) input space room
-        → Does text line.now here at (state_of machine names words labels lengths) found entry input space room
-        (turn_of result names words labels lengths) space room (by_word line.now led.Gosub target) }
+    ensures { (text input space room : List ℕ) (tables : Tables) (at : ℕ) (found : Option ℕ) (entry : Record) → Tabled text rows.now
+        → Sound (state_of machine tables) input space room
+        → Does text line.now here at (state_of machine tables) found entry input space room
+        (turn_of result tables) space room (by_word line.now led.Gosub target) }
 {
     let token = target.token;
     match line_of(token) {
-        NamedLine::NoLine => fails(machine, Error::Syntax),
-        NamedLine::Names(number) => gosub(rows, number, here, token_at(line, target.next), machine),
+        None => fails(machine, Error::Syntax),
+        Some(number) => gosub(rows, number, here, token_at(line, target.next), machine),
     }
 }

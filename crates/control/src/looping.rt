@@ -1,5 +1,5 @@
 // FOR and NEXT.
-ghost use Rattle.std.specs.Prelude.{◌≡◌, Bool, List, ℕ, ◌<◌};
+ghost use Rattle.std.specs.Prelude.{◌≡◌, Bool, List, ℕ, ◌<◌, Err, None, Ok, Some};
 ghost use Rattle.words.specs.Names.{name_bytes, telling_of};
 ghost use Rattle.grammar.specs.Trees as tree;
 ghost use Rattle.grammar.specs.Trees.{Formula};
@@ -10,29 +10,29 @@ ghost use Rattle.machine.specs.Machine as spec;
 ghost use Rattle.machine.specs.Machine.{sought, is_loop_of};
 ghost use Rattle.machine.specs.bridge.Holding.{state_of, position_of, Positioned, Settled, Sound};
 ghost use Rattle.machine.specs.bridge.Wanted.{Told};
-ghost use Rattle.machine.specs.declared.records.Found.TheVariants as found;
 ghost use Rattle.order.specs.bridge.Walking.{Lined};
 ghost use Rattle.turns.specs.Steps.{from_step, from_limit, next_on, do_statement};
 ghost use Rattle.turns.specs.bridge.Turns.{turn_of, after_of, Turns, FoundBelow};
-ghost use Rattle.control.specs.bridge.Answers.{Counts, Stepped, Limited, LoopsOnly, step_of, dropped_to, word_in, words_set};
+ghost use Rattle.control.specs.bridge.Answers.{Counts, Stepped, Limited, LoopsOnly, step_of, dropped_to, word_in, with_word};
 ghost use Rattle.control.specs.bridge.Skipping.{LoopBegun};
+ghost use Rattle.variables.specs.declared.tables.Tables.{Tables};
 
 use crate::skipping::skip_body;
 use grammar::is_keyword;
-use machine::{Found, Machine, Next, Record, Turned, passed};
+use machine::{Machine, Next, Record, Turned, passed};
 use scanner::token_at;
 use turns::{after, fails, goes_on, push, turned_to, value, with_number};
-use variables::{NameTable, Tables, Worked, mismatch};
-use whole::{Answer, Error, Operator, apply};
+use variables::{Numbers, Tables, Worked, mismatch};
+use whole::{Error, Operator, apply};
 use words::{Kind, Name, Place, Scanned, Word};
 
 // An older loop of the variable is dropped with all above it.
-fn dropped_to(machine: Machine, found: Found) -> Machine
-    ensures { (names words labels lengths : List ℕ) → state_of result names words labels lengths ≡ dropped_to (state_of machine names words labels lengths) found }
+fn dropped_to(machine: Machine, found: Option<usize>) -> Machine
+    ensures { (tables : Tables) → state_of result tables ≡ dropped_to (state_of machine tables) found }
 {
     match found {
-        Found::None => machine,
-        Found::At(slot) => {
+        None => machine,
+        Some(slot) => {
             let mut m = machine;
             m.depth = slot;
             m
@@ -52,15 +52,14 @@ fn begin_loop(
     step: u16,
     ahead: Scanned,
     machine: Machine,
-    names: &mut NameTable,
-    words: &mut [u16; Tables::MOST],
-    found: Found,
+    tables: &mut Tables,
+    found: Option<usize>,
 ) -> Turned
     requires { Lined text.now here.0 }
-    ensures { (labels lengths : List ℕ) → LoopBegun text.now at (state_of machine names.old words.old labels lengths) (telling_of (name_bytes line.now name)) from limit step (after_of here ahead) found
-        (turn_of result names.new words.new labels lengths) }
+    ensures { LoopBegun text.now at (state_of machine tables.old) (telling_of (name_bytes line.now name)) from limit step (after_of here ahead) found
+        (turn_of result tables.new) }
 {
-    let stored = with_number(machine, names, words, line, name, from);
+    let stored = with_number(machine, tables, line, name, from);
     let set = stored.machine;
     if !stored.ok {
         return fails(set, Error::OutOfMemory);
@@ -85,32 +84,29 @@ fn with_step(
     limit: u16,
     follow: Scanned,
     machine: Machine,
-    names: &mut NameTable,
-    words: &mut [u16; Tables::MOST],
-    labels: &NameTable,
-    lengths: &[u8; Tables::MOST],
-    found: Found,
+    tables: &mut Tables,
+    found: Option<usize>,
     space: &mut [u8],
 ) -> Turned
-    requires { Stepped line.now follow × (Settled (state_of machine names.old words.old labels.now lengths.now) space.old × (FoundBelow machine.depth found × Lined text.now here.0)) }
-    ensures { (input room : List ℕ) (by : Formula) (u : Scanned) → Sound (state_of machine names.old words.old labels.now lengths.now) input space.old room → Positioned text.now (after_of here u)
+    requires { Stepped line.now follow × (Settled (state_of machine tables.old) space.old × (FoundBelow machine.depth found × Lined text.now here.0)) }
+    ensures { (input room : List ℕ) (by : Formula) (u : Scanned) → Sound (state_of machine tables.old) input space.old room → Positioned text.now (after_of here u)
         → step_of line.now follow ≡ formulas.good by u → (entry : Record)
-        → Turns text.now (state_of machine names.old words.old labels.now lengths.now) input space.old room (Told text.now names.old (is_loop_of (telling_of (name_bytes line.now name))) machine.depth found entry)
-        (from_step (telling_of (name_bytes line.now name)) at.0 (position_of text.now (after_of here u)) by from limit) (turn_of result names.new words.new labels.now lengths.now) space.new room }
+        → Turns text.now (state_of machine tables.old) input space.old room (Told text.now tables.old.numbers.names (is_loop_of (telling_of (name_bytes line.now name))) machine.depth found entry)
+        (from_step (telling_of (name_bytes line.now name)) at.0 (position_of text.now (after_of here u)) by from limit) (turn_of result tables.new) space.new room }
 {
     let token = follow.token;
     if !is_keyword(Word::Step, token) {
         return begin_loop(
-            text, line, here, at, name, from, limit, 1, follow, machine, names, words, found,
+            text, line, here, at, name, from, limit, 1, follow, machine, tables, found,
         );
     }
     let first = token_at(line, follow.next);
-    let worked = value(line, first, machine, names, words, labels, lengths, space);
-    let Worked::Whole(step, ahead) = worked else {
+    let worked = value(line, first, machine, tables, space);
+    let Ok(Worked::Whole(step, ahead)) = worked else {
         return fails(machine, mismatch(worked));
     };
     begin_loop(
-        text, line, here, at, name, from, limit, step, ahead, machine, names, words, found,
+        text, line, here, at, name, from, limit, step, ahead, machine, tables, found,
     )
 }
 
@@ -124,27 +120,23 @@ fn with_limit(
     from: u16,
     first: Scanned,
     machine: Machine,
-    names: &mut NameTable,
-    words: &mut [u16; Tables::MOST],
-    labels: &NameTable,
-    lengths: &[u8; Tables::MOST],
-    found: Found,
+    tables: &mut Tables,
+    found: Option<usize>,
     space: &mut [u8],
 ) -> Turned
-    requires { Limited line.now first × (Settled (state_of machine names.old words.old labels.now lengths.now) space.old × (FoundBelow machine.depth found × Lined text.now here.0)) }
-    ensures { (input room : List ℕ) (to by : Formula) (t u : Scanned) → Sound (state_of machine names.old words.old labels.now lengths.now) input space.old room
+    requires { Limited line.now first × (Settled (state_of machine tables.old) space.old × (FoundBelow machine.depth found × Lined text.now here.0)) }
+    ensures { (input room : List ℕ) (to by : Formula) (t u : Scanned) → Sound (state_of machine tables.old) input space.old room
         → Positioned text.now (after_of here u) → formula_of line.now first ≡ formulas.good to t
         → step_of line.now t ≡ formulas.good by u → (entry : Record)
-        → Turns text.now (state_of machine names.old words.old labels.now lengths.now) input space.old room (Told text.now names.old (is_loop_of (telling_of (name_bytes line.now name))) machine.depth found entry)
-        (from_limit (telling_of (name_bytes line.now name)) at.0 (position_of text.now (after_of here u)) to by from) (turn_of result names.new words.new labels.now lengths.now) space.new room }
+        → Turns text.now (state_of machine tables.old) input space.old room (Told text.now tables.old.numbers.names (is_loop_of (telling_of (name_bytes line.now name))) machine.depth found entry)
+        (from_limit (telling_of (name_bytes line.now name)) at.0 (position_of text.now (after_of here u)) to by from) (turn_of result tables.new) space.new room }
 {
-    let worked = value(line, first, machine, names, words, labels, lengths, space);
-    let Worked::Whole(limit, follow) = worked else {
+    let worked = value(line, first, machine, tables, space);
+    let Ok(Worked::Whole(limit, follow)) = worked else {
         return fails(machine, mismatch(worked));
     };
     with_step(
-        text, line, here, at, name, from, limit, follow, machine, names, words, labels, lengths,
-        found, space,
+        text, line, here, at, name, from, limit, follow, machine, tables, found, space,
     )
 }
 
@@ -157,51 +149,49 @@ pub fn for_loop(
     name: Name,
     equals: Scanned,
     machine: Machine,
-    names: &mut NameTable,
-    words: &mut [u16; Tables::MOST],
-    labels: &NameTable,
-    lengths: &[u8; Tables::MOST],
-    found: Found,
+    tables: &mut Tables,
+    found: Option<usize>,
     space: &mut [u8],
 ) -> Turned
-    requires { Counts line.now name equals × (Settled (state_of machine names.old words.old labels.now lengths.now) space.old × (FoundBelow machine.depth found × Lined text.now here.0)) }
-    ensures { (input room : List ℕ) (a b c : Formula) (u : Scanned) → Sound (state_of machine names.old words.old labels.now lengths.now) input space.old room → Positioned text.now (after_of here u)
+    requires { Counts line.now name equals × (Settled (state_of machine tables.old) space.old × (FoundBelow machine.depth found × Lined text.now here.0)) }
+    ensures { (input room : List ℕ) (a b c : Formula) (u : Scanned) → Sound (state_of machine tables.old) input space.old room → Positioned text.now (after_of here u)
         → for_at line.now (variable_of line.now name) equals ≡ done (tree.for (variable_of line.now name) a b c) u
-        → (entry : Record) → Turns text.now (state_of machine names.old words.old labels.now lengths.now) input space.old room
-        (Told text.now names.old (is_loop_of (telling_of (name_bytes line.now name))) machine.depth found entry)
-        (λ n. do_statement text.now at.0 (tree.for (variable_of line.now name) a b c) n (position_of text.now (after_of here u))) (turn_of result names.new words.new labels.now lengths.now) space.new room }
+        → (entry : Record) → Turns text.now (state_of machine tables.old) input space.old room
+        (Told text.now tables.old.numbers.names (is_loop_of (telling_of (name_bytes line.now name))) machine.depth found entry)
+        (λ n. do_statement text.now at.0 (tree.for (variable_of line.now name) a b c) n (position_of text.now (after_of here u))) (turn_of result tables.new) space.new room }
 {
     let kind = name.kind;
     let Kind::Whole = kind else {
         return fails(machine, Error::TypeMismatch);
     };
     let start = token_at(line, equals.next);
-    let worked = value(line, start, machine, names, words, labels, lengths, space);
-    let Worked::Whole(from, to) = worked else {
+    let worked = value(line, start, machine, tables, space);
+    let Ok(Worked::Whole(from, to)) = worked else {
         return fails(machine, mismatch(worked));
     };
     let limit = token_at(line, to.next);
     with_limit(
-        text, line, here, at, name, from, limit, machine, names, words, labels, lengths, found,
-        space,
+        text, line, here, at, name, from, limit, machine, tables, found, space,
     )
 }
 
 // The number at an entry.
-fn word_at(words: &[u16; Tables::MOST], slot: usize) -> u16
-    ensures { result ≡ word_in words.now slot }
+fn word_at(numbers: &Numbers, slot: usize) -> u16
+    ensures { result ≡ word_in numbers.now.words slot }
 {
-    if slot < Tables::MOST { words[slot] } else { 0 }
+    if slot < Tables::MOST {
+        numbers.words[slot]
+    } else {
+        0
+    }
 }
 
-// A number at the entry of one of so many variables.
-fn set_word(words: &mut [u16; Tables::MOST], numbers: usize, slot: usize, word: u16)
-    ensures { words.new ≡ words_set numbers words.old slot word }
+// A number at the entry of a variable.
+fn set_word(numbers: &mut Numbers, slot: usize, word: u16)
+    ensures { numbers.new ≡ with_word numbers.old slot word }
 {
-    if slot < numbers {
-        if slot < Tables::MOST {
-            words[slot] = word;
-        }
+    if slot < numbers.count && slot < Tables::MOST {
+        numbers.words[slot] = word;
     }
 }
 
@@ -210,21 +200,25 @@ fn turn(
     here: Place,
     ahead: Scanned,
     machine: Machine,
-    words: &mut [u16; Tables::MOST],
+    tables: &mut Tables,
     slot: usize,
     entry: Record,
 ) -> Turned
     requires { slot < machine.depth }
-    ensures { (text input space room names labels lengths : List ℕ) (test : spec.Record → Bool) → LoopsOnly test
-        → Sound (state_of machine names words.old labels lengths) input space room → Positioned text (after_of here ahead)
-        → Turns text (state_of machine names words.old labels lengths) input space room (Told text names test machine.depth (found.At slot) entry)
-        (λ n. next_on n (sought test n.records) (position_of text (after_of here ahead))) (turn_of result names words.new labels lengths) space room }
+    ensures { (text input space room : List ℕ) (test : spec.Record → Bool) → LoopsOnly test
+        → Sound (state_of machine tables.old) input space room → Positioned text (after_of here ahead)
+        → Turns text (state_of machine tables.old) input space room (Told text tables.old.numbers.names test machine.depth (Some slot) entry)
+        (λ n. next_on n (sought test n.records) (position_of text (after_of here ahead))) (turn_of result tables.new) space room }
 {
     let variable = entry.slot;
-    match apply(Operator::Add, word_at(words, variable), entry.step) {
-        Answer::Fault(error) => fails(machine, error),
-        Answer::Whole(word) => {
-            set_word(words, machine.numbers, variable, word);
+    match apply(
+        Operator::Add,
+        word_at(&tables.numbers, variable),
+        entry.step,
+    ) {
+        Err(error) => fails(machine, error),
+        Ok(word) => {
+            set_word(&mut tables.numbers, variable, word);
             let mut m = machine;
             if passed(word, entry.limit, entry.step) {
                 m.depth = slot;
@@ -241,18 +235,18 @@ pub fn next_turn(
     here: Place,
     ahead: Scanned,
     machine: Machine,
-    words: &mut [u16; Tables::MOST],
-    found: Found,
+    tables: &mut Tables,
+    found: Option<usize>,
     entry: Record,
 ) -> Turned
     requires { FoundBelow machine.depth found }
-    ensures { (text input space room names labels lengths : List ℕ) (test : spec.Record → Bool) → LoopsOnly test
-        → Sound (state_of machine names words.old labels lengths) input space room → Positioned text (after_of here ahead)
-        → Turns text (state_of machine names words.old labels lengths) input space room (Told text names test machine.depth found entry)
-        (λ n. next_on n (sought test n.records) (position_of text (after_of here ahead))) (turn_of result names words.new labels lengths) space room }
+    ensures { (text input space room : List ℕ) (test : spec.Record → Bool) → LoopsOnly test
+        → Sound (state_of machine tables.old) input space room → Positioned text (after_of here ahead)
+        → Turns text (state_of machine tables.old) input space room (Told text tables.old.numbers.names test machine.depth found entry)
+        (λ n. next_on n (sought test n.records) (position_of text (after_of here ahead))) (turn_of result tables.new) space room }
 {
     match found {
-        Found::None => fails(machine, Error::NextWithoutFor),
-        Found::At(slot) => turn(here, ahead, machine, words, slot, entry),
+        None => fails(machine, Error::NextWithoutFor),
+        Some(slot) => turn(here, ahead, machine, tables, slot, entry),
     }
 }

@@ -9,7 +9,7 @@ ghost use Rattle.order.specs.bridge.Walking.{Lined, Spotted, Ahead};
 ghost use Rattle.control.specs.bridge.Skipping.{other_named, other_led, PastNext, Skips};
 
 use machine::Next;
-use order::{Spot, Walk, lead_of, partner_after, position_past};
+use order::{Spot, lead_of, partner_after, position_past};
 use statements::Lead;
 use whole::Error;
 use words::{Kind, Name, Place, Token, Word, is_told, telling_of};
@@ -29,13 +29,13 @@ fn is_other(line: &[u8], found: Name, own: &[u8], name: Name) -> bool
 }
 
 // Whether a NEXT that is led so names another variable.
-fn names_other(line: &[u8], lead: Lead, own: &[u8], name: Name) -> bool
+fn names_other(line: &[u8], lead: Option<Lead>, own: &[u8], name: Name) -> bool
     ensures { result ≡ other_led line.now (telling_of (name_bytes own.now name)) lead }
 {
-    let Lead::By(_, target) = lead else {
+    let Some(lead) = lead else {
         return false;
     };
-    let token = target.token;
+    let token = lead.ahead.token;
     match token {
         Token::Named(found) => is_other(line, found, own, name),
         _ => false,
@@ -64,7 +64,7 @@ pub(crate) fn skip_body(text: &[u8], line: Place, at: Place, own: &[u8], name: N
     ensures { Skips text.now (telling_of (name_bytes own.now name)) result (next_for at.0 (lines_at text.now line.0)) }
 {
     match partner_after(text, line, at, Word::For, Word::Next) {
-        Walk::Over => Next::Fails(Error::ForWithoutNext),
-        Walk::At(spot) => past_next(text, spot, own, name),
+        None => Next::Fails(Error::ForWithoutNext),
+        Some(spot) => past_next(text, spot, own, name),
     }
 }

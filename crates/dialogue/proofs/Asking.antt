@@ -1,4 +1,5 @@
 -- LINE INPUT: its text is printed, a line of input is taken, and the variable is set to it.
+use Rattle.std.specs.Prelude.{Err, Ok}
 use mathlib.Core.Path.{◌≡◌, refl, sym, ap, ◌∙◌}
 use mathlib.Core.Bool.{true, false}
 use mathlib.Core.List.{List, [], ◌∷◌}
@@ -34,8 +35,10 @@ use Rattle.grammar.specs.Trees.{Variable, line_input}
 use Rattle.grammar.specs.Formulas.{after, quoted_bytes}
 use Rattle.statements.specs.Statements.{Begun, bad, done, variable_of, target_at, input_at}
 use Rattle.statements.proofs.Findings.{by_name, by_text}
+use Rattle.variables.specs.declared.tables.Tables.{Tables}
 use Rattle.variables.specs.bridge.Memory.{Tells, Storable, space_stored}
 use Rattle.variables.specs.Tables.{sum_of}
+use Rattle.variables.specs.declared.tables.Tables.{Tables}
 use Rattle.formulas.specs.bridge.Memory.{Scans}
 use Rattle.machine.specs.Machine as spec
 use Rattle.machine.specs.Machine.{with_input, longest_input_line}
@@ -47,7 +50,6 @@ use Rattle.machine.specs.declared.positions.Next.{Next}
 use Rattle.machine.specs.declared.positions.Next.TheVariants as next
 use Rattle.turns.specs.bridge.Turns.{Turn, turned_to, after_of, Leaves, Leads, Turns, AnyRecords, with_printer, with_taken, string_set, stored_turn}
 use Rattle.machine.specs.declared.records.Record.{Record}
-use Rattle.machine.specs.declared.taking.InputLine.TheVariants as asked
 use Rattle.machine.proofs.Takes.{took, untaken}
 use Rattle.machine.proofs.Writing.{not_printed, room_length, written_grows, room_above, fitting_after, write-full}
 use Rattle.turns.specs.Steps as step
@@ -197,14 +199,14 @@ module _ (text : List ℕ) {m : State} {input space room : List ℕ} (sound : So
         (t w)
 
   -- so where none is taken, and where one is
-  pub takes_fault : {x : Error} → taken_at input m.taken ≡ asked.Fault x
+  pub takes_fault : {x : Error} → taken_at input m.taken ≡ Err x
       → Turns text m input space room AnyRecords (takes_line v after) (turned_to m (next.Fails x)) space room
   takes_fault e =
       untaken input m.taken (λ x. Turns text m input space room AnyRecords (takes_line v after) (turned_to m (next.Fails x)) space room) e
       takes_none
       (λ h b. takes_long h (reach input m.taken h refl) b)
 
-  pub takes_line_lem : {e : Extent} → taken_at input m.taken ≡ asked.Is e → {r : Turn} {space' : List ℕ}
+  pub takes_line_lem : {e : Extent} → taken_at input m.taken ≡ Ok e → {r : Turn} {space' : List ℕ}
       → (Sound (with_taken m e.next.0) input space room
       → Turns text (with_taken m e.next.0) input space room AnyRecords (fills_in v (take (e.end.0 - m.taken) (drop m.taken input)) after) r space' room)
       → Turns text m input space room AnyRecords (takes_line v after) r space' room
@@ -291,7 +293,7 @@ module _ (program : List ℕ) {m : State} {input space room : List ℕ} (sound :
       ((rw (f, g) at t) l.sound))
 
 -- printing leaves the strings
-pub laid_printed : {m m' : Machine} {lengths space : List ℕ} {p : Printer} → state_of m' [] [] [] lengths ≡ with_printer (state_of m [] [] [] lengths) p
+pub laid_printed : {m m' : Machine} {tables : Tables} {lengths space : List ℕ} {p : Printer} → state_of m' tables ≡ with_printer (state_of m tables) p
     → Laid m lengths space → Laid m' lengths space
 laid_printed {m} {m'} e l = let u : m'.used.0 ≡ m.used.0 = ap (λ x. x.used) e in record { all = l.all ∙ sym u; within = rw u l.within }
 

@@ -1,4 +1,5 @@
 -- The code's loop over the items of a PRINT.
+use Rattle.std.specs.Prelude.{Err, Ok}
 use mathlib.Core.Path.{◌≡◌, refl, ◌∙◌}
 use mathlib.Core.Bool.{Bool, true, false, cond}
 use mathlib.Core.List.{List, [], ◌∷◌}
@@ -29,7 +30,6 @@ use Rattle.turns.specs.Steps as step
 use Rattle.turns.specs.Steps.{goes_on, print_items, do_statement}
 use Rattle.turns.specs.bridge.Turns.{turned_to, after_of, Leads, Turns, AnyRecords, with_printer}
 use Rattle.dialogue.specs.bridge.Showing.{Itemed, show_item, Shows, line_end, end_written, ended_turn, ended_room}
-use Rattle.dialogue.specs.declared.outputting.Shown.TheVariants as answer
 use Rattle.turns.proofs.Leading.{Led, leads_on, leads_self, turns_fails, turns_on}
 use Rattle.dialogue.proofs.Printing.{printed_met, leads_written, Printed, printed_none, printed_more, printed_leaves}
 use Rattle.dialogue.proofs.Items.{Fresh, separates_item, Advances, no_items}
@@ -125,7 +125,7 @@ module _ {line : List ℕ} {all : List Item} {end : Scanned} {m : State} {space 
 
     -- it is shown, and the others are left
     pub prints_on : {p : Printer} {u : Scanned} {space'' room'' : List ℕ}
-        → Shows m' a.first a.next space' room' (answer.On p u) space'' room''
+        → Shows m' a.first a.next space' room' (Ok (p, u)) space'' room''
         → Prints line all end m space room (with_printer m' p) u (is_separator item.token) space'' room''
     prints_on {p} s =
         rw s.goes
@@ -142,7 +142,7 @@ module _ {line : List ℕ} {all : List Item} {end : Scanned} {m : State} {space 
 
     -- an error ends the statement
     pub prints_fails : {e : Error} {space'' room'' : List ℕ}
-        → Shows m' a.first a.next space' room' (answer.Fault e) space'' room''
+        → Shows m' a.first a.next space' room' (Err e) space'' room''
         → (text input : List ℕ) (here : Place) (at : ℕ) → Sound m input space room
         → Turns text m input space room AnyRecords (λ n. do_statement text at (tree.print all) n (position_of text (after_of here end)))
         (turned_to m' (next.Fails e)) space'' room''

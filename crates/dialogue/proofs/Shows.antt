@@ -1,4 +1,5 @@
 -- What the code shows of one item is what the definition does with it.
+use Rattle.std.specs.Prelude.{Result, Ok, Err}
 use mathlib.Core.Path.{◌≡◌, refl, sym, ap, subst, ◌∙◌}
 use mathlib.Core.Bool.{true, false, false≢true}
 use mathlib.Core.List.{List}
@@ -20,7 +21,7 @@ use Rattle.grammar.specs.Trees.{Formula, Item, comma, semicolon, shown}
 use Rattle.grammar.specs.Formulas.{good, after, formula_of}
 use Rattle.statements.specs.Statements.{is_separator}
 use Rattle.variables.specs.declared.values.Worked.{Worked}
-use Rattle.variables.specs.declared.values.Worked.TheVariants.{Whole, Text, Fault}
+use Rattle.variables.specs.declared.values.Worked.TheVariants.{Whole, Text}
 use Rattle.machine.specs.Machine as spec
 use Rattle.machine.specs.bridge.Holding.{printed_as, Settled, Fitting, Same, State}
 use Rattle.machine.specs.declared.state.Printer.{Printer}
@@ -32,11 +33,10 @@ use Rattle.turns.specs.Steps as step
 use Rattle.turns.specs.Steps.{written, shown_value}
 use Rattle.turns.specs.bridge.Turns.{turned_to, after_of, Valued, Leads, with_printer}
 use Rattle.dialogue.specs.bridge.Showing.{shown_as, ShowsWorked, ItemAt, show_item, shown_met, printer_of, Onward, Shows, end_written}
-use Rattle.dialogue.specs.declared.outputting.Shown.{Shown}
-use Rattle.dialogue.specs.declared.outputting.Shown.TheVariants as answer
 use Rattle.turns.proofs.Leading.{leads_on, leads_self}
 use Rattle.turns.proofs.Working.{leads_worked}
 use Rattle.dialogue.proofs.Printing.{printed_met, leads_written}
+use Rattle.whole.specs.declared.errors.Error.{Error}
 
 -- ---- some bytes
 
@@ -87,7 +87,7 @@ module _ {m : State} {space room : List ℕ} (fit : Fitting m.printer room) (u :
       (written n (replicate (14 - k % 14) blank) go) (printed_met r.ok go))
       (sym same.column) (leads_written same fit blanks go))
 
-  pub shows_semicolon : Shows m semicolon u space room (answer.On m.printer u) space room
+  pub shows_semicolon : Shows m semicolon u space room (Ok (m.printer, u)) space room
   shows_semicolon =
       record {
         space_long = refl;
@@ -100,15 +100,15 @@ module _ {m : State} {space room : List ℕ} (fit : Fitting m.printer room) (u :
       }
 
 -- equal answers show the same: over variables, as the terms that stand for them are dear to rewrite
-shows_as : {m : State} {i : Item} {u : Scanned} {space room space' room' room'' : List ℕ} {r s : Shown} → r ≡ s → room' ≡ room''
+shows_as : {m : State} {i : Item} {u : Scanned} {space room space' room' room'' : List ℕ} {r s : Result (Printer × Scanned) Error} → r ≡ s → room' ≡ room''
     → Shows m i u space room s space' room'' → Shows m i u space room r space' room'
 shows_as e f h = rw (e, f) h
 
-module _ {m : State} {f : Formula} {u : Scanned} {space room space' room' : List ℕ} {r : Shown} (settled : Settled m space)
+module _ {m : State} {f : Formula} {u : Scanned} {space room space' room' : List ℕ} {r : Result (Printer × Scanned) Error} (settled : Settled m space)
     (fit : Fitting m.printer room) where
-  pub shows_worked : (w : Worked) → Valued m f u space w space' → ShowsWorked w m.used m.printer space' room r room'
+  pub shows_worked : (w : Result Worked Error) → Valued m f u space w space' → ShowsWorked w m.used m.printer space' room r room'
       → Shows m (shown f) u space room r space' room'
-  shows_worked (Fault e) v (a, b) =
+  shows_worked (Err e) v (a, b) =
       shows_as a b
       (record {
         space_long = v.framed.long;
@@ -119,13 +119,13 @@ module _ {m : State} {f : Formula} {u : Scanned} {space room space' room' : List
         goes = tt;
         leads = λ text rs input n same go. leads_worked settled v same (λ x o. written o (shown_value x) go);
       })
-  shows_worked (Whole w t) v (a, b) =
+  shows_worked (Ok (Whole w t)) v (a, b) =
       shows_as (a ∙ ap (shown_as (printed_as m.printer (length room) (texts.printed_number w))) v.goes) b
       (shows_bytes fit (texts.printed_number w) u v.framed.long
       (λ text rs input n same go.
       leads_on (leads_worked settled v same (λ x o. written o (shown_value x) go))
       (λ o s. leads_written s fit (texts.printed_number w) go)))
-  shows_worked (Text len t) v (a, b) =
+  shows_worked (Ok (Text len t)) v (a, b) =
       let bytes = take len (drop m.used space') in
       shows_as (a ∙ ap (shown_as (printed_as m.printer (length room) bytes)) v.goes) b
       (shows_bytes fit bytes u v.framed.long
@@ -135,7 +135,7 @@ module _ {m : State} {f : Formula} {u : Scanned} {space room space' room' : List
 
 -- ---- by the token that begins it
 
-module _ (line : List ℕ) (t : Scanned) {m : State} {space room space' room' : List ℕ} {r : Shown} where
+module _ (line : List ℕ) (t : Scanned) {m : State} {space room space' room' : List ℕ} {r : Result (Printer × Scanned) Error} where
   pub at_comma : is_symbol Comma t.token ≡ true → Shows m comma (after line t) space room r space' room'
       → (i : Item) (u : Scanned) → ItemAt line t i u → Shows m i u space room r space' room'
   at_comma e h comma u (a, b) = rw b h

@@ -11,11 +11,11 @@ ghost use Rattle.turns.specs.bridge.Turns.{turn_of, after_of, Turns, AnyRecords}
 ghost use Rattle.dialogue.specs.bridge.Asking.{Asks, Laid, takes_line, fills_in};
 
 use crate::outputting::with_printer;
-use machine::{InputLine, Machine, Turned, take_line, write};
+use machine::{Machine, Turned, take_line, write};
 use scanner::token_at;
 use space::copy_in;
 use turns::{fails, stored_or_full, with_string};
-use variables::{NameTable, Tables, has_room};
+use variables::{Tables, has_room};
 use whole::Error;
 use words::{Kind, Name, Place, Scanned, Token};
 
@@ -26,15 +26,14 @@ fn fill(
     name: Name,
     ahead: Scanned,
     machine: Machine,
-    labels: &mut NameTable,
-    lengths: &mut [u8; Tables::MOST],
+    tables: &mut Tables,
     bytes: &[u8],
     space: &mut [u8],
 ) -> Turned
-    requires { Laid machine lengths.old space.old × (length bytes.now ≤ longest_input_line) }
-    ensures { (text input room names words : List ℕ) → Sound (state_of machine names words labels.old lengths.old) input space.old room → Positioned text (after_of here ahead)
-        → Turns text (state_of machine names words labels.old lengths.old) input space.old room AnyRecords
-        (fills_in (variable_of line.now name) bytes.now (position_of text (after_of here ahead))) (turn_of result names words labels.new lengths.new) space.new room }
+    requires { Laid machine tables.old.strings.lengths space.old × (length bytes.now ≤ longest_input_line) }
+    ensures { (text input room : List ℕ) → Sound (state_of machine tables.old) input space.old room → Positioned text (after_of here ahead)
+        → Turns text (state_of machine tables.old) input space.old room AnyRecords
+        (fills_in (variable_of line.now name) bytes.now (position_of text (after_of here ahead))) (turn_of result tables.new) space.new room }
 {
     let used = machine.used;
     let kind = name.kind;
@@ -46,7 +45,7 @@ fn fill(
     match kind {
         Kind::Whole => fails(machine, Error::TypeMismatch),
         Kind::Text => stored_or_full(
-            with_string(machine, labels, lengths, line, name, space, len),
+            with_string(machine, tables, line, name, space, len),
             here,
             ahead,
         ),
@@ -60,20 +59,19 @@ fn take_in(
     name: Name,
     ahead: Scanned,
     machine: Machine,
-    labels: &mut NameTable,
-    lengths: &mut [u8; Tables::MOST],
+    tables: &mut Tables,
     input: &[u8],
     space: &mut [u8],
 ) -> Turned
-    requires { Laid machine lengths.old space.old }
-    ensures { (text room names words : List ℕ) → Sound (state_of machine names words labels.old lengths.old) input.now space.old room → Positioned text (after_of here ahead)
-        → Turns text (state_of machine names words labels.old lengths.old) input.now space.old room AnyRecords
-        (takes_line (variable_of line.now name) (position_of text (after_of here ahead))) (turn_of result names words labels.new lengths.new) space.new room }
+    requires { Laid machine tables.old.strings.lengths space.old }
+    ensures { (text room : List ℕ) → Sound (state_of machine tables.old) input.now space.old room → Positioned text (after_of here ahead)
+        → Turns text (state_of machine tables.old) input.now space.old room AnyRecords
+        (takes_line (variable_of line.now name) (position_of text (after_of here ahead))) (turn_of result tables.new) space.new room }
 {
     let from = machine.taken;
     match take_line(input, from) {
-        InputLine::Fault(error) => fails(machine, error),
-        InputLine::Is(extent) => {
+        Err(error) => fails(machine, error),
+        Ok(extent) => {
             let start = from.0;
             let end = extent.end.0;
             let next = extent.next;
@@ -85,8 +83,7 @@ fn take_in(
                 name,
                 ahead,
                 m,
-                labels,
-                lengths,
+                tables,
                 &input[start..end],
                 space,
             )
@@ -101,18 +98,17 @@ fn prompt(
     text: &[u8],
     target: Scanned,
     machine: Machine,
-    labels: &mut NameTable,
-    lengths: &mut [u8; Tables::MOST],
+    tables: &mut Tables,
     input: &[u8],
     space: &mut [u8],
     room: &mut [u8],
 ) -> Turned
-    requires { Laid machine lengths.old space.old × Fitting machine.printer room.old }
-    ensures { (program names words : List ℕ) (at : ℕ) (v : Variable) (u : Scanned) → Sound (state_of machine names words labels.old lengths.old) input.now space.old room.old
+    requires { Laid machine tables.old.strings.lengths space.old × Fitting machine.printer room.old }
+    ensures { (program : List ℕ) (at : ℕ) (v : Variable) (u : Scanned) → Sound (state_of machine tables.old) input.now space.old room.old
         → Positioned program (after_of here u)
         → target_at line.now text.now target ≡ done (tree.line_input text.now v) u
-        → Turns program (state_of machine names words labels.old lengths.old) input.now space.old room.old AnyRecords
-        (λ n. do_statement program at (tree.line_input text.now v) n (position_of program (after_of here u))) (turn_of result names words labels.new lengths.new) space.new room.new }
+        → Turns program (state_of machine tables.old) input.now space.old room.old AnyRecords
+        (λ n. do_statement program at (tree.line_input text.now v) n (position_of program (after_of here u))) (turn_of result tables.new) space.new room.new }
 {
     let printed = write(machine.printer, room, text);
     if !printed.ok {
@@ -128,8 +124,7 @@ fn prompt(
             name,
             token_at(line, target.next),
             m,
-            labels,
-            lengths,
+            tables,
             input,
             space,
         ),
@@ -186,17 +181,16 @@ pub fn line_input(
     here: Place,
     first: Scanned,
     machine: Machine,
-    labels: &mut NameTable,
-    lengths: &mut [u8; Tables::MOST],
+    tables: &mut Tables,
     input: &[u8],
     space: &mut [u8],
     room: &mut [u8],
 ) -> Turned
-    requires { Asks line.now first × (Laid machine lengths.old space.old × Fitting machine.printer room.old) }
-    ensures { (text prompt names words : List ℕ) (at : ℕ) (v : Variable) (u : Scanned) → Sound (state_of machine names words labels.old lengths.old) input.now space.old room.old
+    requires { Asks line.now first × (Laid machine tables.old.strings.lengths space.old × Fitting machine.printer room.old) }
+    ensures { (text prompt : List ℕ) (at : ℕ) (v : Variable) (u : Scanned) → Sound (state_of machine tables.old) input.now space.old room.old
         → Positioned text (after_of here u) → input_at line.now first ≡ done (tree.line_input prompt v) u
-        → Turns text (state_of machine names words labels.old lengths.old) input.now space.old room.old AnyRecords
-        (λ n. do_statement text at (tree.line_input prompt v) n (position_of text (after_of here u))) (turn_of result names words labels.new lengths.new) space.new room.new }
+        → Turns text (state_of machine tables.old) input.now space.old room.old AnyRecords
+        (λ n. do_statement text at (tree.line_input prompt v) n (position_of text (after_of here u))) (turn_of result tables.new) space.new room.new }
 {
     let asked = asked_at(line, first);
     let from = asked.from.0;
@@ -207,8 +201,7 @@ pub fn line_input(
         &line[from..end],
         asked.target,
         machine,
-        labels,
-        lengths,
+        tables,
         input,
         space,
         room,

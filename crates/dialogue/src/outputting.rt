@@ -11,20 +11,21 @@ ghost use Rattle.machine.specs.bridge.Holding.{state_of, position_of, Positioned
 ghost use Rattle.turns.specs.Steps.{do_statement};
 ghost use Rattle.turns.specs.bridge.Turns.{turn_of, after_of, Turns, AnyRecords, Formed, with_printer};
 ghost use Rattle.dialogue.specs.bridge.Showing.{Itemed, Writes, shown_as, ShowsWorked, ItemAt, Shows, ended_turn, ended_room};
+ghost use Rattle.variables.specs.declared.tables.Tables.{Tables};
 
 use grammar::{ends_statement, is_symbol};
 use machine::{Machine, Printed, Printer, Turned, write, write_comma};
 use scanner::token_at;
 use space::Offset;
 use turns::{fails, goes_on, value};
-use variables::{NameTable, Tables, Worked};
+use variables::{Tables, Worked};
 use whole::{Error, print_text};
 use words::{Place, Scanned, Sign};
 
 const LINE_END: [u8; 2] = [13, 10];
 
 pub(crate) fn with_printer(machine: Machine, printer: Printer) -> Machine
-    ensures { (names words labels lengths : List ℕ) → state_of result names words labels lengths ≡ with_printer (state_of machine names words labels lengths) printer }
+    ensures { (tables : Tables) → state_of result tables ≡ with_printer (state_of machine tables) printer }
 {
     let mut next = machine;
     next.printer = printer;
@@ -57,32 +58,30 @@ fn print_string(
     write(printer, room, &space[start..end])
 }
 
-// What was worked out is printed and let go; an error stands.
-#[derive(Clone, Copy)]
-pub enum Shown {
-    On(Printer, Scanned),
-    Fault(Error),
-}
-
-fn shown_or_full(printed: Printed, ahead: Scanned) -> Shown
+fn shown_or_full(printed: Printed, ahead: Scanned) -> Result<(Printer, Scanned), Error>
     ensures { result ≡ shown_as printed ahead }
 {
     if printed.ok {
         let printer = printed.printer;
-        return Shown::On(printer, ahead);
+        return Ok((printer, ahead));
     }
-    Shown::Fault(Error::OutputFull)
+    Err(Error::OutputFull)
 }
 
-fn show(worked: Worked, machine: Machine, space: &[u8], room: &mut [u8]) -> Shown
+fn show(
+    worked: Result<Worked, Error>,
+    machine: Machine,
+    space: &[u8],
+    room: &mut [u8],
+) -> Result<(Printer, Scanned), Error>
     requires { Fitting machine.printer room.old × (machine.used.0 + text_length worked ≤ length space.now) }
     ensures { ShowsWorked worked machine.used.0 machine.printer space.now room.old result room.new }
 {
     let printer = machine.printer;
     match worked {
-        Worked::Fault(error) => Shown::Fault(error),
-        Worked::Whole(word, ahead) => shown_or_full(print_number(printer, room, word), ahead),
-        Worked::Text(len, ahead) => shown_or_full(
+        Err(error) => Err(error),
+        Ok(Worked::Whole(word, ahead)) => shown_or_full(print_number(printer, room, word), ahead),
+        Ok(Worked::Text(len, ahead)) => shown_or_full(
             print_string(printer, room, space, machine.used, len),
             ahead,
         ),
@@ -92,7 +91,7 @@ fn show(worked: Worked, machine: Machine, space: &[u8], room: &mut [u8]) -> Show
 // Without a final `,` or `;` the line ends.
 fn print_end(machine: Machine, quiet: bool, room: &mut [u8], here: Place, ahead: Scanned) -> Turned
     requires { Fitting machine.printer room.old }
-    ensures { ((names words labels lengths : List ℕ) → turn_of result names words labels lengths ≡ ended_turn (state_of machine names words labels lengths) quiet (length room.old) here ahead)
+    ensures { ((tables : Tables) → turn_of result tables ≡ ended_turn (state_of machine tables) quiet (length room.old) here ahead)
         × (room.new ≡ ended_room machine.printer quiet room.old) }
 {
     if quiet {
@@ -125,10 +124,15 @@ fn separates(item: Scanned) -> bool
 }
 
 // A comma goes to the next zone; a semicolon prints nothing.
-fn print_separator(line: &[u8], item: Scanned, machine: Machine, room: &mut [u8]) -> Shown
+fn print_separator(
+    line: &[u8],
+    item: Scanned,
+    machine: Machine,
+    room: &mut [u8],
+) -> Result<(Printer, Scanned), Error>
     requires { Fitting machine.printer room.old }
-    ensures { (i : Item) (u : Scanned) (space names words labels lengths : List ℕ) → is_separator item.token ≡ true → ItemAt line.now item i u
-        → Shows (state_of machine names words labels lengths) i u space room.old result space room.new }
+    ensures { (i : Item) (u : Scanned) (space : List ℕ) (tables : Tables) → is_separator item.token ≡ true → ItemAt line.now item i u
+        → Shows (state_of machine tables) i u space room.old result space room.new }
 {
     let token = item.token;
     let printer = machine.printer;
@@ -136,7 +140,7 @@ fn print_separator(line: &[u8], item: Scanned, machine: Machine, room: &mut [u8]
     if is_symbol(Sign::Comma, token) {
         return shown_or_full(write_comma(printer, room), ahead);
     }
-    Shown::On(printer, ahead)
+    Ok((printer, ahead))
 }
 
 // A comma, a semicolon, or a formula.
@@ -144,22 +148,19 @@ fn print_item(
     line: &[u8],
     item: Scanned,
     machine: Machine,
-    names: &NameTable,
-    words: &[u16; Tables::MOST],
-    labels: &NameTable,
-    lengths: &[u8; Tables::MOST],
+    tables: &Tables,
     space: &mut [u8],
     room: &mut [u8],
-) -> Shown
+) -> Result<(Printer, Scanned), Error>
     requires { (is_separator item.token ≡ false → Formed line.now item)
-        × (Settled (state_of machine names.now words.now labels.now lengths.now) space.old × Fitting machine.printer room.old) }
+        × (Settled (state_of machine tables.now) space.old × Fitting machine.printer room.old) }
     ensures { (i : Item) (u : Scanned) → ItemAt line.now item i u
-        → Shows (state_of machine names.now words.now labels.now lengths.now) i u space.old room.old result space.new room.new }
+        → Shows (state_of machine tables.now) i u space.old room.old result space.new room.new }
 {
     if separates(item) {
         return print_separator(line, item, machine, room);
     }
-    let worked = value(line, item, machine, names, words, labels, lengths, space);
+    let worked = value(line, item, machine, tables, space);
     show(worked, machine, space, room)
 }
 
@@ -169,19 +170,16 @@ pub fn print(
     here: Place,
     first: Scanned,
     machine: Machine,
-    names: &NameTable,
-    words: &[u16; Tables::MOST],
-    labels: &NameTable,
-    lengths: &[u8; Tables::MOST],
+    tables: &Tables,
     space: &mut [u8],
     room: &mut [u8],
 ) -> Turned
-    requires { Itemed line.now first × (Settled (state_of machine names.now words.now labels.now lengths.now) space.old × Fitting machine.printer room.old) }
-    ensures { (text input : List ℕ) (at : ℕ) (is : List Item) (u : Scanned) → Sound (state_of machine names.now words.now labels.now lengths.now) input space.old room.old → Positioned text (after_of here u)
+    requires { Itemed line.now first × (Settled (state_of machine tables.now) space.old × Fitting machine.printer room.old) }
+    ensures { (text input : List ℕ) (at : ℕ) (is : List Item) (u : Scanned) → Sound (state_of machine tables.now) input space.old room.old → Positioned text (after_of here u)
         → items_of line.now first ≡ items is u
-        → Turns text (state_of machine names.now words.now labels.now lengths.now) input space.old room.old AnyRecords
+        → Turns text (state_of machine tables.now) input space.old room.old AnyRecords
         (λ n. do_statement text at (tree.print is) n (position_of text (after_of here u)))
-        (turn_of result names.now words.now labels.now lengths.now) space.new room.new }
+        (turn_of result tables.now) space.new room.new }
 {
     let mut m = machine;
     let mut item = first;
@@ -191,9 +189,9 @@ pub fn print(
             return print_end(m, quiet, room, here, item);
         }
         quiet = separates(item);
-        match print_item(line, item, m, names, words, labels, lengths, space, room) {
-            Shown::Fault(error) => return fails(m, error),
-            Shown::On(printer, ahead) => {
+        match print_item(line, item, m, tables, space, room) {
+            Err(error) => return fails(m, error),
+            Ok((printer, ahead)) => {
                 m = with_printer(m, printer);
                 item = ahead;
             }

@@ -19,11 +19,11 @@ use Rattle.grammar.specs.Functions.{takes}
 use Rattle.grammar.specs.Formulas.{Reading, bad, good, mapped, after, closed, count_of}
 use Rattle.expressions.specs.Types.{call_sort, depth_of, deepest_of, deepest_nesting}
 use Rattle.expressions.specs.bridge.Answers.{sorts_by, fit_of, capped_depth, deeper, sort_in, sorts_in, depth_in, answer_in, answer_of, deep_read, fronted_read, joined_read, closed_read, Kept, listed_at}
-use Rattle.expressions.specs.declared.calls.Fit.TheVariants.{Gives, NoForm}
 use Rattle.expressions.specs.declared.calls.Sorts.{Sorts}
 use Rattle.expressions.specs.declared.calls.Sorts.TheVariants as sorts
 use Rattle.expressions.specs.declared.readers.FormulaRead.{FormulaRead}
-use Rattle.expressions.specs.declared.readers.FormulaRead.TheVariants.{Bad, Good}
+use Rattle.expressions.specs.bridge.Answers.{read_as, Good}
+use Rattle.std.specs.Prelude.{Option, Some, None}
 use Rattle.expressions.specs.declared.sorts.Sort.{Sort}
 use Rattle.skimming.specs.bridge.Flat.{skimmed_of}
 use Rattle.expressions.proofs.Rooms.{sort_inside, sort_minus, sort_complement, sort_joined, sort_call}
@@ -37,10 +37,17 @@ pub record Answered (room : ℕ) (x : Reading) (u : Scanned) (k : Sort) (d : ℕ
   pub sort : k ≡ sort_in room f
   pub deep : d ≡ depth_in room (depth_of f)
 
-pub answered : (room : ℕ) (x : Reading) {a : FormulaRead} {u : Scanned} {k : Sort} {d : ℕ} → a ≡ answer_in room x → a ≡ Good u k d
-    → Answered room x u k d
+pub answered : (room : ℕ) (x : Reading) {a : Option FormulaRead} {r : FormulaRead} → a ≡ answer_in room x → a ≡ Some r
+    → Answered room x r.ahead r.sort r.deepest
 answered room bad e g = never (cc)
-answered room (good f v) e g = record { f = f; is = cc; sort = cc; deep = cc }
+answered room (good f v) {r = r} e g =
+    let h : read_as v (sort_in room f) (depth_in room (depth_of f)) ≡ r = cc in
+    record {
+      f = f;
+      is = ap (λ (q : FormulaRead). good f q.ahead) h;
+      sort = sym (ap (λ (q : FormulaRead). q.sort) h);
+      deep = sym (ap (λ (q : FormulaRead). q.deepest) h);
+    }
 
 -- the same where eight may nest
 pub record AnsweredWell (x : Reading) (u : Scanned) (k : Sort) (d : ℕ) : Type 0 where
@@ -49,14 +56,14 @@ pub record AnsweredWell (x : Reading) (u : Scanned) (k : Sort) (d : ℕ) : Type 
   pub sort : k ≡ sort_in 9 f
   pub deep : d ≡ capped_depth (depth_of f)
 
-pub answered_well : (x : Reading) {a : FormulaRead} {u : Scanned} {k : Sort} {d : ℕ} → a ≡ answer_of x → a ≡ Good u k d
-    → AnsweredWell x u k d
+pub answered_well : (x : Reading) {a : Option FormulaRead} {r : FormulaRead} → a ≡ answer_of x → a ≡ Some r
+    → AnsweredWell x r.ahead r.sort r.deepest
 answered_well x e g =
     let h = answered 9 x e g in
     let c : depth_in 9 (depth_of h.f) ≡ capped_depth (depth_of h.f) = omega arith in
     record { f = h.f; is = h.is; sort = h.sort; deep = h.deep ∙ c }
 
-pub not_read : (room : ℕ) (x : Reading) {a : FormulaRead} → a ≡ answer_in room x → a ≡ Bad → x ≡ bad
+pub not_read : (room : ℕ) (x : Reading) {a : Option FormulaRead} → a ≡ answer_in room x → a ≡ None → x ≡ bad
 not_read room bad e g = refl
 not_read room (good f v) e g = cc
 
@@ -141,28 +148,28 @@ unfolding count_of sorts_in
 count_sorts room none = refl
 count_sorts room (also a f) = rw (length-append, ← (count_sorts room a)) (omega arith)
 
-fit_none : (f : Function) (l : List Sort) → NoForm ≡ fit_of f l → takes f (length l) ≡ false
+fit_none : (f : Function) (l : List Sort) → None ≡ fit_of f l → takes f (length l) ≡ false
 fit_none f l e = by_test (takes f (length l)) (λ t. let h = rw t at e in cc) (λ t. t)
 
 pub record Fitted (f : Function) (l : List Sort) (k : Sort) : Type 0 where
   pub taken : takes f (length l) ≡ true
   pub sort : k ≡ call_sort f (length l) l
 
-fit_gives : (f : Function) (l : List Sort) (k : Sort) → Gives k ≡ fit_of f l → Fitted f l k
+fit_gives : (f : Function) (l : List Sort) (k : Sort) → Some k ≡ fit_of f l → Fitted f l k
 fit_gives f l k e =
     by_test (takes f (length l))
     (λ t. let h = rw t at e in record { taken = t; sort = cc })
     (λ t. let h = rw t at e in never (cc))
 
 module _ (room : ℕ) (s : List ℕ) (f : Function) (a : Arguments) (u : Scanned) where
-  pub listed_open : false ≡ is_symbol Close u.token → Bad ≡ answer_in (room + 1) (listed_at s f a u)
+  pub listed_open : false ≡ is_symbol Close u.token → None ≡ answer_in (room + 1) (listed_at s f a u)
   listed_open e = rw (← e)
 
-  pub listed_misfit : true ≡ is_symbol Close u.token → NoForm ≡ fit_of f (sorts_in room a) → Bad ≡ answer_in (room + 1) (listed_at s f a u)
+  pub listed_misfit : true ≡ is_symbol Close u.token → None ≡ fit_of f (sorts_in room a) → None ≡ answer_in (room + 1) (listed_at s f a u)
   listed_misfit e g = rw (← e, count_sorts room a, fit_none f (sorts_in room a) g)
 
   pub listed_fit : (types : Sorts) (depth : ℕ) (k : Sort) → true ≡ is_symbol Close u.token → Kept room types depth a
-      → Gives k ≡ fit_of f (sorts_in room a) → Good (after s u) k (deeper depth) ≡ answer_in (room + 1) (listed_at s f a u)
+      → Some k ≡ fit_of f (sorts_in room a) → Good (after s u) k (deeper depth) ≡ answer_in (room + 1) (listed_at s f a u)
   unfolding depth_of
   listed_fit types depth k e kept g =
       let h = fit_gives f (sorts_in room a) k g in

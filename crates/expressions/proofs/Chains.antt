@@ -22,7 +22,7 @@ use Rattle.expressions.specs.Types.{whole_only, depth_of}
 use Rattle.expressions.specs.bridge.Answers.{sort_in, depth_in, answer_in, fronted_read}
 use Rattle.expressions.specs.bridge.Nots.{is_not, turned, nots_at, nots_of}
 use Rattle.expressions.specs.declared.nots.Nots.{Nots}
-use Rattle.expressions.specs.declared.readers.FormulaRead.TheVariants.{Good}
+use Rattle.expressions.specs.bridge.Answers.{Good}
 use Rattle.expressions.specs.declared.sorts.Sort.{Sort}
 use Rattle.expressions.specs.declared.sorts.Sort.TheVariants.{Whole, Text, Wrong}
 use Rattle.expressions.proofs.Answering.{complement_answer}

@@ -1,5 +1,6 @@
 -- Every formula that reads is levelled: no operator stands inside a tighter one's side without parentheses, and of two of one level
 -- the left one is inside. Every function has as many arguments as it takes.
+use Rattle.std.specs.Prelude.{None, Option, Some}
 use mathlib.Core.Path.{◌≡◌}
 use mathlib.Core.Bool.{true}
 use mathlib.Core.List.{List}
@@ -22,8 +23,6 @@ use Rattle.grammar.specs.Tests.{is_symbol}
 use Rattle.grammar.specs.Trees.{Formula, number, variable, text, inside, minus, complement, two_sided, call, Arguments, none, also}
 use Rattle.grammar.specs.Functions.{takes}
 use Rattle.grammar.specs.Formulas.{level_of, not_level, minus_level, tightest, right_level, minus_stands, not_stands, operator_of, tight_enough, tight_operator, Reading, bad, good, mapped, after, closed, count_of, called, enough, formula_at, climb_at, operand_at, arguments_at}
-use Rattle.grammar.specs.declared.tests.OperatorFound.{OperatorFound}
-use Rattle.grammar.specs.declared.tests.OperatorFound.TheVariants.{Is, None}
 use Rattle.skimming.specs.bridge.Remaining.{formula_in}
 use Rattle.skimming.proofs.Grammar.{by_found}
 use Rattle.grammar.proofs.Bounds.{level_small}
@@ -47,16 +46,16 @@ unfoldable mutual
 -- ---- what follows a formula
 
 -- where no operator of a level follows, each that does is looser
-looser : (k : ℕ) (o : OperatorFound) (op : Operator) → tight_enough k o ≡ None → o ≡ Is op → level_of op < k
+looser : (k : ℕ) (o : Option Operator) (op : Operator) → tight_enough k o ≡ None → o ≡ Some op → level_of op < k
 looser k o op e f =
-    let g : tight_enough k (Is op) ≡ None = rw f at e in
+    let g : tight_enough k (Some op) ≡ None = rw f at e in
     by_test (leb k (level_of op))
     (λ t. let h = rw t at g in never (cc))
     (λ t. leb-false k (level_of op) t)
 
 -- where one follows, it is of that level
-tight : (k : ℕ) (o : OperatorFound) (op : Operator) → tight_enough k o ≡ Is op → (o ≡ Is op) × (k ≤ level_of op)
-tight k (Is p) op e =
+tight : (k : ℕ) (o : Option Operator) (op : Operator) → tight_enough k o ≡ Some op → (o ≡ Some op) × (k ≤ level_of op)
+tight k (Some p) op e =
     by_test (leb k (level_of p))
     (λ t. let h = rw t at e in let q : p ≡ op = cc in (h, rw (← q) (leb-true k (level_of p) t)))
     (λ t. let h = rw t at e in never (cc))
@@ -70,7 +69,7 @@ Full k (good f u) = Levelled k f × (tight_operator k u.token ≡ None)
 -- a part of one was read, which can stand at the left of an operator that follows
 abbrev Partly : ℕ → Reading → Type 0
 Partly k bad = Unit {0}
-Partly k (good f u) = Levelled k f × ((op : Operator) → operator_of u.token ≡ Is op → Levelled (level_of op) f)
+Partly k (good f u) = Levelled k f × ((op : Operator) → operator_of u.token ≡ Some op → Levelled (level_of op) f)
 
 minus_partly : (k : ℕ) (x : Reading) → k ≤ minus_level → Partly tightest x → Partly k (mapped minus x)
 unfolding Levelled

@@ -1,4 +1,5 @@
 -- The types of a function's arguments: how they are packed, and which lists of them a function takes.
+use Rattle.std.specs.Prelude.{None, Option, Some}
 use mathlib.Core.Path.{◌≡◌, refl, ◌∙◌, ap}
 use mathlib.Core.Bool.{Bool, true, false, ◌&&◌, false≢true}
 use mathlib.Core.List.{List, [], ◌∷◌, ◌++◌}
@@ -20,8 +21,6 @@ use Rattle.grammar.specs.declared.wanting.Wanted.{Wanted}
 use Rattle.grammar.specs.declared.wanting.Wanted.TheVariants as wanted
 use Rattle.expressions.specs.declared.calls.Sorts.{Sorts}
 use Rattle.expressions.specs.declared.calls.Sorts.TheVariants as sorts
-use Rattle.expressions.specs.declared.calls.Fit.{Fit}
-use Rattle.expressions.specs.declared.calls.Fit.TheVariants.{Gives, NoForm}
 use Rattle.expressions.specs.declared.sorts.Sort.{Sort}
 use Rattle.expressions.specs.declared.sorts.Sort.TheVariants.{Wrong}
 
@@ -86,16 +85,16 @@ pub few : (f : Function) (n : ℕ) → takes f n ≡ true → (1 ≤ n) × (n �
 few f n e = short_any (forms_of f) n (all_short f) e
 
 -- a function takes no other number of them
-pub none_fits : (f : Function) (l : List Sort) → (1 ≤ length l → length l ≤ 3 → ⊥) → fit_of f l ≡ NoForm
+pub none_fits : (f : Function) (l : List Sort) → (1 ≤ length l → length l ≤ 3 → ⊥) → fit_of f l ≡ None
 none_fits f l n = by_test (takes f (length l)) (λ e. let k = few f (length l) e in absurd (n k.0 k.1)) (λ e. rw e)
 
 -- so how arguments fit is told by their packed types
-abbrev pub fit_by : Function → Sorts → Fit
-fit_by f sorts.Zero = NoForm
+abbrev pub fit_by : Function → Sorts → Option Sort
+fit_by f sorts.Zero = None
 fit_by f (sorts.One a) = fit_of f (a ∷ [])
 fit_by f (sorts.Two a b) = fit_of f (a ∷ b ∷ [])
 fit_by f (sorts.Three a b c) = fit_of f (a ∷ b ∷ c ∷ [])
-fit_by f sorts.Many = NoForm
+fit_by f sorts.Many = None
 
 pub fit_packed : (f : Function) (l : List Sort) → fit_of f l ≡ fit_by f (sorts_by l)
 fit_packed f [] = none_fits f [] (λ h k. omega arith)
@@ -140,7 +139,7 @@ packed_back true (a ∷ b ∷ c ∷ d ∷ ws) h = absurd (omega arith)
 
 module _ (f : Function) (l : List Sort) {w : Wanted} (told : w ≡ wanted_of f (length l)) where
   -- another number is wanted
-  pub other_wanted : (tagged w ≡ length l → ⊥) → fit_of f l ≡ NoForm
+  pub other_wanted : (tagged w ≡ length l → ⊥) → fit_of f l ≡ None
   other_wanted n =
       by_test (takes f (length l))
       (λ e.
@@ -150,7 +149,7 @@ module _ (f : Function) (l : List Sort) {w : Wanted} (told : w ≡ wanted_of f (
       (λ e. rw e)
 
   -- that number is
-  pub all_wanted : 1 ≤ tagged w → fit_of f l ≡ Gives (call_gives f (all_meet (unpacked w) l))
+  pub all_wanted : 1 ≤ tagged w → fit_of f l ≡ Some (call_gives f (all_meet (unpacked w) l))
   all_wanted h =
       let p = packed_back (takes f (length l)) (wants f (length l)) (rw told at h) in
       rw (p.0, p.1, ← told)

@@ -1,4 +1,5 @@
 -- Formulas that read, taken apart into their tokens.
+use Rattle.std.specs.Prelude.{None, Some}
 use mathlib.Core.Path.{◌≡◌, refl, sym, ◌∙◌}
 use mathlib.Core.Bool.{Bool, true, false}
 use mathlib.Core.List.{List}
@@ -15,7 +16,6 @@ use Rattle.grammar.specs.Trees.{Formula, inside, minus, complement, two_sided, c
 use Rattle.grammar.specs.Functions.{takes}
 use Rattle.grammar.specs.Formulas as formulas
 use Rattle.grammar.specs.Formulas.{not_level, tightest, right_level, minus_stands, not_stands, tight_operator, Reading, good, mapped, after, closed, count_of, called}
-use Rattle.grammar.specs.declared.tests.OperatorFound.TheVariants.{Is, None}
 use Rattle.skimming.specs.bridge.Remaining.{formula_in, climb_of, operand_of, arguments_of}
 use Rattle.skimming.proofs.Fuel.{operand_is, formula_unrolled, climb_unrolled, arguments_unrolled, climb_bad, arguments_bad}
 
@@ -89,7 +89,7 @@ module _ (s : List ℕ) where
 
   -- an operator follows, and its right side
   pub climb_goes : (level : ℕ) (f : Formula) (t : Scanned) {op : Operator} {g : Formula} {u : Scanned}
-      → tight_operator level t.token ≡ Is op → climb_of s level (good f t) ≡ good g u
+      → tight_operator level t.token ≡ Some op → climb_of s level (good f t) ≡ good g u
       → Climbed level (mapped (two_sided op f) (formula_in s (right_level op) (after s t))) g u
   climb_goes level f t {op} o e =
       climb_view level (mapped (two_sided op f) (formula_in s (right_level op) (after s t)))

@@ -34,63 +34,48 @@ pub fn with_sort(sorts: Sorts, sort: Sort) -> Sorts
 fn meets(want: Want, sort: Sort) -> bool
     ensures { result ≡ meets want sort }
 {
-    match sort {
-        Sort::Wrong => false,
-        Sort::Whole => match want {
-            Want::Whole => true,
-            Want::Text => false,
-            Want::Either => true,
-        },
-        Sort::Text => match want {
-            Want::Whole => false,
-            Want::Text => true,
-            Want::Either => true,
-        },
+    match want {
+        Want::Whole => sort == Sort::Whole,
+        Want::Text => sort == Sort::Text,
+        Want::Either => sort != Sort::Wrong,
     }
 }
 
-// How arguments fit a function: it takes no such number of them, or it does and this is the type of the call.
-#[derive(Clone, Copy)]
-pub enum Fit {
-    NoForm,
-    Gives(Sort),
-}
-
 // The type of a call whose arguments all meet what is wanted, or not.
-fn call_sort(function: Function, fits: bool) -> Fit
-    ensures { result ≡ Fit.Gives (call_gives function fits) }
+fn call_sort(function: Function, fits: bool) -> Sort
+    ensures { result ≡ call_gives function fits }
 {
     if fits {
-        Fit::Gives(of_kind(gives(function)))
+        of_kind(gives(function))
     } else {
-        Fit::Gives(Sort::Wrong)
+        Sort::Wrong
     }
 }
 
 // A function with all its arguments.
-pub fn call_fit(function: Function, sorts: Sorts) -> Fit
+pub fn call_fit(function: Function, sorts: Sorts) -> Option<Sort>
     ensures { (l : List Sort) → sorts ≡ sorts_by l → result ≡ fit_of function l }
 {
     match sorts {
-        Sorts::Zero => Fit::NoForm,
+        Sorts::Zero => None,
         Sorts::One(a) => {
             let Wanted::One(v) = wants(function, 1) else {
-                return Fit::NoForm;
+                return None;
             };
-            call_sort(function, meets(v, a))
+            Some(call_sort(function, meets(v, a)))
         }
         Sorts::Two(a, b) => {
             let Wanted::Two(v, w) = wants(function, 2) else {
-                return Fit::NoForm;
+                return None;
             };
-            call_sort(function, meets(v, a) && meets(w, b))
+            Some(call_sort(function, meets(v, a) && meets(w, b)))
         }
         Sorts::Three(a, b, c) => {
             let Wanted::Three(v, w, x) = wants(function, 3) else {
-                return Fit::NoForm;
+                return None;
             };
-            call_sort(function, meets(v, a) && meets(w, b) && meets(x, c))
+            Some(call_sort(function, meets(v, a) && meets(w, b) && meets(x, c)))
         }
-        Sorts::Many => Fit::NoForm,
+        Sorts::Many => None,
     }
 }

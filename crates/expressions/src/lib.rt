@@ -7,5 +7,5 @@ mod readers;
 mod sorts;
 
 pub use nots::{Nots, past_nots};
-pub use readers::{FormulaRead, formula_at, larger};
+pub use readers::{FormulaRead, formula_at};
 pub use sorts::{Sort, is_of, is_some, is_whole, of_kind};

@@ -18,15 +18,9 @@ pub fn past_nots(line: &[u8], ahead: Scanned) -> Nots
 {
     let mut here = ahead;
     let mut odd = false;
-    loop {
-        let token = here.token;
-        let next = here.next;
-        match token {
-            Token::Not => {
-                here = token_at(line, next);
-                odd = !odd;
-            }
-            _ => return Nots { ahead: here, odd },
-        }
+    while let Token::Not = here.token {
+        here = token_at(line, here.next);
+        odd = !odd;
     }
+    Nots { ahead: here, odd }
 }

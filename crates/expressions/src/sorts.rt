@@ -7,7 +7,7 @@ use whole::Operator;
 use words::Kind;
 
 // A whole number, a text, or a formula in which some type is wrong.
-#[derive(Clone, Copy)]
+#[derive(Clone, Copy, PartialEq, Eq)]
 pub enum Sort {
     Whole,
     Text,
@@ -29,8 +29,7 @@ pub fn whole_only(sort: Sort) -> Sort
 {
     match sort {
         Sort::Whole => Sort::Whole,
-        Sort::Text => Sort::Wrong,
-        Sort::Wrong => Sort::Wrong,
+        _ => Sort::Wrong,
     }
 }
 
@@ -38,15 +37,7 @@ pub fn whole_only(sort: Sort) -> Sort
 fn common_sort(left: Sort, right: Sort) -> Sort
     ensures { result ≡ common_sort left right }
 {
-    match left {
-        Sort::Whole => whole_only(right),
-        Sort::Text => match right {
-            Sort::Whole => Sort::Wrong,
-            Sort::Text => Sort::Text,
-            Sort::Wrong => Sort::Wrong,
-        },
-        Sort::Wrong => Sort::Wrong,
-    }
+    if left == right { left } else { Sort::Wrong }
 }
 
 // Both sides of one type; a whole number is given.
@@ -54,9 +45,8 @@ fn compared(sort: Sort) -> Sort
     ensures { result ≡ compared sort }
 {
     match sort {
-        Sort::Whole => Sort::Whole,
-        Sort::Text => Sort::Whole,
         Sort::Wrong => Sort::Wrong,
+        _ => Sort::Whole,
     }
 }
 
@@ -80,22 +70,14 @@ pub fn joined_sort(operator: Operator, left: Sort, right: Sort) -> Sort
 pub fn is_whole(sort: Sort) -> bool
     ensures { result ≡ is_whole sort }
 {
-    match sort {
-        Sort::Whole => true,
-        Sort::Text => false,
-        Sort::Wrong => false,
-    }
+    matches!(sort, Sort::Whole)
 }
 
 // A formula in which no type is wrong.
 pub fn is_some(sort: Sort) -> bool
     ensures { result ≡ is_some sort }
 {
-    match sort {
-        Sort::Whole => true,
-        Sort::Text => true,
-        Sort::Wrong => false,
-    }
+    !matches!(sort, Sort::Wrong)
 }
 
 // Whether a formula is of a variable's kind.
@@ -104,10 +86,6 @@ pub fn is_of(kind: Kind, sort: Sort) -> bool
 {
     match kind {
         Kind::Whole => is_whole(sort),
-        Kind::Text => match sort {
-            Sort::Whole => false,
-            Sort::Text => true,
-            Sort::Wrong => false,
-        },
+        Kind::Text => matches!(sort, Sort::Text),
     }
 }

@@ -1,4 +1,5 @@
 -- The cursor law: where the items of a text go on, and those that are left from there.
+use Rattle.std.specs.Prelude.{Ok, Some, None, Option}
 use mathlib.Core.Path.{◌≡◌, refl, sym, ap, ◌∙◌}
 use mathlib.Core.Logic.{⊎_elim}
 use mathlib.Core.Bool.{true, false, ◌||◌, false≢true}
@@ -26,15 +27,12 @@ use Rattle.items.proofs.After.{over_token}
 use Rattle.loader.specs.Lines.{Line, lines_of, line_at}
 use Rattle.loader.specs.Loading.{load_of}
 use Rattle.loader.specs.declared.lines.LineSpan.{LineSpan}
-use Rattle.loader.specs.declared.lines.LineFound.TheVariants.{Is}
-use Rattle.loader.specs.declared.loading.Loaded.TheVariants.{Fine}
 use Rattle.grammar.specs.Tests.{is_symbol, is_keyword}
 use Rattle.grammar.specs.Trees.{Statement, empty, assign, print, if_then, if_else, goto, gosub, return, for, next, next_of, while, wend, line_input, data_of, read, restore, restore_to, end, stop, remark, Part, last, more}
 use Rattle.statements.specs.Parts.{head_of}
-use Rattle.statements.specs.Statements.{done, choice, held, data_at, led_by_word, led_by_token, lead_of, begun_at, good_part, part_of}
+use Rattle.statements.specs.Statements.{done, choice, held, data_at, led_by_word, led_by_token, lead_of, begun_at, good_part, part_of, led_by}
 use Rattle.statements.specs.bridge.Answers.{begun_answer}
 use Rattle.statements.specs.declared.leading.Lead.{Lead}
-use Rattle.statements.specs.declared.leading.Lead.TheVariants.{By, Nothing}
 use Rattle.statements.proofs.Views.{Final, plain, thens, elses, more_view, final_view}
 use Rattle.reader.specs.bridge.Walking.{follows_done, start_of, StartsAs}
 use Rattle.machine.specs.Items.{items_in, items_of}
@@ -52,7 +50,7 @@ use Rattle.order.proofs.Words.{WordedAs, part_led}
 pub ahead_from : {text : List ℕ} {spot : Spot} {xs : List Stand} → Ahead text spot xs → StandsFrom text spot.line.place.0 spot.at.0 xs
 ahead_from a = record { begins = a.begins; before = a.before; parts = a.parts; whole = a.whole; onto = a.onto; all = a.all }
 
-pub from_ahead : {text : List ℕ} {line : ℕ} {at : Place} {xs : List Stand} {span : LineSpan} → load_of text ≡ Fine → line_at text (place line) ≡ Is span
+pub from_ahead : {text : List ℕ} {line : ℕ} {at : Place} {xs : List Stand} {span : LineSpan} → load_of text ≡ Ok tt → line_at text (place line) ≡ Some span
     → StandsFrom text line at.0 xs → Ahead text (record { line = span; at = at }) xs
 from_ahead {text} loads e s =
     let t = told_as s.begins loads e in
@@ -98,11 +96,11 @@ none_in end h = refl
 none_in stop h = refl
 none_in remark h = refl
 
-other_word : (l : Lead) (q : Part) → ((t : Scanned) → l ≡ By word.Data t → ⊥) → WordedAs l q → word_of (head_of q) ≡ word.Data → ⊥
-other_word Nothing q h w e = w
-other_word (By x t) q h w e = h t (ap (λ y. By y t) (sym w ∙ e))
+other_word : (l : Option Lead) (q : Part) → ((t : Scanned) → l ≡ led_by word.Data t → ⊥) → WordedAs l q → word_of (head_of q) ≡ word.Data → ⊥
+other_word None q h w e = w
+other_word (Some lead) q h w e = h lead.ahead (ap (λ y. led_by y lead.ahead) (sym w ∙ e))
 
-pub items_none : {text : List ℕ} {spot : Spot} {x : Stand} {xs : List Stand} → Ahead text spot (x ∷ xs) → ((t : Scanned) → lead_at text spot ≡ By word.Data t → ⊥)
+pub items_none : {text : List ℕ} {spot : Spot} {x : Stand} {xs : List Stand} → Ahead text spot (x ∷ xs) → ((t : Scanned) → lead_at text spot ≡ led_by word.Data t → ⊥)
     → items_of (x ∷ xs) ≡ items_of xs
 unfolding items_of
 items_none {text} {spot} a h =
@@ -131,11 +129,11 @@ module _ (s : List ℕ) (p : ℕ) (t : Scanned) where
   data_choice item.bad b g = never (cc)
   data_choice (item.items l k) b g = never (cc)
 
-  data_begun : lead_of s true (token_at s (place p)) ≡ By word.Data t → begun_at s true p ≡ held s (items_from s t.next.0)
+  data_begun : lead_of s true (token_at s (place p)) ≡ led_by word.Data t → begun_at s true p ≡ held s (items_from s t.next.0)
   unfolding begun_at data_at
   data_begun e = rw e
 
-  data_part : lead_of s true (token_at s (place p)) ≡ By word.Data t → (q : Part) (u : Scanned) → part_of s true p ≡ good_part q u → DataPart s p t q
+  data_part : lead_of s true (token_at s (place p)) ≡ led_by word.Data t → (q : Part) (u : Scanned) → part_of s true p ≡ good_part q u → DataPart s p t q
   data_part l (more k x r) u e = data_done (items_from s t.next.0) refl (data_begun l) (more k x r) (more_view s true p e).begun
   data_part l (last k x) u e = by_final (final_view s true p e)
     where
@@ -145,34 +143,42 @@ module _ (s : List ℕ) (p : ℕ) (t : Scanned) where
       by_final (elses f) = data_choice (items_from s t.next.0) (data_begun l) f.begun
 
 -- it is led by its own word
-word_token : (s : List ℕ) (w : Word) (t u : Scanned) → led_by_word s w t ≡ By word.Data u → u ≡ t
+abbrev word_in : Option Lead → Word
+word_in (Some l) = l.word
+word_in None = word.Rem
+
+abbrev ahead_in : Scanned → Option Lead → Scanned
+ahead_in t (Some l) = l.ahead
+ahead_in t None = t
+
+word_token : (s : List ℕ) (w : Word) (t u : Scanned) → led_by_word s w t ≡ led_by word.Data u → u ≡ t
 word_token s w t u e =
     by_test (is_keyword word.Else (Keyword w) || is_keyword word.Data (Keyword w))
-    (λ b. let h = rw b at e in cc)
-    (λ b. let h = rw b at e in let d : w ≡ word.Data = cc in let z : true ≡ false = rw d at b in absurd (false≢true (sym z)))
+    (λ b. sym (ap (ahead_in t) (rw b at e)))
+    (λ b. let d : w ≡ word.Data = ap word_in (rw b at e) in let z : true ≡ false = rw d at b in absurd (false≢true (sym z)))
 
-data_token : (s : List ℕ) (token : Token) (t u : Scanned) → led_by_token s true token t ≡ By word.Data u → u ≡ t
-data_token s EndOfLine t u e = never (cc)
+data_token : (s : List ℕ) (token : Token) (t u : Scanned) → led_by_token s true token t ≡ led_by word.Data u → u ≡ t
+data_token s EndOfLine t u e = let d = ap word_in e in never (cc)
 data_token s (Keyword w) t u e = word_token s w t u e
 data_token s Not t u e = never (cc)
 data_token s (Infix op) t u e = never (cc)
 data_token s (Call f) t u e = never (cc)
-data_token s (Named v) t u e = never (cc)
-data_token s (Number n) t u e = never (cc)
+data_token s (Named v) t u e = let d = ap word_in e in never (cc)
+data_token s (Number n) t u e = let d = ap word_in e in never (cc)
 data_token s (Hexadecimal n) t u e = never (cc)
-data_token s (LineOnly l) t u e = never (cc)
+data_token s (LineOnly l) t u e = let d = ap word_in e in never (cc)
 data_token s (Quoted q) t u e = never (cc)
 data_token s (Symbol Open) t u e = never (cc)
 data_token s (Symbol Close) t u e = never (cc)
 data_token s (Symbol Comma) t u e = never (cc)
 data_token s (Symbol Semicolon) t u e = never (cc)
-data_token s (Symbol Colon) t u e = never (cc)
-data_token s (Symbol Question) t u e = never (cc)
+data_token s (Symbol Colon) t u e = let d = ap word_in e in never (cc)
+data_token s (Symbol Question) t u e = let d = ap word_in e in never (cc)
 data_token s (Symbol Equal) t u e = never (cc)
 data_token s (Symbol Minus) t u e = never (cc)
 data_token s Unreadable t u e = never (cc)
 
-data_within : (s : List ℕ) (p : Place) (t : Scanned) → lead_of s true (token_at s p) ≡ By word.Data t → t.next.0 ≤ length s
+data_within : (s : List ℕ) (p : Place) (t : Scanned) → lead_of s true (token_at s p) ≡ led_by word.Data t → t.next.0 ≤ length s
 data_within s p t e =
     let u = token_at s p in
     let same = data_token s u.token u t e in
@@ -209,14 +215,14 @@ module _ {text : List ℕ} {spot : Spot} {x : Stand} {xs : List Stand} (a : Ahea
       ⊎_elim (λ e. rw e (end_after e)) (λ e. rw e (colon_after e)) (over_token body k h o)
 
 -- so a DATA statement of the text has its items, and those after it
-pub inside_data : {text : List ℕ} {spot : Spot} {x : Stand} {xs : List Stand} {t : Scanned} → Ahead text spot (x ∷ xs) → lead_at text spot ≡ By word.Data t
+pub inside_data : {text : List ℕ} {spot : Spot} {x : Stand} {xs : List Stand} {t : Scanned} → Ahead text spot (x ∷ xs) → lead_at text spot ≡ led_by word.Data t
     → Inside text spot.line.place.0 t.next.0 (items_of (x ∷ xs))
 unfolding items_of
 inside_data {text} {spot} {x} {xs} {t} a e =
     let p = parting a in
     let u = told (here_ahead a) in
     let s = body_at text spot.line in
-    let lead : lead_of s true (token_at s spot.at) ≡ By word.Data t = rw u.body e in
+    let lead : lead_of s true (token_at s spot.at) ≡ led_by word.Data t = rw u.body e in
     let d = data_part s spot.at.0 t lead p.first p.end p.reads in
     let low = data_within s spot.at t lead in
     let z = items_end (suc (length s)) s t.next.0 low d.items d.ending d.lists in

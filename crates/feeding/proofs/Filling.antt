@@ -1,4 +1,5 @@
 -- The code's loop over the variables of a READ.
+use Rattle.std.specs.Prelude.{Err, Ok}
 use mathlib.Core.Path.{◌≡◌, refl, sym, ap, ◌∙◌}
 use mathlib.Core.Bool.{true, false}
 use mathlib.Core.List.{List, [], ◌∷◌}
@@ -29,7 +30,6 @@ use Rattle.turns.specs.bridge.Turns.{turned_to, after_of, Leads, Leaves, Turns, 
 use Rattle.turns.proofs.Keeping.{leaves_unprinted}
 use Rattle.turns.proofs.Leading.{leads_self, leads_on, turns_fails, turns_on}
 use Rattle.feeding.specs.bridge.Giving.{Sets, Gives}
-use Rattle.feeding.specs.declared.reading.Given.TheVariants as answer
 
 -- ---- what stands at a token: a variable, and the others after its comma
 
@@ -126,7 +126,7 @@ module _ {text line : List ℕ} {all : List Variable} {end : Scanned} {m : State
 
   -- it was set, and others are left
   pub fills_on : (x : Machine) {m'' : State} {space'' : List ℕ} → is_symbol Comma (after line target).token ≡ true
-      → Gives text m' space' does (answer.On x) m'' space'' → Fills text line all end m space m'' (after line (after line target)) space''
+      → Gives text m' space' does (Ok x) m'' space'' → Fills text line all end m space m'' (after line (after line target)) space''
   fills_on x c g =
       record {
         rest = here.others;
@@ -138,7 +138,7 @@ module _ {text line : List ℕ} {all : List Variable} {end : Scanned} {m : State
   module _ (input room : List ℕ) (here' : Place) (at : ℕ) (sound : Sound m input space room) where
     -- it was the last
     pub fills_last : (x : Machine) {m'' : State} {space'' : List ℕ} → is_symbol Comma (after line target).token ≡ false → Sets m space m'' space''
-        → Gives text m' space' does (answer.On x) m'' space'' → Positioned text (after_of here' end)
+        → Gives text m' space' does (Ok x) m'' space'' → Positioned text (after_of here' end)
         → Turns text m input space room AnyRecords (λ n. do_statement text at (tree.read all) n (position_of text (after_of here' end)))
         (turned_to m'' (next.On (after_of here' (after line target)))) space'' room
     fills_last x c k g p =
@@ -152,7 +152,7 @@ module _ {text line : List ℕ} {all : List Variable} {end : Scanned} {m : State
 
     -- an error ends the statement
     pub fills_fails : (x : Machine) {e : Error} {m'' : State} {space'' : List ℕ} → Sets m space m'' space''
-        → Gives text m' space' does (answer.Fails x e) m'' space'' → (past : spec.Position)
+        → Gives text m' space' does (Err (x, e)) m'' space'' → (past : spec.Position)
         → Turns text m input space room AnyRecords (λ n. do_statement text at (tree.read all) n past) (turned_to m'' (next.Fails e)) space'' room
     fills_fails x k g past =
         turns_fails (sets_leaves k sound)

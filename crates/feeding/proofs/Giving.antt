@@ -1,4 +1,5 @@
 -- One variable of a READ is set to an item.
+use Rattle.std.specs.Prelude.{Err, Ok, Result}
 use mathlib.Core.Path.{◌≡◌, refl, ap, ◌∙◌}
 use mathlib.Core.List.{List, []}
 use Prim.Native.Nat.{ℕ, ◌+◌, ◌≤◌, ◌<◌}
@@ -7,7 +8,6 @@ use lib.ListN.{length, take, drop}
 use Rattle.whole.specs.Digits.{number_item}
 use Rattle.whole.specs.Texts.{longest_string}
 use Rattle.words.specs.Places.{longest_line}
-use Rattle.whole.specs.declared.arithmetic.Answer.TheVariants.{Whole, Fault}
 use Rattle.whole.specs.declared.errors.Error.{Error}
 use Rattle.whole.specs.declared.errors.Error.TheVariants.{OutOfData, OutOfStringSpace}
 use Rattle.words.specs.declared.names.Kind.{Kind}
@@ -33,9 +33,8 @@ use Rattle.turns.proofs.Making.{leads_unmade, leads_made}
 use Rattle.turns.proofs.Storing.{stored_met, number_settled, leads_number, string_settled, string_long, leads_string}
 use Rattle.feeding.specs.bridge.Taking.{Took}
 use Rattle.feeding.specs.bridge.Giving.{set_as, machine_of, given_met, Sets, Gives}
-use Rattle.feeding.specs.declared.reading.Given.{Given}
-use Rattle.feeding.specs.declared.reading.Given.TheVariants as answer
 use Rattle.feeding.proofs.Lines.{same_feed}
+use Rattle.variables.specs.declared.tables.Tables.{Tables}
 
 -- ---- what the code answers
 
@@ -46,11 +45,11 @@ pub set_machine : (s : Stored) → machine_of (set_as s) ≡ s.machine
 set_machine s = by_test s.ok (λ e. rw e) (λ e. rw e)
 
 -- the machine and the tables that it leaves are those of what was stored
-pub set_state : (s : Stored) {r : Given} {names words labels lengths : List ℕ} {S : Storage} → r ≡ set_as s → storage_of s names words labels lengths ≡ S
-    → state_of (machine_of r) names words labels lengths ≡ S.state
-set_state s {names = names} {words = words} {labels = labels} {lengths = lengths} e k =
-    ap (λ x. state_of (machine_of x) names words labels lengths) e
-    ∙ ap (λ x. state_of x names words labels lengths) (set_machine s)
+pub set_state : (s : Stored) {r : Result Machine (Machine × Error)} {tables : Tables} {S : Storage} → r ≡ set_as s → storage_of s tables ≡ S
+    → state_of (machine_of r) tables ≡ S.state
+set_state s {tables = tables} e k =
+    ap (λ x. state_of (machine_of x) tables) e
+    ∙ ap (λ x. state_of x tables) (set_machine s)
     ∙ ap (λ x. x.state) k
 
 -- ---- nothing is set
@@ -62,14 +61,14 @@ module _ {m : State} {space : List ℕ} (settled : Settled m space) where
 -- ---- a number
 
 module _ {m : State} {space : List ℕ} (settled : Settled m space) (name : Telling) (own : Tells name) (b : List ℕ) where
-  pub gives_fault : (text : List ℕ) (x : Machine) {e : Error} → number_item b ≡ Fault e → Gives text m space (given kind.Whole name b) (answer.Fails x e) m space
+  pub gives_fault : (text : List ℕ) (x : Machine) {e : Error} → number_item b ≡ Err e → Gives text m space (given kind.Whole name b) (Err (x, e)) m space
   gives_fault text x e = λ rs input room n s go. record { machine = n; is = rw e; same = s }
 
   module _ (w : ℕ) where
     pub sets_number : Sets m space (number_set m name w).state space
     sets_number = record { settled = number_settled name own w settled; printer = refl; taken = refl; steps = refl; depth = refl; records = refl; long = refl }
 
-    pub gives_number : (text : List ℕ) (s : Stored) → s.ok ≡ (number_set m name w).ok → number_item b ≡ Whole w
+    pub gives_number : (text : List ℕ) (s : Stored) → s.ok ≡ (number_set m name w).ok → number_item b ≡ Ok w
         → Gives text m space (given kind.Whole name b) (set_as s) (number_set m name w).state space
     gives_number text s ok e = λ rs input room n q go. rw (e, set_met s go, ok) (leads_number name own w settled q go)
 
@@ -77,7 +76,7 @@ module _ {m : State} {space : List ℕ} (settled : Settled m space) (name : Tell
 
 module _ {m : State} {space : List ℕ} (settled : Settled m space) (name : Telling) (own : Tells name) (b : List ℕ) where
   pub gives_full : (text : List ℕ) (x : Machine) → length space < m.used + length b
-      → Gives text m space (given kind.Text name b) (answer.Fails x OutOfStringSpace) m space
+      → Gives text m space (given kind.Text name b) (Err (x, OutOfStringSpace)) m space
   gives_full text x h = λ rs input room n s go. leads_unmade settled b (λ o. store_string o name b go) s h
 
   module _ (fits : m.used + length b ≤ length space) where
@@ -120,12 +119,12 @@ taking k name n go = next_item n.items n (λ b o. given k name b o go)
 
 module _ {text : List ℕ} {m : State} {space : List ℕ} (k : Kind) (name : Telling) where
   -- none is left
-  pub gives_none : (x : Machine) → ((l : List (List ℕ)) → Feeds text m.feed l → l ≡ []) → Gives text m space (taking k name) (answer.Fails x OutOfData) m space
+  pub gives_none : (x : Machine) → ((l : List (List ℕ)) → Feeds text m.feed l → l ≡ []) → Gives text m space (taking k name) (Err (x, OutOfData)) m space
   gives_none x h = λ rs input room n s go. record { machine = n; is = rw (h n.items s.feeds); same = s }
 
   -- one is, and given
   pub gives_taken : {from : _} {len : ℕ} {f : Feed} → ((l : List (List ℕ)) → Feeds text m.feed l → Took text from len f l)
-      → (r : Given) {m' : State} {space' : List ℕ} → Gives text (with_feed m f) space (given k name (take len (drop from.0 text))) r m' space'
+      → (r : Result Machine (Machine × Error)) {m' : State} {space' : List ℕ} → Gives text (with_feed m f) space (given k name (take len (drop from.0 text))) r m' space'
       → Gives text m space (taking k name) r m' space'
   gives_taken {from} {len} {f} h r g = λ rs input room n s go.
       let t = h n.items s.feeds in

@@ -1,4 +1,5 @@
 -- RESTORE: the items that are left anew; and DATA, which leaves all as it is.
+use Rattle.std.specs.Prelude.{None, Option, Some, ℕ}
 use mathlib.Core.Path.{◌≡◌, refl}
 use mathlib.Core.List.{List}
 use Prim.Native.Nat.{ℕ}
@@ -15,10 +16,8 @@ use Rattle.statements.specs.bridge.Answers.{begun_answer}
 use Rattle.statements.specs.declared.reading.Own.{Own}
 use Rattle.statements.specs.declared.reading.StatementRead.TheVariants as statement
 use Rattle.statements.proofs.Ways.{by_data}
-use Rattle.machine.specs.declared.records.Found.{Found}
 use Rattle.loader.specs.Lines.{find_line}
 use Rattle.loader.specs.declared.lines.LineSpan.{LineSpan}
-use Rattle.loader.specs.declared.lines.LineFound.TheVariants.{Is, None}
 use Rattle.grammar.specs.Trees as tree
 use Rattle.machine.specs.Machine as spec
 use Rattle.machine.specs.Machine.{with_items}
@@ -99,7 +98,7 @@ module _ {text : List ℕ} {m : State} {input space room : List ℕ} (sound : So
         turns_fails (leaves_unprinted sound refl refl refl)
         (λ rs t n s. record { machine = n; is = rw (found_none text number e); same = s })
 
-    pub restores_from : {span : LineSpan} → find_line text number ≡ Is span
+    pub restores_from : {span : LineSpan} → find_line text number ≡ Some span
         → Turns text m input space room AnyRecords (λ n. do_statement text at (tree.restore_to number) n after)
         (turned_to (with_feed m (feed_from span.place)) (next.On (after_of here u))) space room
     restores_from {span} e =
@@ -108,19 +107,19 @@ module _ {text : List ℕ} {m : State} {input space room : List ℕ} (sound : So
 
 -- ---- DATA: the run goes on after its items
 
-module _ (text line : List ℕ) (here : Place) (at : ℕ) (m : State) (found : Found) (entry : Record) (input space room : List ℕ) (r : Turn) (word : Scanned) where
+module _ (text line : List ℕ) (here : Place) (at : ℕ) (m : State) (found : Option ℕ) (entry : Record) (input space room : List ℕ) (r : Turn) (word : Scanned) where
   abbrev D : Begun → Type 0
   D b = Does text line here at m found entry input space room r space room b
 
-  pub data_passes : Sound m input space room → (own : Own) → statement.Done own ≡ begun_answer (by_word line Data word) → r ≡ turned_to m (next.On (after_of here own.ahead))
+  pub data_passes : Sound m input space room → (own : Own) → Some (statement.Done own) ≡ begun_answer (by_word line Data word) → r ≡ turned_to m (next.On (after_of here own.ahead))
       → D (by_word line Data word)
   data_passes sound own e f =
-      by_data (λ b. statement.Done own ≡ begun_answer b → D b) (λ g. tt) line word
+      by_data (λ b. Some (statement.Done own) ≡ begun_answer b → D b) (λ g. tt) line word
       (λ l k i g p. let a : own.ahead ≡ token_at line (place k) = cc in rw (f, a) (goes_turn sound _ here (token_at line (place k)) p))
       e
 
-  pub data_unread : (statement.Bad ≡ begun_answer (by_word line Data word)) → D (by_word line Data word)
-  data_unread e = by_data (λ b. statement.Bad ≡ begun_answer b → D b) (λ g. tt) line word (λ l k i g. never (cc)) e
+  pub data_unread : (None ≡ begun_answer (by_word line Data word)) → D (by_word line Data word)
+  data_unread e = by_data (λ b. None ≡ begun_answer b → D b) (λ g. tt) line word (λ l k i g. never (cc)) e
 
-  pub data_no_choice : (own : Own) → statement.Choice own ≡ begun_answer (by_word line Data word) → D (by_word line Data word)
-  data_no_choice own e = by_data (λ b. statement.Choice own ≡ begun_answer b → D b) (λ g. tt) line word (λ l k i g. never (cc)) e
+  pub data_no_choice : (own : Own) → Some (statement.Choice own) ≡ begun_answer (by_word line Data word) → D (by_word line Data word)
+  data_no_choice own e = by_data (λ b. Some (statement.Choice own) ≡ begun_answer b → D b) (λ g. tt) line word (λ l k i g. never (cc)) e

@@ -1,4 +1,5 @@
 -- One item of a line is taken: its bytes stand in the text, and the others go on after it.
+use Rattle.std.specs.Prelude.{None, Ok, Some}
 use mathlib.Core.Path.{◌≡◌, refl, sym, ap, ◌∙◌}
 use mathlib.Core.Bool.{true, false}
 use mathlib.Core.List.{List, [], ◌∷◌, ◌++◌}
@@ -14,15 +15,12 @@ use Rattle.scanner.specs.Tokens.{token_at}
 use Rattle.items.specs.Items as item
 use Rattle.items.specs.Items.{DataItems, item_bytes, item_at, with_item, items_from}
 use Rattle.items.specs.declared.reading.Item.{Item}
-use Rattle.items.specs.declared.reading.ItemRead.TheVariants.{Bad, Good}
 use Rattle.items.proofs.Inside as within
 use Rattle.items.proofs.Inside.{item_inside}
 use Rattle.items.proofs.Listing.{items_step}
 use Rattle.loader.specs.Lines.{line_at}
 use Rattle.loader.specs.Loading.{load_of}
 use Rattle.loader.specs.declared.lines.LineSpan.{LineSpan}
-use Rattle.loader.specs.declared.lines.LineFound.TheVariants.{Is}
-use Rattle.loader.specs.declared.loading.Loaded.TheVariants.{Fine}
 use Rattle.machine.specs.bridge.Holding.{lines_at, feed_after, start_after, Outside, Inside, Feeds}
 use Rattle.machine.proofs.Standing.{Told, told_as}
 use Rattle.order.proofs.Texting.{body_at}
@@ -51,7 +49,7 @@ split : (b : List ℕ) (x : DataItems) {own : List (List ℕ)} {end : ℕ} → w
 split b item.bad e = never (cc)
 split b (item.items l k) e = record { others = l; first = cc; is = cc }
 
-module _ {text : List ℕ} {span : LineSpan} {at : Place} {l : List (List ℕ)} (loads : load_of text ≡ Fine) (is : line_at text span.place ≡ Is span)
+module _ {text : List ℕ} {span : LineSpan} {at : Place} {l : List (List ℕ)} (loads : load_of text ≡ Ok tt) (is : line_at text span.place ≡ Some span)
     (i : Inside text span.place.0 at.0 l) where
   pub here : Told text span.place.0 span
   here = told_as i.begins loads is
@@ -77,10 +75,10 @@ module _ {text : List ℕ} {span : LineSpan} {at : Place} {l : List (List ℕ)} 
       rw (t.body, ← e) i.after
 
   -- one does read
-  pub not_bad : {P : Type 0} → item_at body at.0 ≡ Bad → P
+  pub not_bad : {P : Type 0} → item_at body at.0 ≡ None → P
   not_bad e = let h = sym (items_step body at.0 inside_line) ∙ reads in let k = rw e at h in never (cc)
 
-  module _ (j : Item) (e : item_at body at.0 ≡ Good j) where
+  module _ (j : Item) (e : item_at body at.0 ≡ Some j) where
     pub inside : within.Inside body at.0 j
     inside = item_inside body at.0 inside_line j e
 

@@ -1,4 +1,6 @@
 -- An operand, by its first token: what is made of what stands behind it.
+use Rattle.std.specs.Prelude.{Err, Ok, Result, ℕ}
+use Rattle.whole.specs.declared.errors.Error.{Error}
 use mathlib.Core.Path.{◌≡◌, refl, sym, ap, ◌∙◌}
 use mathlib.Core.Bool.{false}
 use mathlib.Core.List.{List, []}
@@ -6,8 +8,6 @@ use Prim.Native.Nat.{ℕ, zero, suc, ◌+◌, ◌-◌, ◌≤◌}
 use native.Mathlib.Omega.{arith}
 use lib.ListN.{length}
 use Rattle.whole.specs.Whole.{negated, flipped}
-use Rattle.whole.specs.declared.arithmetic.Answer.{Answer}
-use Rattle.whole.specs.declared.arithmetic.Answer.TheVariants.{Whole, Fault}
 use Rattle.whole.proofs.Never.{never}
 use Rattle.words.specs.Names.{name_bytes, telling_of}
 use Rattle.words.specs.declared.names.Name.{Name}
@@ -22,7 +22,7 @@ use Rattle.scanner.proofs.Ends.{scanned_ends}
 use Rattle.grammar.specs.Trees.{Formula, number, variable, text, minus, none}
 use Rattle.grammar.specs.Formulas.{not_level, tightest, good, after, quoted_bytes}
 use Rattle.skimming.specs.bridge.Remaining.{weight, formula_in, operand_of, arguments_of}
-use Rattle.expressions.specs.declared.readers.FormulaRead.TheVariants.{Bad}
+use Rattle.std.specs.Prelude.{None}
 use Rattle.skimming.proofs.Weights.{weight-enough, symbol_reads, after_lighter}
 use Rattle.expressions.proofs.Answering.{not_read}
 use Rattle.expressions.proofs.Steps.{OperandMet}
@@ -47,10 +47,11 @@ use Rattle.variables.proofs.Agreements.{framed_less}
 use Rattle.variables.proofs.Looking.{looked_self}
 use Rattle.formulas.proofs.Making.{number_made}
 use Rattle.formulas.proofs.Nesting.{argument_depth}
+use Rattle.variables.specs.declared.tables.Tables.{Tables}
 
 -- ---- what does not read is no operand
 
-pub not_operand : (s : List ℕ) (level : ℕ) (t : Scanned) {P : Type 0} {f : Formula} {u : Scanned} → OperandMet 9 s level t Bad
+pub not_operand : (s : List ℕ) (level : ℕ) (t : Scanned) {P : Type 0} {f : Formula} {u : Scanned} → OperandMet 9 s level t None
     → operand_of s level t ≡ good f u → P
 unfolding operand_of
 not_operand s level t m e =
@@ -64,57 +65,57 @@ quoted_within {s} {t} k q e = let h = (scanned_ends s k.from k.is).text q e in o
 
 -- ---- what the minus sign and NOT make of what is behind them
 
-answered_none : (x : Answer) (t : Scanned) → text_length (answered_as x t) ≡ 0
-answered_none (Whole w) t = refl
-answered_none (Fault e) t = refl
+answered_none : (x : Result ℕ Error) (t : Scanned) → text_length (answered_as x t) ≡ 0
+answered_none (Ok w) t = refl
+answered_none (Err e) t = refl
 
-module _ (op : ℕ → Answer) where
-  abbrev fronted : Worked → Worked
+module _ (op : ℕ → Result ℕ Error) where
+  abbrev fronted : Result Worked Error → Result Worked Error
   fronted r = whole_as r (λ w t. answered_as (op w) t)
 
-  fronted_length : (r : Worked) → text_length (fronted r) ≤ text_length r
-  fronted_length (worked.Whole w t) = omega (arith, answered_none (op w) t)
-  fronted_length (worked.Text n t) = omega arith
-  fronted_length (worked.Fault e) = omega arith
+  fronted_length : (r : Result Worked Error) → text_length (fronted r) ≤ text_length r
+  fronted_length (Ok (worked.Whole w t)) = omega (arith, answered_none (op w) t)
+  fronted_length (Ok (worked.Text n t)) = omega arith
+  fronted_length (Err e) = omega arith
 
-  fronted_agrees : (r : Worked) (space : List ℕ) (used : ℕ) (o : Outcome) → Agrees r space used o
+  fronted_agrees : (r : Result Worked Error) (space : List ℕ) (used : ℕ) (o : Outcome) → Agrees r space used o
       → Agrees (fronted r) space used (whole_then o (λ w after. answered (op w) [] after))
-  fronted_agrees (worked.Whole w t) space used (value (strings.whole v) room) (e, h) = rw e ((answer_gives (op v) t space used).0 room h)
-  fronted_agrees (worked.Text n t) space used (value (strings.text b) room) h = refl
-  fronted_agrees (worked.Fault x) space used (fault e room) h = h
-  fronted_agrees (worked.Whole w t) space used (value (strings.text b) room) h = elim h [ ]
-  fronted_agrees (worked.Whole w t) space used (fault e room) h = elim h [ ]
-  fronted_agrees (worked.Text n t) space used (value (strings.whole v) room) h = elim h [ ]
-  fronted_agrees (worked.Text n t) space used (fault e room) h = elim h [ ]
-  fronted_agrees (worked.Fault x) space used (value _ room) h = elim h [ ]
+  fronted_agrees (Ok (worked.Whole w t)) space used (value (strings.whole v) room) (e, h) = rw e ((answer_gives (op v) t space used).0 room h)
+  fronted_agrees (Ok (worked.Text n t)) space used (value (strings.text b) room) h = refl
+  fronted_agrees (Err x) space used (fault e room) h = h
+  fronted_agrees (Ok (worked.Whole w t)) space used (value (strings.text b) room) h = elim h [ ]
+  fronted_agrees (Ok (worked.Whole w t)) space used (fault e room) h = elim h [ ]
+  fronted_agrees (Ok (worked.Text n t)) space used (value (strings.whole v) room) h = elim h [ ]
+  fronted_agrees (Ok (worked.Text n t)) space used (fault e room) h = elim h [ ]
+  fronted_agrees (Err x) space used (value _ room) h = elim h [ ]
 
-  fronted_goes : (r : Worked) (u : Scanned) (space : List ℕ) → GoesOn r u → GoesOn (fronted r) u
-  fronted_goes (worked.Whole w t) u space e = rw e (answer_gives (op w) u space 0).1
-  fronted_goes (worked.Text n t) u space e = tt
-  fronted_goes (worked.Fault x) u space e = tt
+  fronted_goes : (r : Result Worked Error) (u : Scanned) (space : List ℕ) → GoesOn r u → GoesOn (fronted r) u
+  fronted_goes (Ok (worked.Whole w t)) u space e = rw e (answer_gives (op w) u space 0).1
+  fronted_goes (Ok (worked.Text n t)) u space e = tt
+  fronted_goes (Err x) u space e = tt
 
 -- ---- and a parenthesis of what it closes
 
-closed_length : (line : List ℕ) (r : Worked) → text_length (closed_as line r) ≤ text_length r
-closed_length line (worked.Whole w t) = omega arith
-closed_length line (worked.Text n t) = omega arith
-closed_length line (worked.Fault e) = omega arith
+closed_length : (line : List ℕ) (r : Result Worked Error) → text_length (closed_as line r) ≤ text_length r
+closed_length line (Ok (worked.Whole w t)) = omega arith
+closed_length line (Ok (worked.Text n t)) = omega arith
+closed_length line (Err e) = omega arith
 
-closed_agrees : (line : List ℕ) (r : Worked) (space : List ℕ) (used : ℕ) (o : Outcome) → Agrees r space used o
+closed_agrees : (line : List ℕ) (r : Result Worked Error) (space : List ℕ) (used : ℕ) (o : Outcome) → Agrees r space used o
     → Agrees (closed_as line r) space used o
-closed_agrees line (worked.Whole w t) space used (value (strings.whole v) room) h = h
-closed_agrees line (worked.Text n t) space used (value (strings.text b) room) h = h
-closed_agrees line (worked.Fault x) space used (fault e room) h = h
-closed_agrees line (worked.Whole w t) space used (value (strings.text b) room) h = elim h [ ]
-closed_agrees line (worked.Whole w t) space used (fault e room) h = elim h [ ]
-closed_agrees line (worked.Text n t) space used (value (strings.whole v) room) h = elim h [ ]
-closed_agrees line (worked.Text n t) space used (fault e room) h = elim h [ ]
-closed_agrees line (worked.Fault x) space used (value _ room) h = elim h [ ]
+closed_agrees line (Ok (worked.Whole w t)) space used (value (strings.whole v) room) h = h
+closed_agrees line (Ok (worked.Text n t)) space used (value (strings.text b) room) h = h
+closed_agrees line (Err x) space used (fault e room) h = h
+closed_agrees line (Ok (worked.Whole w t)) space used (value (strings.text b) room) h = elim h [ ]
+closed_agrees line (Ok (worked.Whole w t)) space used (fault e room) h = elim h [ ]
+closed_agrees line (Ok (worked.Text n t)) space used (value (strings.whole v) room) h = elim h [ ]
+closed_agrees line (Ok (worked.Text n t)) space used (fault e room) h = elim h [ ]
+closed_agrees line (Err x) space used (value _ room) h = elim h [ ]
 
-closed_goes : (line : List ℕ) (r : Worked) (u : Scanned) → GoesOn r u → GoesOn (closed_as line r) (after line u)
-closed_goes line (worked.Whole w t) u e = rw e refl
-closed_goes line (worked.Text n t) u e = rw e refl
-closed_goes line (worked.Fault x) u e = tt
+closed_goes : (line : List ℕ) (r : Result Worked Error) (u : Scanned) → GoesOn r u → GoesOn (closed_as line r) (after line u)
+closed_goes line (Ok (worked.Whole w t)) u e = rw e refl
+closed_goes line (Ok (worked.Text n t)) u e = rw e refl
+closed_goes line (Err x) u e = tt
 
 -- ---- what the calls begin with, where so many pairs may nest; `a` is the token after the first
 
@@ -194,15 +195,15 @@ module _ (line : List ℕ) (level : ℕ) (t : Scanned) {f : Formula} {u : Scanne
       (rw p (behind line (Scans line) (λ at. record { from = at; is = refl }) t s), record { of = m.of; next = u; is = m.from; shallow = h })
 
 -- what the word of a formula comes to behind so many of them
-whole_then_lem : (h : ℕ → ℕ) (o : Outcome) → whole_then (whole_then o (λ w after. answered (Whole (h w)) [] after)) (λ w after. value (strings.whole (flipped w)) after)
-    ≡ whole_then o (λ w after. answered (Whole (flipped (h w))) [] after)
+whole_then_lem : (h : ℕ → ℕ) (o : Outcome) → whole_then (whole_then o (λ w after. answered (Ok (h w)) [] after)) (λ w after. value (strings.whole (flipped w)) after)
+    ≡ whole_then o (λ w after. answered (Ok (flipped (h w))) [] after)
 unfolding let_all_go
 whole_then_lem h (value (strings.whole w) room) = refl
 whole_then_lem h (value (strings.text b) room) = refl
 whole_then_lem h (fault e room) = refl
 
 chain_worth : (n : ℕ) (g : Formula) (vars : Variables) (room : Room)
-    → value_of (nots (suc n) g) vars room ≡ whole_then (value_of g vars room) (λ w after. answered (Whole (flipped_by (suc n) w)) [] after)
+    → value_of (nots (suc n) g) vars room ≡ whole_then (value_of g vars room) (λ w after. answered (Ok (flipped_by (suc n) w)) [] after)
 unfolding value_of let_all_go nots flipped_by
 chain_worth zero g vars room = refl
 chain_worth (suc n) g vars room = rw (chain_worth n g vars room) (whole_then_lem (flipped_by (suc n)) (value_of g vars room))
@@ -210,15 +211,18 @@ chain_worth (suc n) g vars room = rw (chain_worth n g vars room) (whole_then_lem
 -- ---- what comes of each token
 
 -- an answer made for all variables that the tables hold is the formula's
-made_evaluated : {names words labels lengths : List ℕ} {f : Formula} {u : Scanned} {before : List ℕ} {used : ℕ} {r : Worked} {now : List ℕ}
-    → ((vars : Variables) → Looked vars names words labels lengths before → Made before used used (value_of f vars) u r now)
-    → Evaluated names words labels lengths f u before used r now
-made_evaluated {names} {words} {labels} {lengths} {before = before} h =
-    let m = h (record { numbers = numbers_in (names_in names) words; strings = strings_in (names_in labels) lengths before }) looked_self in
+made_evaluated : {tables : Tables} {f : Formula} {u : Scanned} {before : List ℕ} {used : ℕ} {r : Result Worked Error} {now : List ℕ}
+    → ((vars : Variables) → Looked vars tables before → Made before used used (value_of f vars) u r now)
+    → Evaluated tables f u before used r now
+made_evaluated {tables} {before = before} h =
+    let m = h (record {
+      numbers = numbers_in (names_in tables.numbers.names) tables.numbers.words;
+      strings = strings_in (names_in tables.strings.names) tables.strings.lengths before;
+    }) looked_self in
     record { framed = m.framed; agrees = λ vars l. (h vars l).agrees; goes = m.goes }
 
-done_as : {names words labels lengths : List ℕ} {f g : Formula} {u v : Scanned} {before : List ℕ} {used : ℕ} {r : Worked} {now : List ℕ}
-    → f ≡ g → u ≡ v → Evaluated names words labels lengths g v before used r now → Evaluated names words labels lengths f u before used r now
+done_as : {tables : Tables} {f g : Formula} {u v : Scanned} {before : List ℕ} {used : ℕ} {r : Result Worked Error} {now : List ℕ}
+    → f ≡ g → u ≡ v → Evaluated tables g v before used r now → Evaluated tables f u before used r now
 done_as i j d = rw (i, j) d
 
 module _ (line : List ℕ) (level : ℕ) (t : Scanned) {f : Formula} {u : Scanned} (e : operand_of line level t ≡ good f u) {a : Scanned}
@@ -226,43 +230,43 @@ module _ (line : List ℕ) (level : ℕ) (t : Scanned) {f : Formula} {u : Scanne
   leaf_is : (g : Formula) → operand_of line level t ≡ good g (after line t) → (f ≡ g) × (u ≡ a)
   leaf_is g i = let j = sym e ∙ i in let k : u ≡ after line t = cc in (cc, k ∙ sym b)
 
-  module _ {names words labels lengths : List ℕ} {used : ℕ} where
+  module _ {tables : Tables} {used : ℕ} where
     word_done : (w : ℕ) (space : List ℕ) → used ≤ length space → operand_of line level t ≡ good (number w) (after line t)
-        → Evaluated names words labels lengths f u space used (worked.Whole w a) space
+        → Evaluated tables f u space used (Ok (worked.Whole w a)) space
     unfolding value_of
     word_done w space h i =
         let j = leaf_is (number w) i in
         done_as j.0 j.1 (made_evaluated (λ vars l. number_made space used a h refl))
 
     pub number_done : (w : ℕ) (space : List ℕ) → used ≤ length space → t.token ≡ token.Number w
-        → Evaluated names words labels lengths f u space used (worked.Whole w a) space
+        → Evaluated tables f u space used (Ok (worked.Whole w a)) space
     number_done w space h i = word_done w space h (operand_is line level t i)
 
     pub hexadecimal_done : (w : ℕ) (space : List ℕ) → used ≤ length space → t.token ≡ token.Hexadecimal w
-        → Evaluated names words labels lengths f u space used (worked.Whole w a) space
+        → Evaluated tables f u space used (Ok (worked.Whole w a)) space
     hexadecimal_done w space h i = word_done w space h (operand_is line level t i)
 
-    module _ {before now : List ℕ} (r : Worked) where
+    module _ {before now : List ℕ} (r : Result Worked Error) where
       pub named_done : (v : Name) → t.token ≡ token.Named v
-          → ((vars : Variables) → Looked vars names words labels lengths before
+          → ((vars : Variables) → Looked vars tables before
           → Made before used used (variable_value v.kind (telling_of (name_bytes line v)) vars) a r now)
-          → Evaluated names words labels lengths f u before used r now
+          → Evaluated tables f u before used r now
       unfolding value_of
       named_done v i h =
           let j = leaf_is (variable v.kind (telling_of (name_bytes line v))) (operand_is line level t i) in
           done_as j.0 j.1 (made_evaluated h)
 
       pub quoted_done : (q : Quotation) → t.token ≡ token.Quoted q → Made before used used (make (quoted_bytes line q)) a r now
-          → Evaluated names words labels lengths f u before used r now
+          → Evaluated tables f u before used r now
       unfolding value_of
       quoted_done q i h =
           let j = leaf_is (text (quoted_bytes line q)) (operand_is line level t i) in
           done_as j.0 j.1 (made_evaluated (λ vars l. h))
 
       -- what wants a whole number of the formula behind it
-      fronted_done : (op : ℕ → Answer) (make : Formula → Formula) (g : Formula) → f ≡ make g
+      fronted_done : (op : ℕ → Result ℕ Error) (make : Formula → Formula) (g : Formula) → f ≡ make g
           → ((vars : Variables) (room : Room) → value_of (make g) vars room ≡ whole_then (value_of g vars room) (λ w after. answered (op w) [] after))
-          → Evaluated names words labels lengths g u before used r now → Evaluated names words labels lengths f u before used (fronted op r) now
+          → Evaluated tables g u before used r now → Evaluated tables f u before used (fronted op r) now
       fronted_done op make g i worth d = record {
         framed = framed_less (fronted op r) (fronted_length op r) d.framed;
         agrees = λ vars l room x.
@@ -271,20 +275,20 @@ module _ (line : List ℕ) (level : ℕ) (t : Scanned) {f : Formula} {u : Scanne
       }
 
       pub complemented_done : (i : t.token ≡ token.Not) {x : Nots} → x ≡ nots_of line t
-          → ((g : Formula) (v : Scanned) → formula_in line not_level x.ahead ≡ good g v → Evaluated names words labels lengths g v before used r now)
-          → {q : Worked} → ((n : ℕ) → x.odd ≡ turned n false → q ≡ whole_as r (λ w t. worked.Whole (flipped_by n w) t))
-          → Evaluated names words labels lengths f u before used q now
+          → ((g : Formula) (v : Scanned) → formula_in line not_level x.ahead ≡ good g v → Evaluated tables g v before used r now)
+          → {q : Result Worked Error} → ((n : ℕ) → x.odd ≡ turned n false → q ≡ whole_as r (λ w t. Ok (worked.Whole (flipped_by n w) t)))
+          → Evaluated tables f u before used q now
       complemented_done i p h turns =
           let m = fronts line level t e i p in
           let n = suc m.more in
           rw (turns n m.parity)
-          (fronted_done (λ w. Whole (flipped_by n w)) (nots n) m.of m.is (λ vars room. chain_worth m.more m.of vars room) (h m.of u m.from))
+          (fronted_done (λ w. Ok (flipped_by n w)) (nots n) m.of m.is (λ vars room. chain_worth m.more m.of vars room) (h m.of u m.from))
 
       module _ {x : Sign} (i : t.token ≡ token.Symbol x) where
         -- in parentheses
         pub opened_done : x ≡ Open
-            → ((g : Formula) (v : Scanned) → formula_in line 0 a ≡ good g v → Evaluated names words labels lengths g v before used r now)
-            → Evaluated names words labels lengths f u before used (closed_as line r) now
+            → ((g : Formula) (v : Scanned) → formula_in line 0 a ≡ good g v → Evaluated tables g v before used r now)
+            → Evaluated tables f u before used (closed_as line r) now
         unfolding value_of
         opened_done j h =
             let v = opened_view line level t e (i ∙ ap token.Symbol j) in
@@ -297,8 +301,8 @@ module _ (line : List ℕ) (level : ℕ) (t : Scanned) {f : Formula} {u : Scanne
             })
 
         pub negated_done : x ≡ Minus
-            → ((k : ℕ) (g : Formula) (v : Scanned) → operand_of line k a ≡ good g v → Evaluated names words labels lengths g v before used r now)
-            → Evaluated names words labels lengths f u before used (whole_as r (λ w t. answered_as (negated w) t)) now
+            → ((k : ℕ) (g : Formula) (v : Scanned) → operand_of line k a ≡ good g v → Evaluated tables g v before used r now)
+            → Evaluated tables f u before used (whole_as r (λ w t. answered_as (negated w) t)) now
         unfolding value_of
         negated_done j h =
             let m = (negated_view line level t e (i ∙ ap token.Symbol j)).1 in

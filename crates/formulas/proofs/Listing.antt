@@ -1,4 +1,5 @@
 -- A function's arguments from left to right: what those so far, as they are worked out, have to do with the whole call.
+use Rattle.std.specs.Prelude.{Result, Err, Ok}
 use mathlib.Core.Path.{◌≡◌, refl, sym, ap, ◌∙◌}
 use mathlib.Core.Bool.{Bool, true}
 use mathlib.Core.List.{List, [], ◌∷◌, ◌++◌}
@@ -40,13 +41,13 @@ use Rattle.strings.specs.declared.arguments.Given.TheVariants as goal
 use Rattle.functions.specs.declared.arguments.Taken.{Taken}
 use Rattle.functions.specs.declared.arguments.Taken.TheVariants as taken
 use Rattle.variables.specs.declared.values.Worked.{Worked}
-use Rattle.variables.specs.declared.values.Worked.TheVariants as worked
 use Rattle.formulas.proofs.Faults.{arguments_fault, arguments_call}
 use Rattle.formulas.proofs.Growing.{values_kept, more_count, more_length, more_values}
 use Rattle.variables.proofs.Looking.{looked_kept}
 use Rattle.formulas.proofs.Taking.{want_told, argument_of, worth, Taking, taken_fault, taken_all, taken_more, refused, met_next}
 use Rattle.formulas.proofs.Climbing.{formula_less}
 use Rattle.formulas.proofs.Nesting.{argument_depth}
+use Rattle.variables.specs.declared.tables.Tables.{Tables}
 
 -- ---- the arguments so far
 
@@ -56,10 +57,10 @@ pub record Had (used : ℕ) (has : Given) (now : List ℕ) (x : values.Taken) : 
   pub is : x ≡ values.taken (values_in has (drop used now)) room
   pub held : Held room now (used + given_length has)
 
-module _ (line names words labels lengths : List ℕ) (function : Function) (three : Bool) (used : ℕ) where
+module _ (line : List ℕ) (tables : Tables) (function : Function) (three : Bool) (used : ℕ) where
   -- they were worked out, and the one that begins here is the next of a whole call; w is the weight of the first one's first token
   pub record Listing (w : ℕ) (f : Formula) (u : Scanned) (before : List ℕ) (has : Given) (here : Scanned) (now : List ℕ) : Type 0 where
-    pub ready : Ready line lengths before used
+    pub ready : Ready line tables.strings.lengths before used
     pub so_far : Arguments
     pub all : Arguments
     pub is : f ≡ call function all
@@ -73,13 +74,13 @@ module _ (line names words labels lengths : List ℕ) (function : Function) (thr
     pub long : length now ≡ length before
     pub kept : take used now ≡ take used before
     pub fits : used + given_length has ≤ length now
-    pub agrees : (vars : Variables) → Looked vars names words labels lengths before → (room : Room) → Held room before used
+    pub agrees : (vars : Variables) → Looked vars tables before → (room : Room) → Held room before used
         → Had used has now (values_of so_far (wants function (formulas.count_of all)) vars room)
 
   -- the first one
   pub listing_begins : (t : Scanned) (f : Formula) (u : Scanned) (space : List ℕ)
       → arguments_of line function none (formula_in line 0 t) ≡ good f u
-      → Scans line t → Ready line lengths space used
+      → Scans line t → Ready line tables.strings.lengths space used
       → ((a : Arguments) (v : Scanned) → function ≡ Instr → arguments_of line Instr none (formula_in line 0 t) ≡ good (call Instr a) v
       → three ≡ eqb (formulas.count_of a) 3)
       → Listing (weight line t) f u space goal.None t space
@@ -107,9 +108,9 @@ module _ (line names words labels lengths : List ℕ) (function : Function) (thr
         agrees = λ vars l room y. record { room = room; is = refl; held = record { limit = y.limit; lives = omega (arith, y.lives) } };
       }
 
-module _ {line names words labels lengths : List ℕ} {function : Function} {three : Bool} {used w : ℕ} {f : Formula} {u : Scanned}
+module _ {line : List ℕ} {tables : Tables} {function : Function} {three : Bool} {used w : ℕ} {f : Formula} {u : Scanned}
     {before now : List ℕ} {has : Given} {here : Scanned}
-    (c : Listing line names words labels lengths function three used w f u before has here now) where
+    (c : Listing line tables function three used w f u before has here now) where
   here_view : Listed line function c.so_far (formula_in line 0 here) f u
   here_view = list_view line function c.so_far (formula_in line 0 here) c.lists
 
@@ -130,7 +131,7 @@ module _ {line names words labels lengths : List ℕ} {function : Function} {thr
   -- the next one's text stands after those so far
   module _ {n : ℕ} (len : n ≡ given_length has) where
     -- what working it out begins with
-    pub next_ready : Ready line lengths now (used + n)
+    pub next_ready : Ready line tables.strings.lengths now (used + n)
     next_ready = record {
       variables = omega (arith, c.ready.variables);
       within = rw len c.fits;
@@ -138,22 +139,22 @@ module _ {line names words labels lengths : List ℕ} {function : Function} {thr
       short = c.ready.short;
     }
 
-    pub next_asks : (room : ℕ) → depth_of f ≤ room + 1 → Ready line lengths now (used + n) × (Scans line here × Reads room (formula_in line 0 here))
+    pub next_asks : (room : ℕ) → depth_of f ≤ room + 1 → Ready line tables.strings.lengths now (used + n) × (Scans line here × Reads room (formula_in line 0 here))
     next_asks room d =
         let v = here_view in
         let h = argument_depth line function c.so_far v.of v.at v.lists in
         (next_ready, (c.scans, record { of = v.of; next = v.at; is = v.from; shallow = omega arith }))
 
-  module _ {n : ℕ} (len : n ≡ given_length has) (r : Worked) {next : List ℕ}
+  module _ {n : ℕ} (len : n ≡ given_length has) (r : Result Worked Error) {next : List ℕ}
       (h : (g : Formula) (v : Scanned) → formula_in line 0 here ≡ good g v
-      → Evaluated names words labels lengths g v now (used + n) r next) where
+      → Evaluated tables g v now (used + n) r next) where
     abbrev live : ℕ
     live = used + given_length has
 
     abbrev ws : List Want
     ws = wants function (formulas.count_of c.all)
 
-    done : Evaluated names words labels lengths here_view.of here_view.at now live r next
+    done : Evaluated tables here_view.of here_view.at now live r next
     done = rw len at (h here_view.of here_view.at here_view.from)
 
     pub listing_long : length next ≡ length before
@@ -163,13 +164,13 @@ module _ {line names words labels lengths : List ℕ} {function : Function} {thr
     kept_before = front_less next now live used (omega arith) done.framed.kept ∙ c.kept
 
     -- the next one's value, of the room that those before it leave
-    next_agrees : (vars : Variables) → Looked vars names words labels lengths before → (room : Room)
+    next_agrees : (vars : Variables) → Looked vars tables before → (room : Room)
         → (k : Had used has now (values_of c.so_far ws vars room)) → Agrees r next live (value_of here_view.of vars k.room)
     next_agrees vars l room k = done.agrees vars (looked_kept l used c.ready.variables c.kept) k.room k.held
 
     -- the next one's error, or its type's, is the whole call's
-    pub listing_fault : {x : Taken} {e : Error} → x ≡ taken_as function three has r → x ≡ taken.Fault e
-        → Evaluated names words labels lengths f u before used (worked.Fault e) next
+    pub listing_fault : {x : Result Taken Error} {e : Error} → x ≡ taken_as function three has r → x ≡ Err e
+        → Evaluated tables f u before used (Err e) next
     unfolding value_of
     listing_fault {e = e} told i =
         let v = here_view in
@@ -208,7 +209,7 @@ module _ {line names words labels lengths : List ℕ} {function : Function} {thr
           rw (t.grown, more_values (argument_of r) has (drop used next) below_three, i, j)
 
       -- those so far and the next one
-      had_more : (vars : Variables) → Looked vars names words labels lengths before → (room : Room) → Held room before used
+      had_more : (vars : Variables) → Looked vars tables before → (room : Room) → Held room before used
           → Had used more next (values_of (also c.so_far here_view.of) ws vars room)
       unfolding value_of
       had_more vars l room y =
@@ -223,16 +224,16 @@ module _ {line names words labels lengths : List ℕ} {function : Function} {thr
             held = record { limit = x.held.limit; lives = omega (arith, x.held.lives, grown_length) };
           }
 
-    module _ {x : Taken} {more : Given} {place : Place} (told : x ≡ taken_as function three has r) where
+    module _ {x : Result Taken Error} {more : Given} {place : Place} (told : x ≡ taken_as function three has r) where
       -- they are all
-      pub all_placed : x ≡ taken.All more place → Placed next used more
+      pub all_placed : x ≡ Ok (taken.All more place) → Placed next used more
       all_placed i =
           let t = taken_all function three has r here_view.at done.goes told i in
           record { within = grown_fits t; small = omega (arith, c.ready.small, c.long, done.framed.long) }
 
-      pub listing_ends : {then : Scanned} → x ≡ taken.All more place → then ≡ token_at line place → (q : Worked) {end : List ℕ}
+      pub listing_ends : {then : Scanned} → x ≡ Ok (taken.All more place) → then ≡ token_at line place → (q : Result Worked Error) {end : List ℕ}
           → Made next used (used + given_length more) (called function (values_in more (drop used next))) then q end
-          → Evaluated names words labels lengths f u before used q end
+          → Evaluated tables f u before used q end
       unfolding value_of
       listing_ends i b q m =
           let v = here_view in
@@ -256,15 +257,15 @@ module _ {line names words labels lengths : List ℕ} {function : Function} {thr
           }
 
       -- one more follows
-      pub listing_lightens : {then : Scanned} → x ≡ taken.More more place → then ≡ token_at line place → weight line then < weight line here
+      pub listing_lightens : {then : Scanned} → x ≡ Ok (taken.More more place) → then ≡ token_at line place → weight line then < weight line here
       listing_lightens i b =
           let v = here_view in
           let t = taken_more function three has r v.at done.goes told i in
           let l = ap (weight line) (b ∙ ap (token_at line) t.begins) in
           omega (arith, formula_less line 0 here v.from, after_lighter line v.at (symbol_reads Comma v.at.token t.follows))
 
-      pub listing_goes : {then : Scanned} → x ≡ taken.More more place → then ≡ token_at line place
-          → Listing line names words labels lengths function three used w f u before more then next
+      pub listing_goes : {then : Scanned} → x ≡ Ok (taken.More more place) → then ≡ token_at line place
+          → Listing line tables function three used w f u before more then next
       unfolding formulas.count_of
       listing_goes i b =
           let v = here_view in

@@ -1,4 +1,5 @@
 -- An argument that was worked out: whether it is of the type that is wanted, and what it leads to.
+use Rattle.std.specs.Prelude.{Result, Ok, Err}
 use mathlib.Core.Path.{◌≡◌, refl}
 use mathlib.Core.Bool.{Bool, true, false}
 use mathlib.Core.List.{List, [], ◌∷◌, ◌++◌}
@@ -56,10 +57,10 @@ want_told Fre three n place t h k = want_by_lem Fre n place t h
 
 -- ---- one argument that was worked out
 
-abbrev pub argument_of : Worked → Argument
-argument_of (worked.Whole w t) = argument.Whole w
-argument_of (worked.Text n t) = argument.Text n
-argument_of (worked.Fault e) = argument.Whole 0
+abbrev pub argument_of : Result Worked Error → Argument
+argument_of (Ok (worked.Whole w t)) = argument.Whole w
+argument_of (Ok (worked.Text n t)) = argument.Text n
+argument_of (Err e) = argument.Whole 0
 
 -- its value, and the room that is left
 pub record Worth (a : Argument) (space : List ℕ) (live : ℕ) (o : Outcome) : Type 0 where
@@ -67,20 +68,20 @@ pub record Worth (a : Argument) (space : List ℕ) (live : ℕ) (o : Outcome) : 
   pub is : o ≡ value (argument_in a (drop live space)) room
   pub held : Held room space (live + argument_length a)
 
-abbrev pub Fine : Worked → Type 0
-Fine (worked.Whole w t) = Unit {0}
-Fine (worked.Text n t) = Unit {0}
-Fine (worked.Fault e) = ⊥
+abbrev pub Fine : Result Worked Error → Type 0
+Fine (Ok (worked.Whole w t)) = Unit {0}
+Fine (Ok (worked.Text n t)) = Unit {0}
+Fine (Err e) = ⊥
 
-pub worth : (r : Worked) (space : List ℕ) (live : ℕ) (o : Outcome) → Fine r → Agrees r space live o → Worth (argument_of r) space live o
-worth (worked.Whole w t) space live (value (whole v) room) f (e, h) =
+pub worth : (r : Result Worked Error) (space : List ℕ) (live : ℕ) (o : Outcome) → Fine r → Agrees r space live o → Worth (argument_of r) space live o
+worth (Ok (worked.Whole w t)) space live (value (whole v) room) f (e, h) =
     record { room = room; is = rw e refl; held = record { limit = h.limit; lives = omega (arith, h.lives) } }
-worth (worked.Text n t) space live (value (text b) room) f (e, (l, h)) = record { room = room; is = rw e refl; held = h }
-worth (worked.Whole w t) space live (value (text b) room) f x7 = elim x7 [ ]
-worth (worked.Whole w t) space live (fault _ _) f x7 = elim x7 [ ]
-worth (worked.Text n t) space live (value (whole v) room) f x6 = elim x6 [ ]
-worth (worked.Text n t) space live (fault _ _) f x7 = elim x7 [ ]
-worth (worked.Fault _) space live o f _ = elim f [ ]
+worth (Ok (worked.Text n t)) space live (value (text b) room) f (e, (l, h)) = record { room = room; is = rw e refl; held = h }
+worth (Ok (worked.Whole w t)) space live (value (text b) room) f x7 = elim x7 [ ]
+worth (Ok (worked.Whole w t)) space live (fault _ _) f x7 = elim x7 [ ]
+worth (Ok (worked.Text n t)) space live (value (whole v) room) f x6 = elim x6 [ ]
+worth (Ok (worked.Text n t)) space live (fault _ _) f x7 = elim x7 [ ]
+worth (Err _) space live o f _ = elim f [ ]
 
 -- ---- what it leads to
 
@@ -89,13 +90,13 @@ module _ (function : Function) (three : Bool) (had : Given) where
   Wanted = want_by function three (count_of had)
 
   -- its own error, or its type is not the one that is wanted
-  abbrev pub Refusal : Worked → Error → Type 0
-  Refusal (worked.Whole w t) e = (meets_want Wanted (argument.Whole w) ≡ false) × (e ≡ TypeMismatch)
-  Refusal (worked.Text n t) e = (meets_want Wanted (argument.Text n) ≡ false) × (e ≡ TypeMismatch)
-  Refusal (worked.Fault x) e = x ≡ e
+  abbrev pub Refusal : Result Worked Error → Error → Type 0
+  Refusal (Ok (worked.Whole w t)) e = (meets_want Wanted (argument.Whole w) ≡ false) × (e ≡ TypeMismatch)
+  Refusal (Ok (worked.Text n t)) e = (meets_want Wanted (argument.Text n) ≡ false) × (e ≡ TypeMismatch)
+  Refusal (Err x) e = x ≡ e
 
   -- it is one more, and a comma follows or not
-  pub record Taking (r : Worked) (at : Scanned) (comma : Bool) (has : Given) (next : Place) : Type 0 where
+  pub record Taking (r : Result Worked Error) (at : Scanned) (comma : Bool) (has : Given) (next : Place) : Type 0 where
     pub fine : Fine r
     pub long : text_length r ≡ argument_length (argument_of r)
     pub meets : meets_want Wanted (argument_of r) ≡ true
@@ -103,12 +104,12 @@ module _ (function : Function) (three : Bool) (had : Given) where
     pub grown : has ≡ with_argument had (argument_of r)
     pub begins : next ≡ at.next
 
-  abbrev Met : Worked → Scanned → Taken → Type 0
-  Met r at (taken.Fault e) = Refusal r e
-  Met r at (taken.All has next) = Taking r at false has next
-  Met r at (taken.More has next) = Taking r at true has next
+  abbrev Met : Result Worked Error → Scanned → Result Taken Error → Type 0
+  Met r at (Err e) = Refusal r e
+  Met r at (Ok (taken.All has next)) = Taking r at false has next
+  Met r at (Ok (taken.More has next)) = Taking r at true has next
 
-  met_by : (r : Worked) (at : Scanned) → Fine r → text_length r ≡ argument_length (argument_of r)
+  met_by : (r : Result Worked Error) (at : Scanned) → Fine r → text_length r ≡ argument_length (argument_of r)
       → (meets_want Wanted (argument_of r) ≡ false → Refusal r TypeMismatch)
       → Met r at (taken_before Wanted had (argument_of r) at)
   met_by r at f l refuse =
@@ -119,22 +120,22 @@ module _ (function : Function) (three : Bool) (had : Given) where
       (λ c. rw c (record { fine = f; long = l; meets = m; follows = c; grown = refl; begins = refl }))))
       (λ m. rw m (refuse m))
 
-  met : (r : Worked) (at : Scanned) → GoesOn r at → Met r at (taken_as function three had r)
-  met (worked.Whole w t) at g = rw g (met_by (worked.Whole w at) at tt refl (λ m. (m, refl)))
-  met (worked.Text n t) at g = rw g (met_by (worked.Text n at) at tt refl (λ m. (m, refl)))
-  met (worked.Fault e) at g = refl
+  met : (r : Result Worked Error) (at : Scanned) → GoesOn r at → Met r at (taken_as function three had r)
+  met (Ok (worked.Whole w t)) at g = rw g (met_by (Ok (worked.Whole w at)) at tt refl (λ m. (m, refl)))
+  met (Ok (worked.Text n t)) at g = rw g (met_by (Ok (worked.Text n at)) at tt refl (λ m. (m, refl)))
+  met (Err e) at g = refl
 
-  module _ (r : Worked) (at : Scanned) (g : GoesOn r at) {x : Taken} (h : x ≡ taken_as function three had r) where
+  module _ (r : Result Worked Error) (at : Scanned) (g : GoesOn r at) {x : Result Taken Error} (h : x ≡ taken_as function three had r) where
     met_so : Met r at x
     met_so = rw h (met r at g)
 
-    pub taken_fault : {e : Error} → x ≡ taken.Fault e → Refusal r e
+    pub taken_fault : {e : Error} → x ≡ Err e → Refusal r e
     taken_fault e = rw e at met_so
 
-    pub taken_all : {has : Given} {next : Place} → x ≡ taken.All has next → Taking r at false has next
+    pub taken_all : {has : Given} {next : Place} → x ≡ Ok (taken.All has next) → Taking r at false has next
     taken_all e = rw e at met_so
 
-    pub taken_more : {has : Given} {next : Place} → x ≡ taken.More has next → Taking r at true has next
+    pub taken_more : {has : Given} {next : Place} → x ≡ Ok (taken.More has next) → Taking r at true has next
     taken_more e = rw e at met_so
 
 -- ---- the definition's test of it
@@ -148,14 +149,14 @@ module _ (w : Want) (vs : List Value) (space : List ℕ) (live : ℕ) where
   unmet : (a : Argument) (o : Outcome) → Worth a space live o → meets_want w a ≡ false → Stopped TypeMismatch (tested w vs o)
   unmet a o k m = record { left = k.room; is = rw (k.is, meets_same w a (drop live space), m) refl }
 
-  pub refused : (function : Function) (three : Bool) (had : Given) (r : Worked) (o : Outcome) (e : Error) → w ≡ want_by function three (count_of had)
+  pub refused : (function : Function) (three : Bool) (had : Given) (r : Result Worked Error) (o : Outcome) (e : Error) → w ≡ want_by function three (count_of had)
       → Agrees r space live o → Refusal function three had r e → Stopped e (tested w vs o)
-  refused function three had (worked.Whole x t) o e i a (m, f) =
-      rw f (unmet (argument.Whole x) o (worth (worked.Whole x t) space live o tt a) (rw i m))
-  refused function three had (worked.Text n t) o e i a (m, f) =
-      rw f (unmet (argument.Text n) o (worth (worked.Text n t) space live o tt a) (rw i m))
-  refused function three had (worked.Fault x) (fault y room) e i a f = record { left = room; is = rw (← a, f) refl }
-  refused function three had (worked.Fault x) (value _ _) e i a f = elim a [ ]
+  refused function three had (Ok (worked.Whole x t)) o e i a (m, f) =
+      rw f (unmet (argument.Whole x) o (worth (Ok (worked.Whole x t)) space live o tt a) (rw i m))
+  refused function three had (Ok (worked.Text n t)) o e i a (m, f) =
+      rw f (unmet (argument.Text n) o (worth (Ok (worked.Text n t)) space live o tt a) (rw i m))
+  refused function three had (Err x) (fault y room) e i a f = record { left = room; is = rw (← a, f) refl }
+  refused function three had (Err x) (value _ _) e i a f = elim a [ ]
 
   -- what does is the next one
   pub met_next : (a : Argument) (o : Outcome) (k : Worth a space live o) → meets_want w a ≡ true

@@ -1,4 +1,5 @@
 -- A call of INSTR has a third argument just where a comma follows the second.
+use Rattle.std.specs.Prelude.{None, Some}
 use mathlib.Core.Path.{◌≡◌, refl, sym, ap, ◌∙◌}
 use mathlib.Core.Bool.{true, false≢true}
 use mathlib.Core.List.{List}
@@ -15,7 +16,6 @@ use Rattle.grammar.specs.Functions.{any_for, takes}
 use Rattle.grammar.specs.Formulas.{good, after, count_of, formula_of}
 use Rattle.skimming.specs.bridge.Remaining.{formula_in, arguments_of}
 use Rattle.skimming.specs.bridge.Flat.{skimmed_of}
-use Rattle.skimming.specs.declared.skims.Skimmed.TheVariants.{Bad, Good}
 use Rattle.skimming.proofs.Fuel.{formula_level}
 use Rattle.expressions.proofs.Views.{list_view, list_goes, list_ends}
 use Rattle.formulas.proofs.Faults.{arguments_call}
@@ -74,21 +74,21 @@ module _ (s : List ℕ) (t : Scanned) {a : Arguments} {u : Scanned} (e : argumen
       (λ c. absurd (not_one (list_ends s Instr none l.of l.at c l.lists).applied.takes_them))
 
   -- so both read
-  pub first_reads : Bad ≡ skimmed_of (formula_of s t) → ⊥
+  pub first_reads : None ≡ skimmed_of (formula_of s t) → ⊥
   first_reads h =
       let p = parted in let f = rw (formula_level s t, p.first) at h in never (cc)
 
-  module _ {comma : Scanned} (h : Good comma ≡ skimmed_of (formula_of s t)) where
+  module _ {comma : Scanned} (h : Some comma ≡ skimmed_of (formula_of s t)) where
     comma_is : comma ≡ parted.comma
     comma_is = let p = parted in let f = rw (formula_level s t, p.first) at h in cc
 
-    second_is : skimmed_of (formula_of s (after s comma)) ≡ Good parted.follow
+    second_is : skimmed_of (formula_of s (after s comma)) ≡ Some parted.follow
     second_is = ap skimmed_of (formula_level s (after s comma) ∙ ap (λ v. formula_in s 0 (after s v)) comma_is ∙ parted.second)
 
-    pub second_reads : Bad ≡ skimmed_of (formula_of s (after s comma)) → ⊥
+    pub second_reads : None ≡ skimmed_of (formula_of s (after s comma)) → ⊥
     second_reads g = let f = g ∙ second_is in never (cc)
 
     -- and what follows the second tells
-    pub third_told : {follow : Scanned} → Good follow ≡ skimmed_of (formula_of s (after s comma)) → is_symbol Comma follow.token ≡ eqb (count_of a) 3
+    pub third_told : {follow : Scanned} → Some follow ≡ skimmed_of (formula_of s (after s comma)) → is_symbol Comma follow.token ≡ eqb (count_of a) 3
     third_told {follow} g =
         let f = g ∙ second_is in let i : follow ≡ parted.follow = cc in rw i parted.third

@@ -1,6 +1,6 @@
 // The evaluators of formulas, operands and argument lists, which call each other in a cycle over a line that reads: at each call the
 // bytes that remain are fewer, and inside each pair of parentheses the pairs that may still nest. Each takes the token that it begins
-// with and hands on the one that follows. `names` and `words` are the number variables, `labels` and `lengths` the string variables.
+// with and hands on the one that follows.
 ghost use Rattle.std.specs.Prelude.{◌≡◌, ℕ, ◌+◌, eqb};
 ghost use Rattle.grammar.specs.Trees.{Formula, none, Arguments, call};
 ghost use Rattle.grammar.specs.Formulas.{good, formula_of};
@@ -14,12 +14,12 @@ use crate::operands::{closed, complemented, named, negated, quoted};
 use expressions::{FormulaRead, past_nots};
 use functions::{Taken, called, take_argument};
 use grammar::{LOOSEST, NOT_LEVEL, is_symbol, right_level};
-use operators::{Turn, joined, turn_of};
+use operators::{joined, turn_of};
 use scanner::token_at;
-use skimming::{Skimmed, skim};
+use skimming::skim;
 use space::Offset;
 use strings::{Given, given_length};
-use variables::{NameTable, Tables, Worked, text_length};
+use variables::{Tables, Worked, text_length};
 use whole::Error;
 use words::{Function, Scanned, Sign, Token};
 
@@ -30,42 +30,29 @@ fn formula(
     ahead: Scanned,
     level: u8,
     room: u8,
-    names: &NameTable,
-    words: &[u16; Tables::MOST],
-    labels: &NameTable,
-    lengths: &[u8; Tables::MOST],
+    tables: &Tables,
     space: &mut [u8],
     used: Offset,
-) -> Worked
-    requires { Ready line.now lengths.now space.old used.0 × (Scans line.now ahead × Reads room (formula_in line.now level ahead)) }
+) -> Result<Worked, Error>
+    requires { Ready line.now tables.now.strings.lengths space.old used.0 × (Scans line.now ahead × Reads room (formula_in line.now level ahead)) }
     ensures { (f : Formula) (u : Scanned) → formula_in line.now level ahead ≡ good f u
-        → Evaluated names.now words.now labels.now lengths.now f u space.old used.0 result space.new }
+        → Evaluated tables.now f u space.old used.0 result space.new }
 {
-    let mut left = operand(
-        line, ahead, room, names, words, labels, lengths, space, used,
-    );
-    loop {
-        match turn_of(level, left) {
-            Turn::Ends => return left,
-            Turn::Refused => return Worked::Fault(Error::TypeMismatch),
-            Turn::Goes(operator, next) => {
-                let first = token_at(line, next);
-                let right = formula(
-                    line,
-                    first,
-                    right_level(operator),
-                    room,
-                    names,
-                    words,
-                    labels,
-                    lengths,
-                    space,
-                    Offset(used.0 + text_length(left)),
-                );
-                left = joined(operator, left, right, space, used);
-            }
-        }
+    let mut left = operand(line, ahead, room, tables, space, used);
+    while let Some((operator, next)) = turn_of(level, left)? {
+        let first = token_at(line, next);
+        let right = formula(
+            line,
+            first,
+            right_level(operator),
+            room,
+            tables,
+            space,
+            Offset(used.0 + text_length(left)),
+        );
+        left = joined(operator, left, right, space, used);
     }
+    left
 }
 
 // Parentheses, names, numbers, texts and functions, one minus sign before such, or NOT.
@@ -74,73 +61,42 @@ fn operand(
     line: &[u8],
     ahead: Scanned,
     room: u8,
-    names: &NameTable,
-    words: &[u16; Tables::MOST],
-    labels: &NameTable,
-    lengths: &[u8; Tables::MOST],
+    tables: &Tables,
     space: &mut [u8],
     used: Offset,
-) -> Worked
-    requires { Ready line.now lengths.now space.old used.0 × (Scans line.now ahead × OperandReads room line.now ahead) }
+) -> Result<Worked, Error>
+    requires { Ready line.now tables.now.strings.lengths space.old used.0 × (Scans line.now ahead × OperandReads room line.now ahead) }
     ensures { (level : ℕ) (f : Formula) (u : Scanned) → operand_of line.now level ahead ≡ good f u
-        → Evaluated names.now words.now labels.now lengths.now f u space.old used.0 result space.new }
+        → Evaluated tables.now f u space.old used.0 result space.new }
 {
     let token = ahead.token;
     let next = ahead.next;
     let after = token_at(line, next);
     match token {
-        Token::Number(word) => Worked::Whole(word, after),
-        Token::Hexadecimal(word) => Worked::Whole(word, after),
-        Token::Named(name) => named(
-            line, name, after, names, words, labels, lengths, space, used,
-        ),
+        Token::Number(word) => Ok(Worked::Whole(word, after)),
+        Token::Hexadecimal(word) => Ok(Worked::Whole(word, after)),
+        Token::Named(name) => named(line, name, after, tables, space, used),
         Token::Quoted(quotation) => quoted(line, quotation, after, space, used),
         Token::Symbol(sign) => match sign {
             Sign::Open => closed(
                 line,
-                formula(
-                    line,
-                    after,
-                    LOOSEST,
-                    room - 1,
-                    names,
-                    words,
-                    labels,
-                    lengths,
-                    space,
-                    used,
-                ),
+                formula(line, after, LOOSEST, room - 1, tables, space, used),
             ),
-            Sign::Minus => negated(operand(
-                line, after, room, names, words, labels, lengths, space, used,
-            )),
-            _ => Worked::Fault(Error::Syntax),
+            Sign::Minus => negated(operand(line, after, room, tables, space, used)),
+            _ => Err(Error::Syntax),
         },
         Token::Not => {
             let nots = past_nots(line, ahead);
             let behind = nots.ahead;
-            let worked = formula(
-                line, behind, NOT_LEVEL, room, names, words, labels, lengths, space, used,
-            );
+            let worked = formula(line, behind, NOT_LEVEL, room, tables, space, used);
             complemented(worked, nots.odd)
         }
         Token::Call(function) => {
             let next = after.next;
             let first = token_at(line, next);
-            arguments(
-                line,
-                first,
-                function,
-                room - 1,
-                names,
-                words,
-                labels,
-                lengths,
-                space,
-                used,
-            )
+            arguments(line, first, function, room - 1, tables, space, used)
         }
-        _ => Worked::Fault(Error::Syntax),
+        _ => Err(Error::Syntax),
     }
 }
 
@@ -149,11 +105,11 @@ fn has_third(line: &[u8], ahead: Scanned) -> bool
     ensures { (a : Arguments) (u : Scanned) → arguments_of line.now Instr none (formula_in line.now 0 ahead) ≡ good (call Instr a) u
         → result ≡ eqb (formulas.count_of a) 3 }
 {
-    let Skimmed::Good { ahead: comma } = skim(line, ahead) else {
+    let Some(comma) = skim(line, ahead) else {
         return false;
     };
     let second = token_at(line, comma.next);
-    let Skimmed::Good { ahead: follow } = skim(line, second) else {
+    let Some(follow) = skim(line, second) else {
         return false;
     };
     let token = follow.token;
@@ -179,16 +135,13 @@ fn arguments(
     ahead: Scanned,
     function: Function,
     room: u8,
-    names: &NameTable,
-    words: &[u16; Tables::MOST],
-    labels: &NameTable,
-    lengths: &[u8; Tables::MOST],
+    tables: &Tables,
     space: &mut [u8],
     used: Offset,
-) -> Worked
-    requires { Ready line.now lengths.now space.old used.0 × (Scans line.now ahead × Reads (room + 1) (arguments_of line.now function none (formula_in line.now 0 ahead))) }
+) -> Result<Worked, Error>
+    requires { Ready line.now tables.now.strings.lengths space.old used.0 × (Scans line.now ahead × Reads (room + 1) (arguments_of line.now function none (formula_in line.now 0 ahead))) }
     ensures { (f : Formula) (u : Scanned) → arguments_of line.now function none (formula_in line.now 0 ahead) ≡ good f u
-        → Evaluated names.now words.now labels.now lengths.now f u space.old used.0 result space.new }
+        → Evaluated tables.now f u space.old used.0 result space.new }
 {
     let three = is_of_three(line, ahead, function);
     let mut given = Given::None;
@@ -199,15 +152,11 @@ fn arguments(
             here,
             LOOSEST,
             room,
-            names,
-            words,
-            labels,
-            lengths,
+            tables,
             space,
             Offset(used.0 + given_length(given)),
         );
-        match take_argument(function, three, given, worked) {
-            Taken::Fault(error) => return Worked::Fault(error),
+        match take_argument(function, three, given, worked)? {
             Taken::All(all, next) => {
                 let after = token_at(line, next);
                 return called(function, space, used, all, after);
@@ -224,26 +173,20 @@ fn arguments(
 pub fn work_out(
     line: &[u8],
     ahead: Scanned,
-    names: &NameTable,
-    words: &[u16; Tables::MOST],
-    labels: &NameTable,
-    lengths: &[u8; Tables::MOST],
+    tables: &Tables,
     space: &mut [u8],
     used: Offset,
-) -> Worked
-    requires { Ready line.now lengths.now space.old used.0 × (Scans line.now ahead × Reads deepest_nesting (formula_of line.now ahead)) }
+) -> Result<Worked, Error>
+    requires { Ready line.now tables.now.strings.lengths space.old used.0 × (Scans line.now ahead × Reads deepest_nesting (formula_of line.now ahead)) }
     ensures { (f : Formula) (u : Scanned) → formula_of line.now ahead ≡ good f u
-        → Evaluated names.now words.now labels.now lengths.now f u space.old used.0 result space.new }
+        → Evaluated tables.now f u space.old used.0 result space.new }
 {
     formula(
         line,
         ahead,
         LOOSEST,
         FormulaRead::DEEPEST,
-        names,
-        words,
-        labels,
-        lengths,
+        tables,
         space,
         used,
     )

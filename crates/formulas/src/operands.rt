@@ -15,9 +15,7 @@ ghost use Rattle.variables.specs.declared.values.Worked.TheVariants as worked;
 
 use scanner::token_at;
 use space::{Offset, copy_in, move_bytes};
-use variables::{
-    NameTable, Slot, Tables, Worked, answered, has_room, mismatch, offset_of, slot_of, wide,
-};
+use variables::{Numbers, Strings, Tables, Worked, answered, has_room, offset_of, slot_of};
 use whole::{Error, complement, negative};
 use words::{Kind, Name, Quotation, Scanned};
 
@@ -28,52 +26,52 @@ pub(crate) fn quoted(
     ahead: Scanned,
     space: &mut [u8],
     used: Offset,
-) -> Worked
+) -> Result<Worked, Error>
     requires { (quotation.at + quotation.len ≤ length line.now) × ((length line.now ≤ longest_line) × (used.0 ≤ length space.old)) }
     ensures { Made space.old used.0 used.0 (make (quoted_bytes line.now quotation)) ahead result space.new }
 {
     let from = quotation.at as usize;
     let len = quotation.len as usize;
     if !has_room(space, used, len) {
-        return Worked::Fault(Error::OutOfStringSpace);
+        return Err(Error::OutOfStringSpace);
     }
     let end = from + len;
     copy_in(space, used, &line[from..end]);
-    Worked::Text(len, ahead)
+    Ok(Worked::Text(len, ahead))
 }
 
 // A string variable is copied from its place among the variables.
 fn copied(
-    slot: Slot,
-    lengths: &[u8; Tables::MOST],
+    slot: Option<usize>,
+    strings: &Strings,
     ahead: Scanned,
     space: &mut [u8],
     used: Offset,
-) -> Worked
-    requires { SlotBelow most_variables slot × ((sum_of lengths.now ≤ used.0) × (used.0 ≤ length space.old)) }
-    ensures { Made space.old used.0 used.0 (make (bytes_at slot lengths.now space.old)) ahead result space.new }
+) -> Result<Worked, Error>
+    requires { SlotBelow most_variables slot × ((sum_of strings.now.lengths ≤ used.0) × (used.0 ≤ length space.old)) }
+    ensures { Made space.old used.0 used.0 (make (bytes_at slot strings.now.lengths space.old)) ahead result space.new }
 {
     match slot {
-        Slot::None => Worked::Text(0, ahead),
-        Slot::At(i) => {
-            let len = wide(lengths[i]);
+        None => Ok(Worked::Text(0, ahead)),
+        Some(i) => {
+            let len = usize::from(strings.lengths[i]);
             if !has_room(space, used, len) {
-                return Worked::Fault(Error::OutOfStringSpace);
+                return Err(Error::OutOfStringSpace);
             }
-            let from = offset_of(lengths, i);
+            let from = offset_of(&strings.lengths, i);
             move_bytes(space, from, used, len);
-            Worked::Text(len, ahead)
+            Ok(Worked::Text(len, ahead))
         }
     }
 }
 
-fn number_in(slot: Slot, words: &[u16; Tables::MOST]) -> u16
+fn number_in(slot: Option<usize>, numbers: &Numbers) -> u16
     requires { SlotBelow most_variables slot }
-    ensures { result ≡ word_at slot words.now }
+    ensures { result ≡ word_at slot numbers.now.words }
 {
     match slot {
-        Slot::None => 0,
-        Slot::At(i) => words[i],
+        None => 0,
+        Some(i) => numbers.words[i],
     }
 }
 
@@ -82,41 +80,47 @@ pub(crate) fn named(
     line: &[u8],
     name: Name,
     ahead: Scanned,
-    names: &NameTable,
-    words: &[u16; Tables::MOST],
-    labels: &NameTable,
-    lengths: &[u8; Tables::MOST],
+    tables: &Tables,
     space: &mut [u8],
     used: Offset,
-) -> Worked
-    requires { Ready line.now lengths.now space.old used.0 }
-    ensures { (vars : Variables) → Looked vars names.now words.now labels.now lengths.now space.old
+) -> Result<Worked, Error>
+    requires { Ready line.now tables.now.strings.lengths space.old used.0 }
+    ensures { (vars : Variables) → Looked vars tables.now space.old
         → Made space.old used.0 used.0 (variable_value name.kind (telling_of (name_bytes line.now name)) vars) ahead result space.new }
 {
-    let kind = name.kind;
-    match kind {
-        Kind::Whole => Worked::Whole(number_in(slot_of(names, line, name), words), ahead),
-        Kind::Text => copied(slot_of(labels, line, name), lengths, ahead, space, used),
+    let numbers = &tables.numbers;
+    let strings = &tables.strings;
+    match name.kind {
+        Kind::Whole => Ok(Worked::Whole(
+            number_in(slot_of(&numbers.names, line, name), numbers),
+            ahead,
+        )),
+        Kind::Text => copied(
+            slot_of(&strings.names, line, name),
+            strings,
+            ahead,
+            space,
+            used,
+        ),
     }
 }
 
 // The parenthesis that closes is passed over.
-pub(crate) fn closed(line: &[u8], worked: Worked) -> Worked
+pub(crate) fn closed(line: &[u8], worked: Result<Worked, Error>) -> Result<Worked, Error>
     ensures { result ≡ closed_as line.now worked }
 {
-    match worked {
-        Worked::Fault(error) => Worked::Fault(error),
+    Ok(match worked? {
         Worked::Whole(word, ahead) => Worked::Whole(word, token_at(line, ahead.next)),
         Worked::Text(len, ahead) => Worked::Text(len, token_at(line, ahead.next)),
-    }
+    })
 }
 
 // The minus sign before an operand.
-pub(crate) fn negated(operand: Worked) -> Worked
+pub(crate) fn negated(operand: Result<Worked, Error>) -> Result<Worked, Error>
     ensures { result ≡ whole_as operand (λ w t. answered_as (negated w) t) }
 {
-    let Worked::Whole(word, ahead) = operand else {
-        return Worked::Fault(mismatch(operand));
+    let Worked::Whole(word, ahead) = operand? else {
+        return Err(Error::TypeMismatch);
     };
     answered(negative(word), ahead)
 }
@@ -129,11 +133,11 @@ fn turned(word: u16, odd: bool) -> u16
 }
 
 // A chain of NOT before a formula.
-pub(crate) fn complemented(formula: Worked, odd: bool) -> Worked
-    ensures { (n : ℕ) → odd ≡ turned n false → result ≡ whole_as formula (λ w t. worked.Whole (flipped_by n w) t) }
+pub(crate) fn complemented(formula: Result<Worked, Error>, odd: bool) -> Result<Worked, Error>
+    ensures { (n : ℕ) → odd ≡ turned n false → result ≡ whole_as formula (λ w t. Ok (worked.Whole (flipped_by n w) t)) }
 {
-    let Worked::Whole(word, ahead) = formula else {
-        return Worked::Fault(mismatch(formula));
+    let Worked::Whole(word, ahead) = formula? else {
+        return Err(Error::TypeMismatch);
     };
-    Worked::Whole(turned(word, odd), ahead)
+    Ok(Worked::Whole(turned(word, odd), ahead))
 }

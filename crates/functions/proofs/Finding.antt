@@ -1,6 +1,6 @@
 -- INSTR: whether a text stands at a place of the space, and the first place of a text where another stands.
 use mathlib.Core.Path.{◌≡◌, refl, sym, ap, ◌∙◌}
-use mathlib.Core.Bool.{Bool, true, false}
+use mathlib.Core.Bool.{Bool, true, false, ◌&&◌}
 use mathlib.Core.List.{List, [], ◌∷◌}
 use Prim.Native.Nat.{ℕ, suc, ◌+◌, ◌-◌, ◌≤◌, ◌<◌}
 use native.Mathlib.Nat.{le_refl}
@@ -8,43 +8,26 @@ use native.Mathlib.Omega.{arith}
 use native.Mathlib.Numerals.{add-one}
 use borrow.Author.Tests.{lt-ltb, le-ltb, eq-eqb, ne_eqb}
 use lib.Dec.{eqb}
+use lib.Pointwise.{pointwise}
 use lib.ListN.{length, take, drop, get_or, length-drop}
 use lib.Seq.{drop-cons, drop-drop, take-take}
 use Rattle.words.proofs.Choices.{by_test}
 use Rattle.space.proofs.Parts.{part_below}
 use Rattle.strings.specs.Functions.{starts_with, found, place_of}
-use Rattle.variables.proofs.Bytewise.{part_length, part_next, part_end}
+use Rattle.variables.proofs.Bytewise.{part_length}
 use Rattle.whole.proofs.Never.{never}
 
--- ---- a text of the space stands at another place of it too, if it does after i bytes that are the same
-
-module _ (s : List ℕ) (x y len i : ℕ) (h : x + len ≤ length s) (k : y + len ≤ length s) where
-  abbrev pub Stands : Bool → Type 0
-  Stands t = starts_with (drop i (take len (drop y s))) (drop (x + i) s) ≡ t
-
-  both_next : i < len → starts_with (drop i (take len (drop y s))) (drop (x + i) s)
-      ≡ starts_with (get_or s (y + i) 0 ∷ drop (i + 1) (take len (drop y s))) (get_or s (x + i) 0 ∷ drop (x + i + 1) s)
-  both_next l =
-      rw (part_next s y len i k l)
-      (ap (starts_with (get_or s (y + i) 0 ∷ drop (i + 1) (take len (drop y s))))
-      (drop-cons s (x + i) 0 (omega arith) ∙ ap (λ n. get_or s (x + i) 0 ∷ drop n s) (sym (add-one (x + i)))))
-
-  pub stands_next : i < len → get_or s (x + i) 0 ≡ get_or s (y + i) 0
-      → Stands (starts_with (drop (i + 1) (take len (drop y s))) (drop (x + (i + 1)) s))
-  unfolding starts_with
-  stands_next l e =
-      let n : x + i + 1 ≡ x + (i + 1) = omega arith in
-      both_next l ∙ rw (eq-eqb (get_or s (x + i) 0) (get_or s (y + i) 0) e, n)
-
-  pub stands_not : i < len → (get_or s (x + i) 0 ≡ get_or s (y + i) 0 → ⊥) → Stands false
-  unfolding starts_with
-  stands_not l e = both_next l ∙ rw (ne_eqb (get_or s (x + i) 0) (get_or s (y + i) 0) e)
-
-  pub stands_all : len ≤ i → Stands true
-  unfolding starts_with
-  stands_all l = rw (part_end s y len i k l)
-
 -- ---- what a text begins with is told by so many bytes
+
+-- that many are the same
+starts_front_same : (y t : List ℕ) → pointwise eqb (take (length y) t) y ≡ starts_with y t
+unfolding starts_with
+starts_front_same [] t = refl
+starts_front_same (c ∷ y) [] = refl
+starts_front_same (c ∷ y) (b ∷ t) = ap (λ x. eqb b c && x) (starts_front_same y t)
+
+pub starts_same : (y t : List ℕ) (n : ℕ) → length y ≡ n → pointwise eqb (take n t) y ≡ starts_with y t
+starts_same y t n e = rw (← e) (starts_front_same y t)
 
 starts_front : (y t u : List ℕ) → take (length y) t ≡ take (length y) u → starts_with y t ≡ starts_with y u
 unfolding starts_with

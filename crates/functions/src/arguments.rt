@@ -1,18 +1,16 @@
 // The arguments of a function, taken one by one as they are worked out.
 ghost use Rattle.std.specs.Prelude.{◌≡◌};
-ghost use Rattle.functions.specs.bridge.Memory.{count_of, with_argument, want_by, gone_on, taken_wanted, taken_as};
-ghost use Rattle.grammar.specs.declared.wanting.Want.TheVariants as want;
+ghost use Rattle.functions.specs.bridge.Memory.{count_of, with_argument, want_by, gone_on, taken_as};
 
 use grammar::{Want, is_symbol};
 use strings::{Argument, Given};
-use variables::{Worked, mismatch};
+use variables::Worked;
 use whole::Error;
 use words::{Function, Place, Scanned, Sign};
 
-// What an argument leads to once it is worked out: an error, the call with all of them, or one more; and the place after it.
+// What an argument leads to once it is worked out: the call with all of them, or one more; and the place after it.
 #[derive(Clone, Copy)]
 pub enum Taken {
-    Fault(Error),
     All(Given, Place),
     More(Given, Place),
 }
@@ -47,24 +45,20 @@ fn want_of(function: Function, three: bool, place: usize) -> Want
 {
     let first = place == 0;
     match function {
-        Function::Len => Want::Text,
-        Function::Asc => Want::Text,
-        Function::Chr => Want::Whole,
-        Function::Left => if first { Want::Text } else { Want::Whole },
-        Function::Right => if first { Want::Text } else { Want::Whole },
-        Function::Mid => if first { Want::Text } else { Want::Whole },
-        Function::Space => Want::Whole,
+        Function::Len | Function::Asc | Function::Val => Want::Text,
+        Function::Chr | Function::Space | Function::Str => Want::Whole,
+        Function::Hex | Function::Abs | Function::Sgn => Want::Whole,
+        Function::Left | Function::Right | Function::Mid => if first {
+            Want::Text
+        } else {
+            Want::Whole
+        },
         Function::String => if first { Want::Whole } else { Want::Either },
         Function::Instr => if three && first {
             Want::Whole
         } else {
             Want::Text
         },
-        Function::Str => Want::Whole,
-        Function::Hex => Want::Whole,
-        Function::Val => Want::Text,
-        Function::Abs => Want::Whole,
-        Function::Sgn => Want::Whole,
         Function::Fre => Want::Either,
     }
 }
@@ -83,44 +77,32 @@ fn gone_on(given: Given, argument: Argument, ahead: Scanned) -> Taken
     }
 }
 
-// Where a whole number is wanted.
-fn take_whole(given: Given, worked: Worked) -> Taken
-    ensures { result ≡ taken_wanted want.Whole given worked }
-{
-    let Worked::Whole(word, ahead) = worked else {
-        return Taken::Fault(mismatch(worked));
-    };
-    gone_on(given, Argument::Whole(word), ahead)
-}
-
-// Where a text is wanted.
-fn take_text(given: Given, worked: Worked) -> Taken
-    ensures { result ≡ taken_wanted want.Text given worked }
-{
-    let Worked::Text(len, ahead) = worked else {
-        return Taken::Fault(mismatch(worked));
-    };
-    gone_on(given, Argument::Text(len), ahead)
-}
-
-// Where either does.
-fn take_either(given: Given, worked: Worked) -> Taken
-    ensures { result ≡ taken_wanted want.Either given worked }
-{
-    match worked {
-        Worked::Whole(word, ahead) => gone_on(given, Argument::Whole(word), ahead),
-        Worked::Text(len, ahead) => gone_on(given, Argument::Text(len), ahead),
-        Worked::Fault(error) => Taken::Fault(error),
-    }
-}
-
 // An argument is tested as soon as it is worked out.
-pub fn take_argument(function: Function, three: bool, given: Given, worked: Worked) -> Taken
+pub fn take_argument(
+    function: Function,
+    three: bool,
+    given: Given,
+    worked: Result<Worked, Error>,
+) -> Result<Taken, Error>
     ensures { result ≡ taken_as function three given worked }
 {
+    let worked = worked?;
     match want_of(function, three, count_of(given)) {
-        Want::Whole => take_whole(given, worked),
-        Want::Text => take_text(given, worked),
-        Want::Either => take_either(given, worked),
+        Want::Whole => {
+            let Worked::Whole(word, ahead) = worked else {
+                return Err(Error::TypeMismatch);
+            };
+            Ok(gone_on(given, Argument::Whole(word), ahead))
+        }
+        Want::Text => {
+            let Worked::Text(len, ahead) = worked else {
+                return Err(Error::TypeMismatch);
+            };
+            Ok(gone_on(given, Argument::Text(len), ahead))
+        }
+        Want::Either => match worked {
+            Worked::Whole(word, ahead) => Ok(gone_on(given, Argument::Whole(word), ahead)),
+            Worked::Text(len, ahead) => Ok(gone_on(given, Argument::Text(len), ahead)),
+        },
     }
 }

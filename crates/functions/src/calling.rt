@@ -13,11 +13,10 @@ ghost use Rattle.functions.specs.bridge.Memory.{NumberOf};
 use grammar::gives;
 use space::Offset;
 use strings::{
-    Given, Reply, are_three, first_length, first_word, in_range, second_length, text_called,
-    third_length,
+    Given, are_three, first_length, first_word, in_range, second_length, text_called, third_length,
 };
 use variables::{Worked, answered};
-use whole::{Answer, Error, absolute, sign, val};
+use whole::{Error, absolute, sign, val};
 use words::{Function, Kind, Scanned};
 
 // Whether the text of `len` bytes at offset y stands at offset x too.
@@ -25,16 +24,7 @@ fn stands_at(space: &[u8], x: Offset, y: Offset, len: usize) -> bool
     requires { (x.0 + len ≤ length space.now) × (y.0 + len ≤ length space.now) }
     ensures { result ≡ starts_with (take len (drop y.0 space.now)) (drop x.0 space.now) }
 {
-    let here = x.0;
-    let there = y.0;
-    let mut i = 0;
-    while i < len {
-        if space[here + i] != space[there + i] {
-            return false;
-        }
-        i += 1;
-    }
-    true
+    space[x.0..x.0 + len] == space[y.0..y.0 + len]
 }
 
 // The first place from `start` on where the second text, which stands right after the first, stands in it, counted from 1; or 0.
@@ -51,18 +41,16 @@ fn place_of(space: &[u8], from: Offset, start: u16, first: usize, second: usize)
         return start;
     }
     let sought = front + first;
-    let mut place = begin;
-    while place + second <= first + 1 {
+    for place in begin..=(first + 1).saturating_sub(second) {
         if stands_at(space, Offset(front + place - 1), Offset(sought), second) {
             return place as u16;
         }
-        place += 1;
     }
     0
 }
 
 // INSTR: of two arguments from the first place on, of three from the place that the first one says.
-fn instr(space: &[u8], used: Offset, given: Given) -> Answer
+fn instr(space: &[u8], used: Offset, given: Given) -> Result<u16, Error>
     requires { Placed space.now used.0 given }
     ensures { NumberOf (called Instr) space.now used.0 given result }
 {
@@ -70,30 +58,30 @@ fn instr(space: &[u8], used: Offset, given: Given) -> Answer
     let first = first_length(given);
     let second = second_length(given);
     if !are_three(given) {
-        return Answer::Whole(place_of(space, used, 1, first, second));
+        return Ok(place_of(space, used, 1, first, second));
     }
     let start = first_word(given);
     if !in_range(1, start) {
-        return Answer::Fault(Error::IllegalFunctionCall);
+        return Err(Error::IllegalFunctionCall);
     }
     let third = third_length(given);
-    Answer::Whole(place_of(space, Offset(front + first), start, second, third))
+    Ok(place_of(space, Offset(front + first), start, second, third))
 }
 
 // ASC: the first byte's code.
-fn asc(space: &[u8], used: Offset, given: Given) -> Answer
+fn asc(space: &[u8], used: Offset, given: Given) -> Result<u16, Error>
     requires { Placed space.now used.0 given }
     ensures { NumberOf (called Asc) space.now used.0 given result }
 {
     let front = used.0;
     if first_length(given) == 0 {
-        return Answer::Fault(Error::IllegalFunctionCall);
+        return Err(Error::IllegalFunctionCall);
     }
-    Answer::Whole(space[front] as u16)
+    Ok(space[front] as u16)
 }
 
 // VAL: the number that a text begins with.
-fn val_of(space: &[u8], used: Offset, len: usize) -> Answer
+fn val_of(space: &[u8], used: Offset, len: usize) -> Result<u16, Error>
     requires { used.0 + len ≤ length space.now }
     ensures { result ≡ val_of (take len (drop used.0 space.now)) }
 {
@@ -103,7 +91,7 @@ fn val_of(space: &[u8], used: Offset, len: usize) -> Answer
 }
 
 // A function that gives a number.
-fn number_called(function: Function, space: &[u8], used: Offset, given: Given) -> Answer
+fn number_called(function: Function, space: &[u8], used: Offset, given: Given) -> Result<u16, Error>
     requires { Placed space.now used.0 given × (gives function ≡ kind.Whole) }
     ensures { NumberOf (called function) space.now used.0 given result }
 {
@@ -111,25 +99,22 @@ fn number_called(function: Function, space: &[u8], used: Offset, given: Given) -
     let word = first_word(given);
     let len = first_length(given);
     match function {
-        Function::Len => Answer::Whole(len as u16),
+        Function::Len => Ok(len as u16),
         Function::Asc => asc(space, used, given),
         Function::Instr => instr(space, used, given),
         Function::Val => val_of(space, used, len),
         Function::Abs => absolute(word),
-        Function::Sgn => Answer::Whole(sign(word)),
+        Function::Sgn => Ok(sign(word)),
         // What is left is FRE.
-        _ => Answer::Whole((space.len() - live) as u16),
+        _ => Ok((space.len() - live) as u16),
     }
 }
 
 // A text or its error, and the token that follows.
-fn replied(reply: Reply, ahead: Scanned) -> Worked
+fn replied(reply: Result<usize, Error>, ahead: Scanned) -> Result<Worked, Error>
     ensures { result ≡ replied_as reply ahead }
 {
-    match reply {
-        Reply::Text(len) => Worked::Text(len, ahead),
-        Reply::Fault(error) => Worked::Fault(error),
-    }
+    Ok(Worked::Text(reply?, ahead))
 }
 
 // A function whose arguments are all worked out.
@@ -139,7 +124,7 @@ pub fn called(
     used: Offset,
     given: Given,
     ahead: Scanned,
-) -> Worked
+) -> Result<Worked, Error>
     requires { Placed space.old used.0 given }
     ensures { Made space.old used.0 (used.0 + given_length given)
         (called function (values_in given (drop used.0 space.old))) ahead result space.new }

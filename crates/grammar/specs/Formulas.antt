@@ -1,7 +1,7 @@
 -- How a formula reads. Operators, tightest first: `*`, `\`, MOD, `+` and `-`, comparisons, NOT, AND, OR, XOR, EQV, IMP.
 -- A formula of a level is an operand, and as long as a two-sided operator of that level or a tighter one follows, that operator
 -- with a formula of the next tighter level on its right.
-use Rattle.std.specs.Prelude.{Bool, cond, List, ℕ, zero, suc, ◌+◌, ◌*◌, leb, length, take, drop}
+use Rattle.std.specs.Prelude.{Bool, cond, List, ℕ, zero, suc, ◌+◌, ◌*◌, leb, length, take, drop, None, Option, Some}
 use Rattle.whole.specs.declared.arithmetic.Operator.{Operator}
 use Rattle.whole.specs.declared.arithmetic.Operator.TheVariants as operator
 use Rattle.words.specs.Names.{name_bytes, telling_of}
@@ -39,8 +39,6 @@ use Rattle.scanner.specs.Tokens.{token_at}
 use Rattle.grammar.specs.Tests.{choose, is_symbol}
 use Rattle.grammar.specs.Trees.{Formula, number, variable, text, inside, minus, complement, two_sided, call, Arguments, none, also}
 use Rattle.grammar.specs.Functions.{takes}
-use Rattle.grammar.specs.declared.tests.OperatorFound.{OperatorFound}
-use Rattle.grammar.specs.declared.tests.OperatorFound.TheVariants.{Is, None}
 
 -- ---- operators and their levels, loosest first; NOT's is 5, the minus sign's 11, and 12 is that of what has no operator outside
 
@@ -83,21 +81,21 @@ abbrev pub not_stands : ℕ → Bool
 not_stands level = leb level not_level
 
 -- the signs `=` and `-` are operators where one may stand
-abbrev pub sign_operator : Sign → OperatorFound
+abbrev pub sign_operator : Sign → Option Operator
 sign_operator Open = None
 sign_operator Close = None
 sign_operator Comma = None
 sign_operator Semicolon = None
 sign_operator Colon = None
 sign_operator Question = None
-sign_operator Equal = Is operator.Equal
-sign_operator Minus = Is operator.Subtract
+sign_operator Equal = Some operator.Equal
+sign_operator Minus = Some operator.Subtract
 
-abbrev pub operator_of : Token → OperatorFound
+abbrev pub operator_of : Token → Option Operator
 operator_of EndOfLine = None
 operator_of (Keyword w) = None
 operator_of Not = None
-operator_of (Infix op) = Is op
+operator_of (Infix op) = Some op
 operator_of (Call f) = None
 operator_of (Named v) = None
 operator_of (Number n) = None
@@ -108,11 +106,11 @@ operator_of (Symbol s) = sign_operator s
 operator_of Unreadable = None
 
 -- an operator of a level or a tighter one
-abbrev pub tight_enough : ℕ → OperatorFound → OperatorFound
-tight_enough level (Is op) = cond (leb level (level_of op)) (Is op) None
+abbrev pub tight_enough : ℕ → Option Operator → Option Operator
+tight_enough level (Some op) = cond (leb level (level_of op)) (Some op) None
 tight_enough level None = None
 
-abbrev pub tight_operator : ℕ → Token → OperatorFound
+abbrev pub tight_operator : ℕ → Token → Option Operator
 tight_operator level t = tight_enough level (operator_of t)
 
 -- ---- what reading finds
@@ -157,8 +155,8 @@ by_sign Question opening negative = bad
 by_sign Equal opening negative = bad
 by_sign Minus opening negative = negative tt
 
-abbrev pub by_operator : OperatorFound → (Operator → Reading) → Reading → Reading
-by_operator (Is op) go stop = go op
+abbrev pub by_operator : Option Operator → (Operator → Reading) → Reading → Reading
+by_operator (Some op) go stop = go op
 by_operator None go stop = stop
 
 -- ---- the grammar; the first argument bounds how deep the definitions go, and no line goes as deep as `enough` lets it

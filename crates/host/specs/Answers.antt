@@ -1,14 +1,15 @@
 -- The numbers that a host is answered with.
-use Rattle.std.specs.Prelude.{List, [], ◌∷◌, ℕ, ◌-◌, ℤ, pos, negsuc}
+use Rattle.checker.specs.declared.checking.Fault.{Fault}
+use Rattle.std.specs.Prelude.{List, [], ◌∷◌, ℕ, ◌-◌, ℤ, pos, negsuc, Result, Ok, Err}
 use Rattle.whole.specs.Whole.{num}
 use Rattle.checker.specs.Check.{verdict_number, verdict_line, verdict_place}
-use Rattle.checker.specs.declared.checking.Verdict.{Verdict}
-use Rattle.checker.specs.declared.checking.Verdict.TheVariants as verdict
+use Rattle.checker.specs.declared.checking.Fault.TheVariants as verdict
 use Rattle.runner.specs.Run.{number_in, line_in, place_in}
 use Rattle.runner.specs.declared.running.Ran.{Ran}
 use Rattle.runner.specs.declared.running.Outcome.{Outcome}
 use Rattle.runner.specs.declared.running.Outcome.TheVariants.{Ended, Stopped, Out, Failed, Refused}
 use Rattle.asking.specs.Asking.{asked_number}
+use Rattle.loader.specs.declared.refusals.Refusal.{Refusal}
 use Rattle.asking.specs.declared.questions.Asked.{Asked}
 use Rattle.asking.specs.declared.questions.Asked.TheVariants as asked
 
@@ -36,12 +37,12 @@ answer_in r =
 
 -- ---- a check: 0 passed or 1 refused, number, line, place
 
-abbrev pub passed_in : Verdict → ℕ
-passed_in verdict.Passed = 0
-passed_in (verdict.Refused r p) = 1
-passed_in (verdict.Faulty e l) = 1
+abbrev pub passed_in : Result (Unit {0}) Fault → ℕ
+passed_in (Ok _) = 0
+passed_in (Err (verdict.Refused r p)) = 1
+passed_in (Err (verdict.Faulty e l)) = 1
 
-abbrev pub verdict_in : Verdict → List ℕ
+abbrev pub verdict_in : Result (Unit {0}) Fault → List ℕ
 verdict_in v = passed_in v ∷ verdict_number v ∷ verdict_line v ∷ verdict_place v ∷ []
 
 -- ---- a variable: number (0 or 111), kind (0 whole, 1 text), value, start and length in the space
@@ -51,7 +52,7 @@ abbrev pub extended_of : ℤ → ℕ
 extended_of (pos n) = n
 extended_of (negsuc n) = 18446744073709551615 - n
 
-abbrev pub found_in : Asked → List ℕ
-found_in (asked.Whole w) = asked_number (asked.Whole w) ∷ 0 ∷ extended_of (num w) ∷ 0 ∷ 0 ∷ []
-found_in (asked.Text start n) = asked_number (asked.Text start n) ∷ 1 ∷ 0 ∷ start.0 ∷ n ∷ []
-found_in asked.Refused = asked_number asked.Refused ∷ 0 ∷ 0 ∷ 0 ∷ 0 ∷ []
+abbrev pub found_in : Result Asked Refusal → List ℕ
+found_in (Ok (asked.Whole w)) = asked_number (Ok (asked.Whole w)) ∷ 0 ∷ extended_of (num w) ∷ 0 ∷ 0 ∷ []
+found_in (Ok (asked.Text start n)) = asked_number (Ok (asked.Text start n)) ∷ 1 ∷ 0 ∷ start.0 ∷ n ∷ []
+found_in (Err r) = asked_number (Err r) ∷ 0 ∷ 0 ∷ 0 ∷ 0 ∷ []

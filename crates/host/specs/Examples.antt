@@ -1,17 +1,16 @@
 -- Worked examples, computed by the checker.
-use Rattle.std.specs.Prelude.{◌≡◌, refl, [], ◌∷◌}
+use Rattle.loader.specs.Refusals.{refused_at}
+use Rattle.std.specs.Prelude.{◌≡◌, refl, [], ◌∷◌, None, Some, Ok, Err}
 use Rattle.whole.specs.Whole.{num}
 use Rattle.whole.specs.declared.errors.Error.TheVariants.{TypeMismatch}
-use Rattle.loader.specs.declared.refusals.Refusal.TheVariants.{ForeignByte, NoRoom}
+use Rattle.loader.specs.declared.refusals.Refusal.TheVariants.{ForeignByte, NoRoom, NoVariable}
 use Rattle.words.specs.Places.{place, line_number}
 use Rattle.variables.specs.Tables.{empty_tables}
-use Rattle.checker.specs.declared.checking.Verdict.TheVariants.{Faulty}
+use Rattle.checker.specs.declared.checking.Fault.TheVariants.{Faulty}
 use Rattle.runner.specs.declared.running.Ran.{Ran}
 use Rattle.runner.specs.declared.running.Outcome.{Outcome}
 use Rattle.runner.specs.declared.running.Outcome.TheVariants.{Stopped, Refused}
 use Rattle.asking.specs.declared.questions.Asked.TheVariants as asked
-use Rattle.serial.specs.declared.receiving.Receipt.TheVariants.{Holds, TooMuch}
-use Rattle.serial.specs.declared.receiving.Begun.TheVariants as begun
 use Rattle.host.specs.Answers.{answer_in, verdict_in, extended_of, found_in}
 use Rattle.host.specs.Receipts.{receipt_words, receipt_of, receipt_in, begun_as}
 
@@ -27,7 +26,7 @@ refused : answer_in (ran (Refused ForeignByte (place 6))) ≡ 4 ∷ 104 ∷ 0 �
 unfolding ran
 refused = refl
 
-faulty : verdict_in (Faulty TypeMismatch (line_number 10)) ≡ 1 ∷ 13 ∷ 10 ∷ 0 ∷ []
+faulty : verdict_in (Err (Faulty TypeMismatch (line_number 10))) ≡ 1 ∷ 13 ∷ 10 ∷ 0 ∷ []
 faulty = refl
 
 largest : extended_of (num 32767) ≡ 32767
@@ -35,25 +34,25 @@ unfolding num
 largest = refl
 
 -- -1 has all bits set
-below_zero : found_in (asked.Whole 65535) ≡ 0 ∷ 0 ∷ 18446744073709551615 ∷ 0 ∷ 0 ∷ []
+below_zero : found_in (Ok (asked.Whole 65535)) ≡ 0 ∷ 0 ∷ 18446744073709551615 ∷ 0 ∷ 0 ∷ []
 unfolding num
 below_zero = refl
 
-a_text : found_in (asked.Text (record { 0 = 4 }) 7) ≡ 0 ∷ 1 ∷ 0 ∷ 4 ∷ 7 ∷ []
+a_text : found_in (Ok (asked.Text (record { 0 = 4 }) 7)) ≡ 0 ∷ 1 ∷ 0 ∷ 4 ∷ 7 ∷ []
 a_text = refl
 
-no_name : found_in asked.Refused ≡ 111 ∷ 0 ∷ 0 ∷ 0 ∷ 0 ∷ []
+no_name : found_in (Err NoVariable) ≡ 111 ∷ 0 ∷ 0 ∷ 0 ∷ 0 ∷ []
 no_name = refl
 
 -- a short buffer
-no_room : verdict_in (begun_as (begun.Refused NoRoom (place 0))) ≡ 1 ∷ 110 ∷ 0 ∷ 0 ∷ []
+no_room : verdict_in (begun_as (refused_at NoRoom (place 0))) ≡ 1 ∷ 110 ∷ 0 ∷ 0 ∷ []
 no_room = refl
 
 -- a receipt for 41 bytes, and words that no call wrote
-held_so_far : receipt_in (receipt_words (Holds 41)) ≡ Holds 41
+held_so_far : receipt_in (receipt_words (Some 41)) ≡ Some 41
 unfolding receipt_of
 held_so_far = refl
 
-strange_words : receipt_in (9 ∷ 41 ∷ []) ≡ TooMuch
+strange_words : receipt_in (9 ∷ 41 ∷ []) ≡ None
 unfolding receipt_of
 strange_words = refl

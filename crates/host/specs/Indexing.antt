@@ -1,18 +1,15 @@
 -- Asking an index, in the numbers that a host is answered with.
-use Rattle.std.specs.Prelude.{List, [], ◌∷◌, ℕ}
-use Rattle.checker.specs.declared.checking.Verdict.{Verdict}
-use Rattle.checker.specs.declared.checking.Verdict.TheVariants.{Passed, Refused}
-use Rattle.index.specs.declared.making.Indexed.{Indexed}
-use Rattle.index.specs.declared.making.Indexed.TheVariants as indexed
-use Rattle.index.specs.declared.asking.LineStart.{LineStart}
-use Rattle.index.specs.declared.asking.LineStart.TheVariants.{At, Missing}
+use Rattle.checker.specs.declared.checking.Fault.{Fault}
+use Rattle.loader.specs.declared.refusals.RefusedAt.{RefusedAt}
+use Rattle.words.specs.declared.places.Place.{Place}
+use Rattle.std.specs.Prelude.{List, [], ◌∷◌, ℕ, None, Option, Result, Some}
+use Rattle.host.specs.Receipts.{loaded_as}
 
 -- indexing, as the check's verdict
-abbrev pub indexed_as : Indexed → Verdict
-indexed_as indexed.Fine = Passed
-indexed_as (indexed.Refused refusal at) = Refused refusal at
+abbrev pub indexed_as : Result (Unit {0}) RefusedAt → Result (Unit {0}) Fault
+indexed_as answer = loaded_as answer
 
 -- a line: 0 missing or 1, and its place
-abbrev pub start_in : LineStart → List ℕ
-start_in (At p) = 1 ∷ p.0 ∷ []
-start_in Missing = 0 ∷ 0 ∷ []
+abbrev pub start_in : Option Place → List ℕ
+start_in (Some p) = 1 ∷ p.0 ∷ []
+start_in None = 0 ∷ 0 ∷ []

@@ -16,36 +16,19 @@ use blocks::{Block, tables_in, write_block};
 use checker::check_recipe;
 use machine::Record;
 use runner::{Done, is_refused, run_lent};
-use variables::{NameTable, Tables};
+use variables::Tables;
 
 // What a run over tables of its own came to: the answer by its numbers, and the tables in the block; where it was refused the block is left
 // alone.
-pub(crate) fn tell(
-    done: Done,
-    names: &NameTable,
-    words: &[u16; Tables::MOST],
-    labels: &NameTable,
-    lengths: &[u8; Tables::MOST],
-    tables: &mut Block,
-    answer: &mut [u64; 7],
-)
-    ensures { (ran : Ran) (given : Tables) → ran_of done names.now words.now labels.now lengths.now ≡ answer_of ran given
+pub(crate) fn tell(done: Done, made: &Tables, tables: &mut Block, answer: &mut [u64; 7])
+    ensures { (ran : Ran) (given : Tables) → ran_of done made.now ≡ answer_of ran given
         → Told ran tables.old tables.new answer.new }
 {
     *answer = answer_of(done);
-    let outcome = done.outcome;
-    if is_refused(outcome) {
+    if is_refused(done.outcome) {
         return;
     }
-    write_block(
-        tables,
-        names,
-        words,
-        labels,
-        lengths,
-        done.numbers,
-        done.strings,
-    );
+    write_block(tables, made);
 }
 
 // Runs a recipe. The tables are the run's own until it ends.
@@ -65,24 +48,9 @@ pub extern "C" fn quernhem_run(
         space.old room.old records.old tables.old
         space.new room.new records.new tables.new answer.new }
 {
-    let mut names = [0; Tables::NAMES];
-    let mut words = [0; Tables::MOST];
-    let mut labels = [0; Tables::NAMES];
-    let mut lengths = [0; Tables::MOST];
-    let done = run_lent(
-        text,
-        input,
-        space,
-        room,
-        index,
-        records,
-        budget,
-        &mut names,
-        &mut words,
-        &mut labels,
-        &mut lengths,
-    );
-    tell(done, &names, &words, &labels, &lengths, tables, answer);
+    let mut made = Tables::empty();
+    let done = run_lent(text, input, space, room, index, records, budget, &mut made);
+    tell(done, &made, tables, answer);
 }
 
 // Checks a recipe.

@@ -8,27 +8,18 @@ ghost use Rattle.host.specs.Answers.{verdict_in};
 ghost use Rattle.host.specs.Indexing.{indexed_as, start_in};
 
 use crate::answers::{verdict_of, wide_size};
-use checker::Verdict;
-use index::{Index, Indexed, LineStart, callers_in, index_of, line_in};
-use loader::Loaded;
-use words::LineNumber;
-
-fn indexed_as(indexed: Indexed) -> Verdict
-    ensures { result ≡ indexed_as indexed }
-{
-    match indexed {
-        Indexed::Fine => Verdict::Passed,
-        Indexed::Refused(refusal, place) => Verdict::Refused(refusal, place),
-    }
-}
+use crate::receipts::loaded_as;
+use index::{Index, callers_in, index_of, line_in};
+use loader::Recipe;
+use words::{LineNumber, Place};
 
 // Whether there is such a line, and where it starts.
-fn start_of(start: LineStart) -> [u64; 2]
+fn start_of(start: Option<Place>) -> [u64; 2]
     ensures { result ≡ start_in start }
 {
     match start {
-        LineStart::At(place) => [1, wide_size(place.0)],
-        LineStart::Missing => [0, 0],
+        Some(place) => [1, wide_size(place.0)],
+        None => [0, 0],
     }
 }
 
@@ -38,8 +29,7 @@ pub extern "C" fn quernhem_index(text: &[u8], index: &mut Index, verdict: &mut [
     ensures { (index.new ≡ index_after text.now index.old)
         × (verdict.new ≡ verdict_in (indexed_as (indexed_of text.now))) }
 {
-    let indexed = index_of(text, index);
-    *verdict = verdict_of(indexed_as(indexed));
+    *verdict = verdict_of(loaded_as(index_of(text, index)));
 }
 
 // Where a line starts, by an index alone.
@@ -55,7 +45,7 @@ pub extern "C" fn quernhem_line(index: &Index, number: u16, found: &mut [u64; 2]
 pub extern "C" fn quernhem_callers(
     index: &Index,
     number: u16,
-    callers: &mut [u16; Loaded::MOST_LINES],
+    callers: &mut [u16; Recipe::MOST_LINES],
     count: &mut [u64; 1],
 )
     ensures { (callers.new ≡ overlaid callers.old 0 (callers_in index.now (line_number number)))

@@ -8,7 +8,7 @@ ghost use Rattle.host.specs.Answers.{verdict_in};
 ghost use Rattle.host.specs.Indexing.{indexed_as, start_in};
 
 use index::Index;
-use loader::Loaded;
+use loader::Recipe;
 
 // Makes the index of a text; a refusal leaves what was there.
 #[unsafe(no_mangle)]
@@ -32,7 +32,7 @@ pub extern "C" fn quernhem_line(index: &Index, number: u16, found: &mut [u64; 2]
 pub extern "C" fn quernhem_callers(
     index: &Index,
     number: u16,
-    callers: &mut [u16; Loaded::MOST_LINES],
+    callers: &mut [u16; Recipe::MOST_LINES],
     count: &mut [u64; 1],
 )
     ensures { (callers.new ≡ overlaid callers.old 0 (callers_in index.now (line_number number)))

@@ -1,4 +1,7 @@
 -- What the program writes follows from what importing answers.
+use Rattle.std.specs.Prelude.{Ok, Result, ℕ}
+use Rattle.loader.specs.declared.refusals.RefusedAt.{RefusedAt}
+use Rattle.loader.specs.Refusals.{refused_at}
 use mathlib.Core.Path.{◌≡◌, refl, sym, ◌∙◌, subst}
 use mathlib.Core.List.{List, []}
 use Prim.Native.Nat.{ℕ}
@@ -10,26 +13,24 @@ use Rattle.loader.specs.Refusals.{refusal_number}
 use Rattle.loader.specs.declared.refusals.Refusal.{Refusal}
 use Rattle.readings.specs.Lines.{lines_of}
 use Rattle.readings.specs.Importing.{imported_of, out_after}
-use Rattle.readings.specs.declared.importing.Imported.{Imported}
-use Rattle.readings.specs.declared.importing.Imported.TheVariants.{Done, Refused}
 use Rattle.readings.proofs.Groups.{done_whole}
 use Rattle.console.specs.Lines.{refused_line}
 use Rattle.console.specs.Answers.{Tells}
 use Rattle.console.proofs.Telling.{tells_front, tells_line}
 use Rattle.import_readings.specs.Answers.{told_of}
 
-module _ (file room : List ℕ) {answer : Imported} (is : answer ≡ imported_of file (length room)) where
-  pub tells_lines : {n : ℕ} {line : Text} {out : List ℕ} → answer ≡ Done n → line ≡ held [] → out ≡ out_after file room
+module _ (file room : List ℕ) {answer : Result ℕ RefusedAt} (is : answer ≡ imported_of file (length room)) where
+  pub tells_lines : {n : ℕ} {line : Text} {out : List ℕ} → answer ≡ Ok n → line ≡ held [] → out ≡ out_after file room
       → Tells (told_of file (imported_of file (length room))) (record { written = n; line = line }) out
   unfolding out_after
   tells_lines {n} {line} {out} e l o =
-      let c : imported_of file (length room) ≡ Done n = sym is ∙ e in
-      subst (λ (x : Imported). Tells (told_of file x) (record { written = n; line = line }) out) (sym c)
+      let c : imported_of file (length room) ≡ Ok n = sym is ∙ e in
+      subst (λ (x : Result ℕ RefusedAt). Tells (told_of file x) (record { written = n; line = line }) out) (sym c)
       (tells_front (lines_of file) (drop n room) (done_whole file (length room) n (sym c)) (o ∙ rw c) l)
 
-  pub tells_refused : {refusal : Refusal} {at : Place} {line : Text} {out : List ℕ} → answer ≡ Refused refusal at
+  pub tells_refused : {refusal : Refusal} {at : Place} {line : Text} {out : List ℕ} → answer ≡ refused_at refusal at
       → line ≡ held (refused_line (refusal_number refusal) at.0)
       → Tells (told_of file (imported_of file (length room))) (record { written = 0; line = line }) out
   tells_refused {refusal} {at} {line} {out} e l =
-      subst (λ (x : Imported). Tells (told_of file x) (record { written = 0; line = line }) out) (sym (sym is ∙ e))
+      subst (λ (x : Result ℕ RefusedAt). Tells (told_of file x) (record { written = 0; line = line }) out) (sym (sym is ∙ e))
       (tells_line (refused_line (refusal_number refusal) at.0) refl refl l)

@@ -1,4 +1,6 @@
 -- Asking the index of a text answers what reading the whole text would; and its front is the table of the text's lines.
+use Rattle.std.specs.Prelude.{Err, Ok, Result}
+use Rattle.loader.specs.declared.refusals.RefusedAt.{RefusedAt}
 use mathlib.Core.Path.{◌≡◌, refl, sym, ap, ap₂, ◌∙◌}
 use mathlib.Core.List.{List, [], ◌∷◌, ◌++◌, append_assoc}
 use Prim.Native.Nat.{ℕ, zero, suc, ◌+◌, ◌*◌, ◌-◌, ◌≤◌, ◌<◌, min}
@@ -15,8 +17,6 @@ use Rattle.space.specs.Moves.{overlaid}
 use Rattle.space.proofs.Overlaid.{overlaid-length, overlaid_back}
 use Rattle.loader.specs.Lines.{Line, lines_of, after_number, number_of, has, first_of, from_number, find_line}
 use Rattle.loader.specs.Loading.{load_of, most_lines}
-use Rattle.loader.specs.declared.loading.Loaded.{Loaded}
-use Rattle.loader.specs.declared.loading.Loaded.TheVariants as loaded
 use Rattle.loader.proofs.Rising.{Sound, Rising, recipe, rising_suffix}
 use Rattle.reader.specs.Lines.{judgement}
 use Rattle.rows.specs.bridge.Rows.{cell, Tells, Tabled}
@@ -26,7 +26,6 @@ use Rattle.index.specs.Pairs.{pairs_of}
 use Rattle.index.specs.Index.{row_of, rows_of, line_table, pair_words, pair_table, most_pairs, pairs_at, index_words, blank, index_of, indexed_of}
 use Rattle.index.specs.Asking.{start_among, line_in, naming_among, callers_in}
 use Rattle.index.specs.Law.{start_of, AnswersAsTheText}
-use Rattle.index.specs.declared.making.Indexed.TheVariants.{Fine}
 use Rattle.index.proofs.Laying.{blank_long}
 use Rattle.index.proofs.Noting.{pair_words_long}
 use Rattle.index.proofs.Tabling.{verdict_error}
@@ -37,18 +36,18 @@ use Rattle.index.proofs.Calling.{callers_within}
 
 -- it loads, and has few pairs
 pub record Indexable (text : List ℕ) : Type 0 where
-  pub loads : load_of text ≡ loaded.Fine
+  pub loads : load_of text ≡ Ok tt
   pub few : length (pairs_of text) ≤ most_pairs
 
-indexable_by : (text : List ℕ) (l : Loaded) → load_of text ≡ l → indexed_of text ≡ Fine → Indexable text
+indexable_by : (text : List ℕ) (l : Result (Unit {0}) RefusedAt) → load_of text ≡ l → indexed_of text ≡ Ok tt → Indexable text
 unfolding indexed_of
-indexable_by text (loaded.Refused r p) e h = let z = rw e at h in never (cc)
-indexable_by text loaded.Fine e h =
+indexable_by text (Err x) e h = let z = rw e at h in never (cc)
+indexable_by text (Ok _) e h =
     by_test (ltb most_pairs (length (pairs_of text)))
     (λ t. let z = rw (e, t) at h in never (cc))
     (λ t. record { loads = e; few = ltb-false most_pairs (length (pairs_of text)) t })
 
-pub indexable : (text : List ℕ) → indexed_of text ≡ Fine → Indexable text
+pub indexable : (text : List ℕ) → indexed_of text ≡ Ok tt → Indexable text
 indexable text h = indexable_by text (load_of text) refl h
 
 -- ---- the two parts of an index

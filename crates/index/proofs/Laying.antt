@@ -3,7 +3,7 @@ use mathlib.Core.Path.{◌≡◌, sym, ap, ◌∙◌}
 use mathlib.Core.List.{List, [], ◌∷◌, ◌++◌}
 use Prim.Native.Nat.{ℕ, suc, ◌+◌, ◌≤◌, ◌<◌}
 use native.Mathlib.Omega.{arith}
-use lib.ListN.{length, get_or, drop, set, length-set, length-replicate, get_or-replicate, get_or-append}
+use lib.ListN.{length, get_or, drop, set, length-set, replicate, length-replicate, get_or-replicate, get_or-append}
 use lib.Seq.{get_or-take, get_or-drop}
 use Rattle.space.specs.Moves.{overlaid}
 use Rattle.space.proofs.Overlaid.{overlaid-length, overlaid_one, overlaid_after, overlaid_back, overlaid_below, overlaid_above}
@@ -14,6 +14,11 @@ use Rattle.index.specs.bridge.Laying.{laid_out}
 pub blank_long : (n : ℕ) → length (blank n) ≡ n
 unfolding blank
 blank_long n = length-replicate {0} {A = ℕ} n 0
+
+-- filled with zeros
+pub filled : (n : ℕ) {s : List ℕ} → s ≡ replicate n 0 → s ≡ blank n
+unfolding blank
+filled n e = e
 
 module _ (room table pairs : List ℕ) (count : ℕ) {s₁ s₂ : List ℕ} (long : length room ≡ index_words) (short : length table ≤ pairs_at)
     (few : length pairs ≤ pair_room) (e₁ : s₁ ≡ blank (length room)) (e₂ : s₂ ≡ overlaid s₁ 0 table) where

@@ -1,4 +1,5 @@
 -- The pairs of a line as words, and one pair more.
+use Rattle.std.specs.Prelude.{Option, Some}
 use mathlib.Core.Path.{◌≡◌, refl, sym, ap, ap₂, ◌∙◌}
 use mathlib.Core.Bool.{Bool, true, false, ◌||◌}
 use mathlib.Core.List.{List, [], ◌∷◌, ◌++◌, append_assoc}
@@ -10,8 +11,6 @@ use lib.Seq.{drop_at}
 use Rattle.words.specs.declared.places.LineNumber.{LineNumber}
 use Rattle.space.specs.Moves.{overlaid}
 use Rattle.space.proofs.Overlaid.{overlaid-length, overlaid_none, overlaid_one, overlaid_after}
-use Rattle.grammar.specs.declared.tests.NamedLine.{NamedLine}
-use Rattle.grammar.specs.declared.tests.NamedLine.TheVariants.{Names}
 use Rattle.index.specs.Pairs.{Pair, is_in, with_named, pairs_with}
 use Rattle.index.specs.Index.{pair_words, most_pairs, blank}
 use Rattle.index.specs.bridge.Noting.{named_among, pair_room, Held}
@@ -101,7 +100,7 @@ module _ (own : ℕ) (done : List Pair) (seen : List ℕ) {pairs : List ℕ} {fr
       ∙ drop_at (pair_words done) (mine ++ rest) (2 * from) (omega (arith, pair_words_long done)) in
       ap₂ (named_among n) left cut ∙ named_in n own seen rest
 
-  module _ {names : NamedLine} {line : LineNumber} {told : Bool} (is : names ≡ Names line)
+  module _ {names : Option LineNumber} {line : LineNumber} {told : Bool} (is : names ≡ Some line)
       (e : told ≡ named_among line.0 (count - from) (drop (2 * from) pairs)) where
     seen_so : told ≡ is_in line.0 seen
     seen_so = e ∙ held_named line.0

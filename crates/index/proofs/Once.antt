@@ -1,4 +1,6 @@
 -- The pairs of a text tell the lines that name a line: a line's pairs have each line that it names once.
+use Rattle.std.specs.Prelude.{None, Option, Some}
+use Rattle.words.specs.declared.places.LineNumber.{LineNumber}
 use mathlib.Core.Path.{◌≡◌, refl, sym, ap, ap₂, ◌∙◌}
 use mathlib.Core.Bool.{Bool, true, false, ◌||◌, false≢true}
 use mathlib.Core.List.{List, [], ◌∷◌, ◌++◌}
@@ -10,8 +12,6 @@ use Rattle.whole.specs.Digits.{leading_value}
 use Rattle.words.proofs.Choices.{by_test}
 use Rattle.loader.specs.Lines.{Line, after_number}
 use Rattle.grammar.specs.Trees.{Statement}
-use Rattle.grammar.specs.declared.tests.NamedLine.{NamedLine}
-use Rattle.grammar.specs.declared.tests.NamedLine.TheVariants.{Names, NoLine}
 use Rattle.statements.specs.Parts.{named_line, statements_of}
 use Rattle.reader.specs.Lines.{Judgement, unreadable, too_deep, holds, judgement}
 use Rattle.index.specs.Callers.{is_named, any_names, line_names, in_front_if, callers_among}
@@ -56,9 +56,9 @@ in_same n m ns h =
     (λ e. let k : is_in n ns ≡ true = rw (eqb-true m n e) at h in k ∙ sym (ap (λ b. b || eqb m n) k))
     (λ e. rw e (sym (or_false (is_in n ns))))
 
-in_with : (n : ℕ) (seen : List ℕ) (x : NamedLine) → is_in n (with_named seen x) ≡ is_in n seen || is_named n x
-in_with n seen NoLine = sym (or_false (is_in n seen))
-in_with n seen (Names l) =
+in_with : (n : ℕ) (seen : List ℕ) (x : Option LineNumber) → is_in n (with_named seen x) ≡ is_in n seen || is_named n x
+in_with n seen None = sym (or_false (is_in n seen))
+in_with n seen (Some l) =
     by_test (is_in l.0 seen) (λ e. rw e (in_same n l.0 seen e)) (λ e. rw e (in_after n seen l.0))
 
 in_named : (n : ℕ) (xs : List Statement) (seen : List ℕ) → is_in n (named_by seen xs) ≡ is_in n seen || any_names n xs
@@ -89,9 +89,9 @@ distinct_after (k ∷ ns) m d h =
     let e : eqb m k ≡ false = by_test (eqb m k) (λ t. absurd (false≢true (sym (or_first (eqb k m) (is_in m ns) h) ∙ eq-eqb k m (sym (eqb-true m k t))))) (λ t. t) in
     (in_after k ns m ∙ ap₂ (λ a b. a || b) d.0 e, distinct_after ns m d.1 (or_second (eqb k m) (is_in m ns) h))
 
-distinct_with : (seen : List ℕ) (x : NamedLine) → Distinct seen → Distinct (with_named seen x)
-distinct_with seen NoLine d = d
-distinct_with seen (Names l) d = by_test (is_in l.0 seen) (λ e. rw e d) (λ e. rw e (distinct_after seen l.0 d e))
+distinct_with : (seen : List ℕ) (x : Option LineNumber) → Distinct seen → Distinct (with_named seen x)
+distinct_with seen None d = d
+distinct_with seen (Some l) d = by_test (is_in l.0 seen) (λ e. rw e d) (λ e. rw e (distinct_after seen l.0 d e))
 
 distinct_named : (xs : List Statement) (seen : List ℕ) → Distinct seen → Distinct (named_by seen xs)
 unfolding named_by

@@ -1,4 +1,6 @@
 -- Only a text's own index is taken for it, and the lines that name a line rise.
+use Rattle.std.specs.Prelude.{Err, Ok, Result}
+use Rattle.loader.specs.declared.refusals.RefusedAt.{RefusedAt}
 use mathlib.Core.Path.{◌≡◌, refl, sym, ap, ap₂, ◌∙◌}
 use mathlib.Core.Bool.{true, false, false≢true}
 use mathlib.Core.List.{List, [], ◌∷◌, ◌++◌, append-nil}
@@ -19,8 +21,6 @@ use Rattle.rows.specs.bridge.Rows.{cells, Tabled}
 use Rattle.index.specs.Callers.{line_names, callers_among}
 use Rattle.index.specs.Index.{pairs_at, index_words, index_of, indexed_of, index_after, held_after, is_held, is_index_of}
 use Rattle.index.specs.Law.{RisesFrom, OwnIndexAlone, OwnIndexTaken, CallersRise}
-use Rattle.index.specs.declared.making.Indexed.{Indexed}
-use Rattle.index.specs.declared.making.Indexed.TheVariants.{Fine, Refused}
 use Rattle.index.proofs.Answering.{indexable, index_long, index_tabled}
 
 -- ---- the same words
@@ -37,9 +37,9 @@ unfolding same_bytes
 same_self [] = refl
 same_self (x ∷ a) = rw (eq-eqb x x refl) (same_self a)
 
-own_by : (text words : List ℕ) (i : Indexed) → indexed_of text ≡ i → is_held text words i ≡ true → (indexed_of text ≡ Fine) × (words ≡ index_of text)
-own_by text words Fine e h = (e, sym (same_true (index_of text) words h))
-own_by text words (Refused r p) e h = absurd (false≢true h)
+own_by : (text words : List ℕ) (i : Result (Unit {0}) RefusedAt) → indexed_of text ≡ i → is_held text words i ≡ true → (indexed_of text ≡ Ok tt) × (words ≡ index_of text)
+own_by text words (Ok _) e h = (e, sym (same_true (index_of text) words h))
+own_by text words (Err x) e h = absurd (false≢true h)
 
 pub own_index_alone : OwnIndexAlone
 own_index_alone text words h = own_by text words (indexed_of text) refl h
@@ -55,13 +55,13 @@ other_length text words h =
     (λ t. sym t)
 
 -- an index that was made has all its words
-pub made_long : (text before : List ℕ) {own : List ℕ} → indexed_of text ≡ Fine → own ≡ index_after text before → length own ≡ index_words
+pub made_long : (text before : List ℕ) {own : List ℕ} → indexed_of text ≡ Ok tt → own ≡ index_after text before → length own ≡ index_words
 made_long text before e o = ap length (o ∙ ap (held_after text before) e) ∙ index_long text (indexable text e)
 
 -- ---- the table that a text's own index begins with
 
 module _ (text words : List ℕ) (own : is_index_of text words ≡ true) where
-  abbrev is_own : (indexed_of text ≡ Fine) × (words ≡ index_of text)
+  abbrev is_own : (indexed_of text ≡ Ok tt) × (words ≡ index_of text)
   is_own = own_index_alone text words own
 
   pub own_long : pairs_at ≤ length words

@@ -1,4 +1,5 @@
 -- The pairs of a row's line, by the row.
+use Rattle.std.specs.Prelude.{Option, ℕ}
 use mathlib.Core.Path.{◌≡◌, refl, sym, ap, ap₂, ◌∙◌}
 use mathlib.Core.List.{List, [], ◌∷◌, ◌++◌, append-nil}
 use Prim.Native.Nat.{ℕ, ◌<◌}
@@ -16,7 +17,6 @@ use Rattle.rows.specs.bridge.Rows.{count_of, cell, span_in, verdict_in, verdict_
 use Rattle.rows.proofs.Ordering.{row_lines, row_spanned}
 use Rattle.index.specs.Pairs.{Pair, named_by, named_in, pairs_with}
 use Rattle.index.specs.bridge.Noting.{first_pairs, Held, NotedAs}
-use Rattle.index.specs.declared.pairs.Noted.{Noted}
 
 -- a line whose verdict is no 0 names nothing
 unread_names : (g : Judgement) → (verdict_of (judged_as g) ≡ 0 → ⊥) → named_in g ≡ []
@@ -68,7 +68,7 @@ module _ {text rows : List ℕ} (t : Tabled text rows) (i : ℕ) (h : i < count_
     pub row_reads : verdict_in rows i ≡ 0 → Reads (judgement (body_at text span))
     row_reads v = rw is (read_holds (judgement body) (sym verdict_here ∙ v))
 
-    pub row_noted : (r : Reads (judgement (body_at text span))) (noted : Noted) (pairs : List ℕ) (done : List Pair)
+    pub row_noted : (r : Reads (judgement (body_at text span))) (noted : Option ℕ) (pairs : List ℕ) (done : List Pair)
         → NotedAs noted pairs (done ++ pairs_with span.number.0 (named_by [] (statements_of r.part)))
         → NotedAs noted pairs (done ++ first_pairs (drop i (lines_of text)))
     row_noted r noted pairs done n =

@@ -1,4 +1,5 @@
 -- Words taken some at a time: the pairs and rows of an index from one of them on.
+use Rattle.std.specs.Prelude.{None, Some}
 use mathlib.Core.Path.{◌≡◌, refl, sym, ap, ◌∙◌}
 use mathlib.Core.Bool.{Bool, true, false, cond, ◌||◌}
 use mathlib.Core.List.{List, [], ◌++◌}
@@ -13,7 +14,6 @@ use Rattle.words.specs.declared.places.LineNumber.{LineNumber}
 use Rattle.index.specs.Callers.{in_front_if}
 use Rattle.index.specs.Asking.{start_among, line_in, naming_among}
 use Rattle.index.specs.bridge.Noting.{named_among}
-use Rattle.index.specs.declared.asking.LineStart.TheVariants.{At, Missing}
 
 -- one is left, and those after it
 one_left : (i n : ℕ) → i < n → n - i ≡ suc (n - (i + 1))
@@ -44,7 +44,7 @@ named_none n count i pairs h = let e : count - i ≡ 0 = omega arith in rw e
 
 start_next : (n count i : ℕ) (index : List ℕ) → i < count
     → start_among n (count - i) (drop (1 + 6 * i) index)
-    ≡ cond (eqb (get_or index (1 + 6 * i) 0) n) (At (place (get_or index (1 + 6 * i + 1) 0))) (start_among n (count - (i + 1)) (drop (1 + 6 * (i + 1)) index))
+    ≡ cond (eqb (get_or index (1 + 6 * i) 0) n) (Some (place (get_or index (1 + 6 * i + 1) 0))) (start_among n (count - (i + 1)) (drop (1 + 6 * (i + 1)) index))
 unfolding start_among
 start_next n count i index h =
     let z : 1 + 6 * i + 0 ≡ 1 + 6 * i = omega arith in
@@ -58,7 +58,7 @@ start_all index n k e = let z : k - 0 ≡ k = omega arith in ap (λ m. start_amo
 module _ (n count i : ℕ) (index : List ℕ) where
   -- a row with the number tells where its line starts,
   pub start_here : i < count → get_or index (1 + 6 * i) 0 ≡ n
-      → At (place (get_or index (1 + 6 * i + 1) 0)) ≡ start_among n (count - i) (drop (1 + 6 * i) index)
+      → Some (place (get_or index (1 + 6 * i + 1) 0)) ≡ start_among n (count - i) (drop (1 + 6 * i) index)
   start_here h e = sym (start_next n count i index h ∙ rw (eq-eqb _ _ e))
 
   -- and otherwise those after it do
@@ -66,7 +66,7 @@ module _ (n count i : ℕ) (index : List ℕ) where
       → start_among n (count - (i + 1)) (drop (1 + 6 * (i + 1)) index) ≡ start_among n (count - i) (drop (1 + 6 * i) index)
   start_later h e = sym (start_next n count i index h ∙ rw (ne_eqb _ _ e))
 
-  pub start_none : count ≤ i → Missing ≡ start_among n (count - i) (drop (1 + 6 * i) index)
+  pub start_none : count ≤ i → None ≡ start_among n (count - i) (drop (1 + 6 * i) index)
   unfolding start_among
   start_none h = let e : count - i ≡ 0 = omega arith in rw e
 

@@ -1,20 +1,19 @@
 -- What an index answers, whatever words it holds: the first of its rows with a number tells where a line starts, and its pairs tell the lines
 -- that name it, as many as a text has lines at most.
-use Rattle.std.specs.Prelude.{cond, List, [], ℕ, zero, suc, ◌+◌, min, eqb, get_or, take, drop}
+use Rattle.words.specs.declared.places.Place.{Place}
+use Rattle.std.specs.Prelude.{cond, List, [], ℕ, zero, suc, ◌+◌, min, eqb, get_or, take, drop, None, Option, Some}
 use Rattle.words.specs.Places.{place}
 use Rattle.words.specs.declared.places.LineNumber.{LineNumber}
 use Rattle.loader.specs.Loading.{most_lines}
 use Rattle.index.specs.Callers.{in_front_if}
 use Rattle.index.specs.Index.{row_width, pairs_at, most_pairs}
-use Rattle.index.specs.declared.asking.LineStart.{LineStart}
-use Rattle.index.specs.declared.asking.LineStart.TheVariants.{At, Missing}
 
 -- in so many rows
-unfoldable pub start_among : ℕ → ℕ → List ℕ → LineStart
-start_among n zero rows = Missing
-start_among n (suc k) rows = cond (eqb (get_or rows 0 0) n) (At (place (get_or rows 1 0))) (start_among n k (drop row_width rows))
+unfoldable pub start_among : ℕ → ℕ → List ℕ → Option Place
+start_among n zero rows = None
+start_among n (suc k) rows = cond (eqb (get_or rows 0 0) n) (Some (place (get_or rows 1 0))) (start_among n k (drop row_width rows))
 
-abbrev pub line_in : List ℕ → LineNumber → LineStart
+abbrev pub line_in : List ℕ → LineNumber → Option Place
 line_in index n = start_among n.0 (min (get_or index 0 0) most_lines) (drop 1 index)
 
 -- in so many pairs

@@ -1,18 +1,16 @@
 -- Who jumps here: the lines of a text that name a line after GOTO, GOSUB, THEN, ELSE or RESTORE, by reading the whole text.
-use Rattle.std.specs.Prelude.{Bool, false, cond, ◌||◌, List, [], ◌∷◌, ℕ, eqb}
+use Rattle.std.specs.Prelude.{Bool, false, cond, ◌||◌, List, [], ◌∷◌, ℕ, eqb, None, Option, Some}
 use Rattle.whole.specs.Digits.{leading_value}
 use Rattle.words.specs.declared.places.LineNumber.{LineNumber}
 use Rattle.loader.specs.Lines.{Line, lines_of, after_number}
 use Rattle.grammar.specs.Trees.{Statement}
-use Rattle.grammar.specs.declared.tests.NamedLine.{NamedLine}
-use Rattle.grammar.specs.declared.tests.NamedLine.TheVariants.{Names, NoLine}
 use Rattle.statements.specs.Parts.{named_line, statements_of}
 use Rattle.reader.specs.Lines.{Judgement, unreadable, too_deep, holds, judgement}
 
 -- whether it is the line n that is named
-abbrev pub is_named : ℕ → NamedLine → Bool
-is_named n (Names l) = eqb l.0 n
-is_named n NoLine = false
+abbrev pub is_named : ℕ → Option LineNumber → Bool
+is_named n (Some l) = eqb l.0 n
+is_named n None = false
 
 -- whether one of some statements names the line n
 unfoldable pub any_names : ℕ → List Statement → Bool

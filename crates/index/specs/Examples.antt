@@ -1,5 +1,7 @@
 -- Worked examples, computed by the checker: which lines name a line and where it starts, by reading the whole text and by asking its index.
-use Rattle.std.specs.Prelude.{◌≡◌, refl, true, false, List, [], ◌∷◌, ◌++◌, map, ℕ, zero, suc, ◌+◌, ◌/◌, ◌%◌, set}
+use Rattle.words.specs.declared.places.Place.{Place}
+use Rattle.loader.specs.Refusals.{refused_at}
+use Rattle.std.specs.Prelude.{◌≡◌, refl, true, false, List, [], ◌∷◌, ◌++◌, map, ℕ, zero, suc, ◌+◌, ◌/◌, ◌%◌, set, None, Ok, Option, Some}
 use Rattle.whole.specs.Bytes.{bytes, leading}
 use Rattle.whole.specs.Digits.{is_digit, value_from}
 use Rattle.words.specs.Places.{place, line_number}
@@ -21,9 +23,6 @@ use Rattle.index.specs.Callers.{any_names, callers_among, callers_of}
 use Rattle.index.specs.Pairs.{is_in, named_by, pairs_with, pairs_among}
 use Rattle.index.specs.Index.{rows_of, pair_words, blank, index_of, indexed_of, is_index_of}
 use Rattle.index.specs.Asking.{start_among, line_in, naming_among, callers_in}
-use Rattle.index.specs.declared.making.Indexed.TheVariants.{Fine, Refused}
-use Rattle.index.specs.declared.asking.LineStart.{LineStart}
-use Rattle.index.specs.declared.asking.LineStart.TheVariants.{At, Missing}
 
 -- twice in a line; both branches; a subroutine; no reading line; a remark and a text
 pub recipe : List ℕ
@@ -32,17 +31,17 @@ recipe =
 
 pub record Example : Type 0 where
   pub line : ℕ
-  pub start : LineStart
+  pub start : Option Place
   pub callers : List ℕ
 
 pub lines : List Example
 lines =
-    record { line = 40; start = At (place 55); callers = 10 ∷ 20 ∷ 30 ∷ 40 ∷ [] }
-    ∷ record { line = 10; start = At (place 0); callers = 20 ∷ [] }
-    ∷ record { line = 50; start = At (place 71); callers = [] }
+    record { line = 40; start = Some (place 55); callers = 10 ∷ 20 ∷ 30 ∷ 40 ∷ [] }
+    ∷ record { line = 10; start = Some (place 0); callers = 20 ∷ [] }
+    ∷ record { line = 50; start = Some (place 71); callers = [] }
     -- a line that is missing can be named
-    ∷ record { line = 99; start = Missing; callers = 50 ∷ [] }
-    ∷ record { line = 45; start = Missing; callers = [] }
+    ∷ record { line = 99; start = None; callers = 50 ∷ [] }
+    ∷ record { line = 45; start = None; callers = [] }
     ∷ []
 
 pub read_callers_hold : map (λ (e : Example). callers_of recipe (line_number e.line)) lines ≡ map (λ (e : Example). e.callers) lines
@@ -74,6 +73,6 @@ naming_lines (suc n) k =
     (48 + k / 100) ∷ (48 + k / 10 % 10) ∷ (48 + k % 10) ∷ (bytes " GOTO 1:GOTO 2:GOTO 3:GOTO 4:GOTO 5:GOTO 6:GOTO 7:GOTO 8\n" ++ naming_lines n (suc k))
 
 pub refused : map (λ (text : List ℕ). indexed_of text) (bytes "20\n10\n" ∷ naming_lines 128 100 ∷ (naming_lines 128 100 ++ bytes "300 GOTO 1\n") ∷ [])
-    ≡ Refused NotRising (place 3) ∷ Fine ∷ Refused TooManyPairs (place 0) ∷ []
+    ≡ refused_at NotRising (place 3) ∷ (Ok tt) ∷ refused_at TooManyPairs (place 0) ∷ []
 unfolding naming_lines bytes leading is_digit value_from same_bytes meaning capital_of is_letter is_hex hex_digit signs pairs class_of reserved telling_of mark_of word_token number_token hex_from hex_token text_token sign_token token_at lines_from number_of is_plain numbered judged load_lines load_of form_for any_for count_of formula_at climb_at operand_at arguments_at formula_of depth_of deepest_of items_at print_at for_at input_at begun_at part_at read_line deepest parts_of heads deepest_in is_in named_by pairs_with pairs_among indexed_of
 refused = refl

@@ -1,5 +1,7 @@
 -- The index of a text, flat: the table of its lines, and its pairs, each with how many there are in front, over a room of zeros.
-use Rattle.std.specs.Prelude.{Bool, false, cond, List, [], ◌∷◌, ◌++◌, ℕ, ◌+◌, ◌*◌, ltb, length, replicate}
+use Rattle.loader.specs.declared.refusals.RefusedAt.{RefusedAt}
+use Rattle.loader.specs.Refusals.{refused_at}
+use Rattle.std.specs.Prelude.{Bool, false, cond, List, [], ◌∷◌, ◌++◌, ℕ, ◌+◌, ◌*◌, ltb, length, replicate, Err, Ok, Result}
 use Rattle.whole.specs.Digits.{leading_digits, leading_value}
 use Rattle.whole.specs.Errors.{error_number}
 use Rattle.whole.specs.declared.errors.Error.TheVariants.{Syntax, FormulaTooComplex}
@@ -9,13 +11,9 @@ use Rattle.words.specs.Spellings.{same_bytes}
 use Rattle.loader.specs.Lines.{Line, lines_of, after_number}
 use Rattle.loader.specs.Loading.{load_of, most_lines}
 use Rattle.loader.specs.Refusals.{refusal_number}
-use Rattle.loader.specs.declared.loading.Loaded.{Loaded}
-use Rattle.loader.specs.declared.loading.Loaded.TheVariants as loaded
 use Rattle.loader.specs.declared.refusals.Refusal.TheVariants.{TooManyPairs}
 use Rattle.reader.specs.Lines.{Judgement, unreadable, too_deep, holds, judgement}
 use Rattle.index.specs.Pairs.{Pair, pairs_of}
-use Rattle.index.specs.declared.making.Indexed.{Indexed}
-use Rattle.index.specs.declared.making.Indexed.TheVariants.{Fine, Refused}
 
 -- ---- the lines
 
@@ -76,35 +74,35 @@ unfoldable pub index_of : List ℕ → List ℕ
 index_of text = overlaid (overlaid (blank index_words) 0 (line_table (lines_of text))) pairs_at (pair_table (pairs_of text))
 
 -- a text that doesn't load is refused as in loading, then one with more pairs
-abbrev pub if_loaded : Loaded → (Unit {0} → Indexed) → Indexed
-if_loaded loaded.Fine index = index tt
-if_loaded (loaded.Refused refusal p) index = Refused refusal p
+abbrev pub if_loaded : Result (Unit {0}) RefusedAt → (Unit {0} → Result (Unit {0}) RefusedAt) → Result (Unit {0}) RefusedAt
+if_loaded (Ok _) index = index tt
+if_loaded (Err e) index = refused_at e.refusal e.place
 
-unfoldable pub indexed_of : List ℕ → Indexed
-indexed_of text = if_loaded (load_of text) (λ _. cond (ltb most_pairs (length (pairs_of text))) (Refused TooManyPairs (place 0)) Fine)
+unfoldable pub indexed_of : List ℕ → Result (Unit {0}) RefusedAt
+indexed_of text = if_loaded (load_of text) (λ _. cond (ltb most_pairs (length (pairs_of text))) (refused_at TooManyPairs (place 0)) (Ok tt))
 
 -- what the index holds after an answer: as it was if refused
-abbrev pub held_after : List ℕ → List ℕ → Indexed → List ℕ
-held_after text index Fine = index_of text
-held_after text index (Refused refusal p) = index
+abbrev pub held_after : List ℕ → List ℕ → Result (Unit {0}) RefusedAt → List ℕ
+held_after text index (Ok _) = index_of text
+held_after text index (Err e) = index
 
 abbrev pub index_after : List ℕ → List ℕ → List ℕ
 index_after text index = held_after text index (indexed_of text)
 
 -- whether some words are the index of a text
-abbrev pub is_held : List ℕ → List ℕ → Indexed → Bool
-is_held text words Fine = same_bytes (index_of text) words
-is_held text words (Refused refusal p) = false
+abbrev pub is_held : List ℕ → List ℕ → Result (Unit {0}) RefusedAt → Bool
+is_held text words (Ok _) = same_bytes (index_of text) words
+is_held text words (Err e) = false
 
 abbrev pub is_index_of : List ℕ → List ℕ → Bool
 is_index_of text words = is_held text words (indexed_of text)
 
 -- ---- what is answered: number and place of a refusal; what does not apply is 0
 
-abbrev pub indexed_number : Indexed → ℕ
-indexed_number Fine = 0
-indexed_number (Refused r p) = refusal_number r
+abbrev pub indexed_number : Result (Unit {0}) RefusedAt → ℕ
+indexed_number (Ok _) = 0
+indexed_number (Err e) = refusal_number e.refusal
 
-abbrev pub indexed_place : Indexed → ℕ
-indexed_place Fine = 0
-indexed_place (Refused r p) = p.0
+abbrev pub indexed_place : Result (Unit {0}) RefusedAt → ℕ
+indexed_place (Ok _) = 0
+indexed_place (Err e) = e.place.0

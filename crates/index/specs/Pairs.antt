@@ -1,10 +1,9 @@
 -- The pairs of a text: a line that is named and a line that names it, each once, in text order.
-use Rattle.std.specs.Prelude.{Bool, false, cond, ◌||◌, List, [], ◌∷◌, ◌++◌, ℕ, eqb}
+use Rattle.words.specs.declared.places.LineNumber.{LineNumber}
+use Rattle.std.specs.Prelude.{Bool, false, cond, ◌||◌, List, [], ◌∷◌, ◌++◌, ℕ, eqb, None, Option, Some}
 use Rattle.whole.specs.Digits.{leading_value}
 use Rattle.loader.specs.Lines.{Line, lines_of, after_number}
 use Rattle.grammar.specs.Trees.{Statement}
-use Rattle.grammar.specs.declared.tests.NamedLine.{NamedLine}
-use Rattle.grammar.specs.declared.tests.NamedLine.TheVariants.{Names, NoLine}
 use Rattle.statements.specs.Parts.{named_line, statements_of}
 use Rattle.reader.specs.Lines.{Judgement, unreadable, too_deep, holds, judgement}
 
@@ -18,9 +17,9 @@ is_in n [] = false
 is_in n (m ∷ ms) = eqb m n || is_in n ms
 
 -- a line that is named, after those so far unless it is one of them
-abbrev pub with_named : List ℕ → NamedLine → List ℕ
-with_named seen (Names l) = cond (is_in l.0 seen) seen (seen ++ (l.0 ∷ []))
-with_named seen NoLine = seen
+abbrev pub with_named : List ℕ → Option LineNumber → List ℕ
+with_named seen (Some l) = cond (is_in l.0 seen) seen (seen ++ (l.0 ∷ []))
+with_named seen None = seen
 
 -- those that some statements name, each once, after those so far
 unfoldable pub named_by : List ℕ → List Statement → List ℕ

@@ -5,47 +5,35 @@ ghost use Rattle.words.specs.Places.{place};
 ghost use Rattle.index.specs.Asking.{line_in, callers_in};
 ghost use Rattle.index.specs.bridge.Asking.{fitting};
 
-use crate::making::{Index, Indexed};
-use loader::Loaded;
+use crate::making::{Index, Layout};
+use loader::Recipe;
 use rows::Row;
 use words::{LineNumber, Place};
-
-// Where a line starts, or that there is none.
-#[derive(Clone, Copy)]
-pub enum LineStart {
-    At(Place),
-    Missing,
-}
 
 // A word that counts, as far as there is room for what it counts.
 fn at_most(word: u16, most: usize) -> usize
     ensures { result ≡ min word most }
 {
-    let count = word as usize;
-    if most < count { most } else { count }
+    usize::from(word).min(most)
 }
 
 fn place_of(word: u16) -> Place
     ensures { result ≡ place word }
 {
-    Place(word as usize)
+    Place(usize::from(word))
 }
 
 // Where the line with a number starts.
-pub fn line_in(index: &Index, number: LineNumber) -> LineStart
+pub fn line_in(index: &Index, number: LineNumber) -> Option<Place>
     ensures { result ≡ line_in index.now number }
 {
-    let wanted = number.0;
-    let count = at_most(index[0], Loaded::MOST_LINES);
-    let mut row = 0;
-    while row < count {
+    for row in 0..at_most(index[0], Recipe::MOST_LINES) {
         let at = 1 + Row::WIDTH * row;
-        if index[at] == wanted {
-            return LineStart::At(place_of(index[at + 1]));
+        if index[at] == number.0 {
+            return Some(place_of(index[at + 1]));
         }
-        row += 1;
     }
-    LineStart::Missing
+    None
 }
 
 // A line is put after those so far, if it is a caller and there is room.
@@ -67,19 +55,15 @@ fn put_if(callers: &mut [u16], count: usize, calls: bool, line: u16) -> usize
 pub fn callers_in(
     index: &Index,
     number: LineNumber,
-    callers: &mut [u16; Loaded::MOST_LINES],
+    callers: &mut [u16; Recipe::MOST_LINES],
 ) -> usize
     ensures value { result ≡ length (callers_in index.now number) }
     ensures callers_after { callers.new ≡ overlaid callers.old 0 (callers_in index.now number) }
 {
-    let wanted = number.0;
-    let pairs = at_most(index[Indexed::PAIRS], Indexed::MOST_PAIRS);
     let mut count = 0;
-    let mut i = 0;
-    while i < pairs {
-        let at = Indexed::PAIRS + 1 + 2 * i;
-        count = put_if(callers, count, index[at] == wanted, index[at + 1]);
-        i += 1;
+    for i in 0..at_most(index[Layout::PAIRS], Layout::MOST_PAIRS) {
+        let at = Layout::PAIRS + 1 + 2 * i;
+        count = put_if(callers, count, index[at] == number.0, index[at + 1]);
     }
     count
 }

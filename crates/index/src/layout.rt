@@ -5,17 +5,17 @@ ghost use Rattle.index.specs.Index.{pairs_at, index_words};
 ghost use Rattle.index.specs.bridge.Noting.{pair_room};
 ghost use Rattle.index.specs.bridge.Laying.{laid_out};
 
-use crate::making::Indexed;
-use crate::moves::{clear_words, put_words};
+use crate::making::Layout;
+use crate::moves::put_words;
 
 pub(crate) fn lay_out(index: &mut [u16], table: &[u16], count: u16, pairs: &[u16])
     requires { (length index.old ≡ index_words) × (length table.now ≤ pairs_at) × (length pairs.now ≤ pair_room) }
     ensures { index.new ≡ laid_out table.now count pairs.now }
 {
-    clear_words(index);
+    index.fill(0);
     put_words(index, 0, table);
-    index[Indexed::PAIRS] = count;
-    put_words(index, Indexed::PAIRS + 1, pairs);
+    index[Layout::PAIRS] = count;
+    put_words(index, Layout::PAIRS + 1, pairs);
 }
 
 // The word that such an index has at a place.
@@ -26,30 +26,28 @@ fn word_at(table: &[u16], count: u16, pairs: &[u16], i: usize) -> u16
     if i < table.len() {
         return table[i];
     }
-    if i < Indexed::PAIRS {
+    if i < Layout::PAIRS {
         return 0;
     }
-    if i == Indexed::PAIRS {
+    if i == Layout::PAIRS {
         return count;
     }
-    let behind = i - Indexed::PAIRS - 1;
+    let behind = i - Layout::PAIRS - 1;
     if behind < pairs.len() {
         return pairs[behind];
     }
     0
 }
 
-// Whether words are such an index.
+// Whether words are such an index: word by word, so that no second index stands on the stack.
 pub(crate) fn is_laid_out(index: &[u16], table: &[u16], count: u16, pairs: &[u16]) -> bool
     requires { (length index.now ≡ index_words) × (length table.now ≤ pairs_at) × (length pairs.now ≤ pair_room) }
     ensures { result ≡ same_bytes (laid_out table.now count pairs.now) index.now }
 {
-    let mut i = 0;
-    while i < index.len() {
-        if word_at(table, count, pairs, i) != index[i] {
+    for (i, word) in index.iter().enumerate() {
+        if word_at(table, count, pairs, i) != *word {
             return false;
         }
-        i += 1;
     }
     true
 }

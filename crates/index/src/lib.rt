@@ -9,6 +9,6 @@ mod moves;
 mod pairs;
 mod tables;
 
-pub use asking::{LineStart, callers_in, line_in};
-pub use making::{Index, Indexed, index_of, is_index_of};
+pub use asking::{callers_in, line_in};
+pub use making::{Index, Layout, index_of, is_index_of};
 pub use tables::rows_by;

@@ -9,60 +9,56 @@ ghost use Rattle.index.specs.Pairs.{Pair, with_named, named_by, pairs_with, pair
 ghost use Rattle.index.specs.Index.{most_pairs, blank};
 ghost use Rattle.index.specs.bridge.Noting.{named_among, pair_room, Held, NotedAs, Within, first_pairs};
 
-use crate::making::Indexed;
+use crate::making::Layout;
 use checker::named_by;
-use grammar::NamedLine;
-use reader::{Start, next_statement};
-use rows::{Row, Rows, has_row, span_in, verdict_in};
+use reader::next_statement;
+use rows::{Row, Rows, count_of, span_in, verdict_in};
 use statements::statement_at;
-use words::Place;
-
-// How many pairs there are, or that there is no room for one more.
-#[derive(Clone, Copy)]
-pub enum Noted {
-    Count(usize),
-    Full,
-}
+use words::{LineNumber, Place};
 
 // Whether a line is named by a pair, from one pair on and before another.
 fn is_noted(pairs: &[u16], from: usize, count: usize, named: u16) -> bool
     requires { (count ≤ most_pairs) × (length pairs.now ≡ pair_room) }
     ensures { result ≡ named_among named (count - from) (drop (2 * from) pairs.now) }
 {
-    let mut i = from;
-    while i < count {
+    for i in from..count {
         if pairs[2 * i] == named {
             return true;
         }
-        i += 1;
     }
     false
 }
 
 // What a statement names is noted, unless one of the line's pairs, those from `from` on, has it.
-fn note(pairs: &mut [u16], from: usize, count: usize, own: u16, names: NamedLine) -> Noted
+fn note(
+    pairs: &mut [u16],
+    from: usize,
+    count: usize,
+    own: u16,
+    names: Option<LineNumber>,
+) -> Option<usize>
     requires { (count ≤ most_pairs) × (length pairs.old ≡ pair_room) }
     ensures within { Within result }
     ensures noted_as { (done : List Pair) (seen : List ℕ) → from ≡ length done → Held pairs.old count (done ++ pairs_with own seen)
         → NotedAs result pairs.new (done ++ pairs_with own (with_named seen names)) }
 {
-    let NamedLine::Names(line) = names else {
-        return Noted::Count(count);
+    let Some(line) = names else {
+        return Some(count);
     };
     let named = line.0;
     if is_noted(pairs, from, count, named) {
-        return Noted::Count(count);
+        return Some(count);
     }
-    if Indexed::MOST_PAIRS <= count {
-        return Noted::Full;
+    if Layout::MOST_PAIRS <= count {
+        return None;
     }
     pairs[2 * count] = named;
     pairs[2 * count + 1] = own;
-    Noted::Count(count + 1)
+    Some(count + 1)
 }
 
 // The pairs of a line that reads.
-fn note_line(line: &[u8], own: u16, pairs: &mut [u16], from: usize) -> Noted
+fn note_line(line: &[u8], own: u16, pairs: &mut [u16], from: usize) -> Option<usize>
     requires { (from ≤ most_pairs) × (length pairs.old ≡ pair_room) }
     ensures within { Within result }
     ensures noted_as { (part : Part) (done : List Pair) → judgement line.now ≡ holds part → Held pairs.old from done
@@ -72,48 +68,36 @@ fn note_line(line: &[u8], own: u16, pairs: &mut [u16], from: usize) -> Noted
     let mut count = from;
     loop {
         let read = statement_at(line, at, true);
-        let names = named_by(read);
-        let Noted::Count(more) = note(pairs, from, count, own, names) else {
-            return Noted::Full;
-        };
-        count = more;
-        let Start::At(next) = next_statement(read) else {
-            return Noted::Count(count);
+        count = note(pairs, from, count, own, named_by(read))?;
+        let Some(next) = next_statement(read) else {
+            return Some(count);
         };
         at = next;
     }
 }
 
 // The pairs of a row's line; one that does not read has none.
-fn note_row(text: &[u8], rows: &Rows, row: Row, pairs: &mut [u16], count: usize) -> Noted
+fn note_row(text: &[u8], rows: &Rows, row: Row, pairs: &mut [u16], count: usize) -> Option<usize>
     requires { Tabled text.now rows.now × (row.0 < count_of rows.now) × (count ≤ most_pairs) × (length pairs.old ≡ pair_room) }
     ensures within { Within result }
     ensures noted_as { (done : List Pair) → Held pairs.old count done
         → NotedAs result pairs.new (done ++ first_pairs (drop row.0 (lines_of text.now))) }
 {
     if verdict_in(rows, row) != Row::READS {
-        return Noted::Count(count);
+        return Some(count);
     }
     let span = span_in(rows, row);
-    let from = span.body.0;
-    let end = span.end.0;
-    let own = span.number.0;
-    note_line(&text[from..end], own, pairs, count)
+    note_line(&text[span.body.0..span.end.0], span.number.0, pairs, count)
 }
 
 // The pairs of all lines.
-pub(crate) fn note_lines(text: &[u8], rows: &Rows, pairs: &mut [u16]) -> Noted
+pub(crate) fn note_lines(text: &[u8], rows: &Rows, pairs: &mut [u16]) -> Option<usize>
     requires { Tabled text.now rows.now × (pairs.old ≡ blank pair_room) }
     ensures { NotedAs result pairs.new (pairs_of text.now) }
 {
-    let mut row = 0;
     let mut count = 0;
-    while has_row(rows, Row(row)) {
-        let Noted::Count(more) = note_row(text, rows, Row(row), pairs, count) else {
-            return Noted::Full;
-        };
-        count = more;
-        row += 1;
+    for row in 0..count_of(rows) {
+        count = note_row(text, rows, Row(row), pairs, count)?;
     }
-    Noted::Count(count)
+    Some(count)
 }

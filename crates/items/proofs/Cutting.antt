@@ -1,13 +1,13 @@
 -- How the blanks at the end of bytes are cut, one at a time from the last.
-use mathlib.Core.Path.{◌≡◌, refl, sym, ap, ◌∙◌}
-use mathlib.Core.List.{List, [], ◌∷◌, ◌++◌}
-use Prim.Native.Nat.{ℕ, suc, ◌+◌, ◌-◌, ◌≤◌, ◌<◌}
+use mathlib.Core.Path.{◌≡◌}
+use mathlib.Core.Bool.{true, false}
+use mathlib.Core.List.{List, [], ◌∷◌}
+use Prim.Native.Nat.{ℕ, zero, suc, ◌-◌, ◌≤◌, ◌<◌}
 use native.Mathlib.Omega.{arith}
-use borrow.Author.Tests.{ne_eqb}
-use lib.ListN.{length, get_or, take}
-use lib.Seq.{take-length, length-take-le}
+use Rattle.std.specs.List.{suffix_len}
+use Rattle.std.proofs.lemmas.List.Sums.{suffix_len_is}
+use lib.ListN.{length, get_or}
 use Rattle.whole.specs.Bytes.{is}
-use Rattle.whole.proofs.Reading.{take_next}
 use Rattle.words.proofs.Choices.{by_test}
 use Rattle.items.specs.Items.{kept_before, cut}
 
@@ -21,46 +21,38 @@ unfolding cut
 cut_inside [] = omega arith
 cut_inside (b ∷ s) = omega (arith, kept_inside b (cut s), cut_inside s)
 
--- a last blank is cut
-last_blank : (s : List ℕ) → cut (s ++ (32 ∷ [])) ≡ cut s
-unfolding cut
-last_blank [] = refl
-last_blank (b ∷ s) = ap (kept_before b) (last_blank s)
+-- what is cut are blanks, and what is left ends in none
+Ends : ℕ → List ℕ → List ℕ → Type 0
+Ends d s left = ((k : ℕ) → length left ≤ k → k < length s → is " " (get_or s k d) ≡ true)
+    × (0 < length left → is " " (get_or s (length left - 1) d) ≡ false)
 
-kept_all : (a b : ℕ) (s : List ℕ) → kept_before a (s ++ (b ∷ [])) ≡ a ∷ (s ++ (b ∷ []))
-kept_all a b [] = refl
-kept_all a b (c ∷ s) = refl
+ends_before : (d b : ℕ) (s left : List ℕ) → Ends d s left → Ends d (b ∷ s) (kept_before b left)
+unfolding Ends
+ends_before d b s [] e =
+    by_test (is " " b)
+    (λ t. rw t (blank t, λ h. absurd (omega arith)))
+    (λ t. rw t (other, λ h. t))
+  where
+    blank : is " " b ≡ true → (k : ℕ) → 0 ≤ k → k < length (b ∷ s) → is " " (get_or (b ∷ s) k d) ≡ true
+    blank t zero h l = t
+    blank t (suc k) h l = e.0 k (omega arith) (omega arith)
 
--- where the last byte is another, nothing is
-last_other : (s : List ℕ) (b : ℕ) → (b ≡ 32 → ⊥) → cut (s ++ (b ∷ [])) ≡ s ++ (b ∷ [])
-unfolding cut
-last_other [] b h = rw (ne_eqb b 32 h)
-last_other (a ∷ s) b h = ap (kept_before a) (last_other s b h) ∙ kept_all a b s
+    other : (k : ℕ) → 1 ≤ k → k < length (b ∷ s) → is " " (get_or (b ∷ s) k d) ≡ true
+    other zero h l = absurd (omega arith)
+    other (suc k) h l = e.0 k (omega arith) (omega arith)
+ends_before d b s (c ∷ l) e =
+    let last : length (b ∷ c ∷ l) - 1 ≡ suc (length (c ∷ l) - 1) = omega arith in (later, λ h. rw last (e.1 (omega arith)))
+  where
+    later : (k : ℕ) → length (b ∷ c ∷ l) ≤ k → k < length (b ∷ s) → is " " (get_or (b ∷ s) k d) ≡ true
+    later zero h m = absurd (omega arith)
+    later (suc k) h m = e.0 k (omega arith) (omega arith)
 
--- from n on stand only blanks
-pub record BlankFrom (s : List ℕ) (n : ℕ) : Type 0 where
-  pub within : n ≤ length s
-  pub same : cut (take n s) ≡ cut s
+ends_cut : (d : ℕ) (s : List ℕ) → Ends d s (cut s)
+unfolding Ends cut
+ends_cut d [] = (λ k h l. absurd (omega arith), λ h. absurd (omega arith))
+ends_cut d (b ∷ s) = ends_before d b s (cut s) (ends_cut d s)
 
-pub blank_from_end : (s : List ℕ) → BlankFrom s (length s)
-blank_from_end s = record { within = omega arith; same = ap cut (take-length s) }
-
-module _ (s : List ℕ) (n : ℕ) (some : 0 < n) where
-  last_byte : n ≤ length s → take n s ≡ take (n - 1) s ++ (get_or s (n - 1) 0 ∷ [])
-  last_byte h = let e : n ≡ n - 1 + 1 = omega arith in ap (λ k. take k s) e ∙ take_next s (n - 1) (omega arith)
-
-  pub blank_more : get_or s (n - 1) 0 ≡ 32 → BlankFrom s n → BlankFrom s (n - 1)
-  blank_more e p = record {
-    within = omega (arith, p.within);
-    same = sym (last_blank (take (n - 1) s)) ∙ ap (λ b. cut (take (n - 1) s ++ (b ∷ []))) (sym e) ∙ ap cut (sym (last_byte p.within)) ∙ p.same;
-  }
-
-  pub blanks_end : (get_or s (n - 1) 0 ≡ 32 → ⊥) → BlankFrom s n → n ≡ length (cut s)
-  blanks_end h p =
-      let all = ap cut (last_byte p.within) ∙ last_other (take (n - 1) s) (get_or s (n - 1) 0) h ∙ sym (last_byte p.within) in
-      sym (length-take-le n s p.within) ∙ ap length (sym all ∙ p.same)
-
--- where all are blanks, nothing is left
-pub all_blank : (s : List ℕ) (n : ℕ) → n ≤ 0 → BlankFrom s n → n ≡ length (cut s)
-unfolding cut
-all_blank s n h p = let e : n ≡ 0 = omega arith in rw e (ap length (rw e at p.same))
+-- so they are the blanks at the end
+pub cut_rest : (s : List ℕ) → suffix_len (is " ") s ≡ length s - length (cut s)
+unfolding Ends
+cut_rest s = suffix_len_is (is " ") s (length (cut s)) 0 (cut_inside s) (ends_cut 0 s).0 (ends_cut 0 s).1

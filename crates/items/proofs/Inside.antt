@@ -1,4 +1,5 @@
 -- What ends an item, and where items lie: within the line.
+use Rattle.std.specs.Prelude.{None, Option, Some}
 use mathlib.Core.Path.{◌≡◌, refl, sym, ◌∙◌}
 use mathlib.Core.Logic.{◌⊎◌, inl, inr, ⊎_elim}
 use mathlib.Core.Bool.{Bool, true, false, cond, ◌||◌, false≢true}
@@ -13,13 +14,11 @@ use Rattle.whole.specs.Bytes.{is, leading}
 use Rattle.whole.proofs.Numbers.{less}
 use Rattle.whole.proofs.Reading.{drop_next}
 use Rattle.words.proofs.Choices.{by_test}
-use Rattle.words.proofs.Runs.{in_line, run_within, run_past}
+use Rattle.words.proofs.Runs.{run_within, run_past}
 use Rattle.scanner.specs.Runs.{passes}
 use Rattle.scanner.specs.declared.runs.Run.TheVariants as run
 use Rattle.items.specs.Items.{read, ended, after_blanks, quoted_item, cut, bare_item, item_at}
 use Rattle.items.specs.declared.reading.Item.{Item}
-use Rattle.items.specs.declared.reading.ItemRead.{ItemRead}
-use Rattle.items.specs.declared.reading.ItemRead.TheVariants.{Bad, Good}
 use Rattle.items.proofs.Cutting.{cut_inside}
 
 -- ---- what ends an item: the line's end, or the byte that stands there
@@ -31,13 +30,12 @@ module _ (line : List ℕ) (from n end : ℕ) where
 
   pub ended_here : end < length line → ended line from n end
       ≡ cond (is "," (get_or line end 0)) (read from n end true)
-      (cond (is ":" (get_or line end 0) || is "'" (get_or line end 0)) (read from n end false) Bad)
+      (cond (is ":" (get_or line end 0) || is "'" (get_or line end 0)) (read from n end false) None)
   unfolding ended
   ended_here h = rw (drop_next line end h)
 
--- a quote is a byte of the line
-pub quote_inside : (line : List ℕ) (i b : ℕ) → b ≡ get_or line i 0 → b ≡ 34 → i < length line
-quote_inside line i b e q = in_line (λ x. x) line i (λ z. omega arith)
+  pub ended_over : end < length line → (get_or line end 0 ≡ 58) ⊎ (get_or line end 0 ≡ 39) → ended line from n end ≡ read from n end false
+  ended_over h = ⊎_elim (λ e. rw (ended_here h, e)) (λ e. rw (ended_here h, e))
 
 -- a statement is over at the line's end, at a colon and at an apostrophe
 abbrev pub Over : List ℕ → ℕ → Type 0
@@ -56,9 +54,9 @@ pub record Inside (line : List ℕ) (at : ℕ) (i : Item) : Type 0 where
   -- and what else ends an item ends the statement
   pub over : i.more ≡ false → Over line i.end.0
 
-abbrev pub Kept : List ℕ → ℕ → ItemRead → Type 0
-Kept line at Bad = Unit {0}
-Kept line at (Good i) = Inside line at i
+abbrev pub Kept : List ℕ → ℕ → Option Item → Type 0
+Kept line at None = Unit {0}
+Kept line at (Some i) = Inside line at i
 
 one_of : (x y : Bool) → x || y ≡ true → (x ≡ true) ⊎ (y ≡ true)
 one_of true y e = inl refl
@@ -109,7 +107,7 @@ kept_at line at h =
     (λ e. rw e (bare_kept line at i (omega arith) (run_within (passes run.Blank) line at refl h)))
 
 -- an item that was read lies within its line
-pub item_inside : (line : List ℕ) (at : ℕ) → at ≤ length line → (i : Item) → item_at line at ≡ Good i → Inside line at i
+pub item_inside : (line : List ℕ) (at : ℕ) → at ≤ length line → (i : Item) → item_at line at ≡ Some i → Inside line at i
 item_inside line at h i e = rw e at (kept_at line at h)
 
 -- past the line's end stands one empty item, and no other
@@ -122,7 +120,7 @@ past_end line at h =
     rw (i, z, drop_of_length-le line h, add-zero at) (ended_past line at 0 at h)
 
 -- so wherever an item is read, a comma after it is a byte of the line, behind where it was read
-pub comma_inside : (line : List ℕ) (at : ℕ) (i : Item) → item_at line at ≡ Good i → i.more ≡ true → (at ≤ i.end.0) × (i.end.0 < length line)
+pub comma_inside : (line : List ℕ) (at : ℕ) (i : Item) → item_at line at ≡ Some i → i.more ≡ true → (at ≤ i.end.0) × (i.end.0 < length line)
 comma_inside line at i e m =
     ⊎_elim
     (λ h.

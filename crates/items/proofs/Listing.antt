@@ -1,4 +1,6 @@
 -- All items of a statement: one at a time, within the line, and the token that follows them.
+use Rattle.std.specs.Prelude.{None, Option, Some}
+use Rattle.items.specs.declared.reading.Item.{Item}
 use mathlib.Core.Path.{◌≡◌, refl, ap}
 use mathlib.Core.Logic.{⊎_elim}
 use mathlib.Core.List.{List}
@@ -8,16 +10,14 @@ use lib.ListN.{length}
 use Rattle.whole.proofs.Numbers.{less}
 use Rattle.words.proofs.Choices.{by_test}
 use Rattle.items.specs.Items.{item_bytes, item_at, DataItems, bad, items, with_item, and_more, items_at, items_from}
-use Rattle.items.specs.declared.reading.ItemRead.{ItemRead}
-use Rattle.items.specs.declared.reading.ItemRead.TheVariants.{Bad, Good}
 use Rattle.items.proofs.Inside.{Kept, Over, kept_at, past_end}
 
 module _ (line : List ℕ) (at : ℕ) where
   -- only what stands behind an item counts for those after it
-  more_same : (r : ItemRead) (f g : ℕ → DataItems) → Kept line at r → ((p : ℕ) → at < p → p ≤ length line → f p ≡ g p)
+  more_same : (r : Option Item) (f g : ℕ → DataItems) → Kept line at r → ((p : ℕ) → at < p → p ≤ length line → f p ≡ g p)
       → and_more line r f ≡ and_more line r g
-  more_same Bad f g k h = refl
-  more_same (Good i) f g k h =
+  more_same None f g k h = refl
+  more_same (Some i) f g k h =
       by_test i.more
       (λ e. let l = k.comma e in rw e (ap (with_item (item_bytes line i)) (h (i.end.0 + 1) (omega (arith, k.onward, k.before)) (omega arith))))
       (λ e. rw e)
@@ -59,10 +59,10 @@ with_ends : (line : List ℕ) (at p : ℕ) (b : List ℕ) (x : DataItems) → at
 with_ends line at p b bad h k = tt
 with_ends line at p b (items l end) h k = record { onward = omega (arith, k.onward); within = k.within; over = k.over }
 
-more_ends : (line : List ℕ) (at : ℕ) (r : ItemRead) (f : ℕ → DataItems) → Kept line at r → ((p : ℕ) → p ≤ length line → Ends line p (f p))
+more_ends : (line : List ℕ) (at : ℕ) (r : Option Item) (f : ℕ → DataItems) → Kept line at r → ((p : ℕ) → p ≤ length line → Ends line p (f p))
     → Ends line at (and_more line r f)
-more_ends line at Bad f k h = tt
-more_ends line at (Good i) f k h =
+more_ends line at None f k h = tt
+more_ends line at (Some i) f k h =
     let past : at ≤ i.end.0 = omega (arith, k.onward, k.before) in
     by_test i.more
     (λ e. let l = k.comma e in rw e (with_ends line at (i.end.0 + 1) (item_bytes line i) (f (i.end.0 + 1)) (omega arith) (h (i.end.0 + 1) (omega arith))))

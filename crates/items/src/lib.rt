@@ -3,4 +3,4 @@
 
 mod reading;
 
-pub use reading::{Item, ItemRead, item_at};
+pub use reading::{Item, item_at};

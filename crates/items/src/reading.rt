@@ -14,16 +14,10 @@ pub struct Item {
     pub more: bool,
 }
 
-#[derive(Clone, Copy)]
-pub enum ItemRead {
-    Bad,
-    Good(Item),
-}
-
-fn read(from: Place, len: usize, end: Place, more: bool) -> ItemRead
+fn read(from: Place, len: usize, end: Place, more: bool) -> Option<Item>
     ensures { result ≡ read from.0 len end.0 more }
 {
-    ItemRead::Good(Item {
+    Some(Item {
         from,
         len,
         end,
@@ -32,18 +26,16 @@ fn read(from: Place, len: usize, end: Place, more: bool) -> ItemRead
 }
 
 // After an item stands a comma, a colon, an apostrophe or the line's end.
-fn ended(line: &[u8], from: Place, len: usize, end: Place) -> ItemRead
+fn ended(line: &[u8], from: Place, len: usize, end: Place) -> Option<Item>
     ensures { result ≡ ended line.now from.0 len end.0 }
 {
-    let place = end.0;
-    if line.len() <= place {
+    if line.len() <= end.0 {
         return read(from, len, end, false);
     }
-    match line[place] {
+    match line[end.0] {
         b',' => read(from, len, end, true),
-        b':' => read(from, len, end, false),
-        b'\'' => read(from, len, end, false),
-        _ => ItemRead::Bad,
+        b':' | b'\'' => read(from, len, end, false),
+        _ => None,
     }
 }
 
@@ -51,48 +43,38 @@ fn ended(line: &[u8], from: Place, len: usize, end: Place) -> ItemRead
 fn cut_length(bytes: &[u8]) -> usize
     ensures { result ≡ length (cut bytes.now) }
 {
-    let mut len = bytes.len();
-    while 0 < len {
-        if bytes[len - 1] != b' ' {
-            return len;
-        }
-        len -= 1;
-    }
-    len
+    let blanks = bytes.iter().rev().take_while(|byte| **byte == b' ').count();
+    bytes.len() - blanks
 }
 
 // A quoted item runs to the next quote, which must stand; only blanks may follow before its end.
-fn quoted_at(line: &[u8], at: Place) -> ItemRead
+fn quoted_at(line: &[u8], at: Place) -> Option<Item>
     requires { at.0 < length line.now }
     ensures { result ≡ quoted_item line.now at.0 }
 {
-    let quote = at.0;
-    let first = quote + 1;
-    let text = run_end(line, Place(first), Run::Unquoted);
-    let close = text.0;
+    let first = at.0 + 1;
+    let close = run_end(line, Place(first), Run::Unquoted).0;
     if line.len() <= close {
-        return ItemRead::Bad;
+        return None;
     }
     let end = run_end(line, Place(close + 1), Run::Blank);
     ended(line, Place(first), close - first, end)
 }
 
 // A bare item runs to its end, the blanks before that cut; no quote stands in it.
-fn bare_at(line: &[u8], at: Place) -> ItemRead
+fn bare_at(line: &[u8], at: Place) -> Option<Item>
     ensures { result ≡ bare_item line.now at.0 }
 {
-    let first = at.0;
-    if line.len() <= first {
+    if line.len() <= at.0 {
         return ended(line, at, 0, at);
     }
-    let after = run_end(line, at, Run::Item);
-    let end = after.0;
-    let len = cut_length(&line[first..end]);
-    ended(line, at, len, after)
+    let end = run_end(line, at, Run::Item);
+    let len = cut_length(&line[at.0..end.0]);
+    ended(line, at, len, end)
 }
 
 // The item at a place, blanks skipped.
-pub fn item_at(line: &[u8], at: Place) -> ItemRead
+pub fn item_at(line: &[u8], at: Place) -> Option<Item>
     ensures { result ≡ item_at line.now at.0 }
 {
     let start = run_end(line, at, Run::Blank);

@@ -1,4 +1,6 @@
 -- A run of a recipe without FRE in a larger space: the same but for the space, or the first ends in 14.
+use Rattle.std.specs.Prelude.{Err, Ok, Result}
+use Rattle.loader.specs.declared.refusals.RefusedAt.{RefusedAt}
 use mathlib.Core.Path.{◌≡◌, refl}
 use mathlib.Core.Bool.{Bool, true, false, cond}
 use mathlib.Core.List.{List, [], ◌∷◌}
@@ -11,8 +13,6 @@ use Rattle.words.specs.declared.places.LineNumber.{LineNumber}
 use Rattle.words.proofs.Choices.{both}
 use Rattle.loader.specs.Lines.{Line, lines_of, after_number, next_line}
 use Rattle.loader.specs.Loading.{load_of}
-use Rattle.loader.specs.declared.loading.Loaded.{Loaded}
-use Rattle.loader.specs.declared.loading.Loaded.TheVariants as loaded
 use Rattle.grammar.specs.Trees.{Formula, Part}
 use Rattle.statements.specs.Parts.{formulas_of, head_of, tail_of, place_of, Rest, nothing, part, heads}
 use Rattle.reader.specs.Lines.{Judgement, unreadable, too_deep, holds, judgement}
@@ -121,10 +121,10 @@ module _ (k : ℕ) where
   running_same (suc n) program f (there {m = m} {lines = lines} {p = p} s h g) = running_same n program f (turn_same program m lines p f s h g)
   running_same (suc n) program f short = lacked
 
-  loaded_same : (x : Loaded) (m : Machine) (go : Machine → Ran) → SameRun k (go m) (go (widened k m))
+  loaded_same : (x : Result (Unit {0}) RefusedAt) (m : Machine) (go : Machine → Ran) → SameRun k (go m) (go (widened k m))
       → SameRun k (if_loaded x m (λ _. go m)) (if_loaded x (widened k m) (λ _. go (widened k m)))
-  loaded_same loaded.Fine m go h = h
-  loaded_same (loaded.Refused refusal p) m go h = same
+  loaded_same (Ok _) m go h = h
+  loaded_same (Err e) m go h = same
 
   either_run : (t : Bool) {x y x' y' : Ran} → SameRun k x x' → SameRun k y y' → SameRun k (cond t x y) (cond t x' y')
   either_run true h g = h

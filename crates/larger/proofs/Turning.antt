@@ -1,5 +1,7 @@
 -- A statement without FRE on a machine and on the same machine with a larger space: it comes to the same, on such machines and at the same
 -- place, or the first fails with 14. Where it goes on there are statements without FRE.
+use Rattle.std.specs.Prelude.{Err, Ok, Result, ℕ}
+use Rattle.whole.specs.declared.errors.Error.{Error}
 use mathlib.Core.Path.{◌≡◌, refl}
 use mathlib.Core.Bool.{Bool, true, false}
 use mathlib.Core.List.{List, [], ◌∷◌}
@@ -8,8 +10,6 @@ use lib.Dec.{ltb, leb, eqb}
 use lib.ListN.{length}
 use Rattle.whole.specs.Digits.{number_item}
 use Rattle.whole.specs.Whole.{applied}
-use Rattle.whole.specs.declared.arithmetic.Answer.{Answer}
-use Rattle.whole.specs.declared.arithmetic.Answer.TheVariants.{Whole, Fault}
 use Rattle.whole.specs.declared.arithmetic.Operator.TheVariants.{Add}
 use Rattle.words.specs.declared.names.Kind.{Kind}
 use Rattle.words.specs.declared.names.Kind.TheVariants as kind
@@ -84,15 +84,15 @@ module _ (k : ℕ) where
 
   -- ---- FOR and NEXT
 
-  turned_same : (m : Machine) (v : Telling) (limit step : ℕ) (back : Position) (under : List Record) (after : Position) (x : Answer)
+  turned_same : (m : Machine) (v : Telling) (limit step : ℕ) (back : Position) (under : List Record) (after : Position) (x : Result ℕ Error)
       → Apt k m → FreePosition back → records.Each FreeRecord under → FreePosition after
       → Same k (turned m v limit step back under after x) (turned (widened k m) v limit step back under after x)
-  turned_same m v limit step back under after (Whole w) s b u a =
+  turned_same m v limit step back under after (Ok w) s b u a =
       either_same (numbers_full m.variables.numbers v) failed
       (either_same (passed w limit step)
       (onward (record { small = s.small; held = u }) a)
       (onward (record { small = s.small; held = (b, u) }) b))
-  turned_same m v limit step back under after (Fault e) s b u a = failed
+  turned_same m v limit step back under after (Err e) s b u a = failed
 
   next_same : (m : Machine) (x : Search) (after : Position) → Apt k m → records.Found FreeRecord x → FreePosition after
       → Same k (next_on m x after) (next_on (widened k m) x after)
@@ -163,9 +163,9 @@ module _ (k : ℕ) where
       → Same k (given kd name b m go) (given kd name b (widened k m) go)
   given_same kind.Whole name b m go s h = by_number (number_item b)
     where
-      by_number : (x : Answer) → Same k (given_number x name m go) (given_number x name (widened k m) go)
-      by_number (Whole w) = either_same (numbers_full m.variables.numbers name) failed (h (with_number m name w) (record { small = s.small; held = s.held }))
-      by_number (Fault e) = failed
+      by_number : (x : Result ℕ Error) → Same k (given_number x name m go) (given_number x name (widened k m) go)
+      by_number (Ok w) = either_same (numbers_full m.variables.numbers name) failed (h (with_number m name w) (record { small = s.small; held = s.held }))
+      by_number (Err e) = failed
   given_same kind.Text name b m go s h =
       worked_same _ s (wider_makes k b (room_of m) (room_of (widened k m)) (record { small = s.small; is = refl }))
       (λ x o u. either_same (strings_full o.variables.strings name) failed (h (with_string o name b) (record { small = u.small; held = u.held })))

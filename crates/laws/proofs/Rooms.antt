@@ -1,5 +1,6 @@
 -- What a formula comes to in two rooms: the same value or the same error, as far as the rooms allow. How near the rooms are, and which errors
 -- are spared on which side, is left open: any two rooms but for 14, and rooms with the same space and live bytes with nothing spared.
+use Rattle.std.specs.Prelude.{Err, Ok, Result, ℕ}
 use mathlib.Core.Path.{◌≡◌, refl}
 use mathlib.Core.Bool.{Bool, true, false, cond, not, ◌&&◌, false≢true}
 use mathlib.Core.List.{List, [], ◌∷◌, ◌++◌}
@@ -11,8 +12,6 @@ use Rattle.whole.specs.Bytes.{blank}
 use Rattle.whole.specs.Digits.{val_of}
 use Rattle.whole.specs.Texts.{signed_numeral, hexadecimal, longest_string}
 use Rattle.whole.specs.Whole.{applied, negated, flipped, say, magnitude, signum}
-use Rattle.whole.specs.declared.arithmetic.Answer.{Answer}
-use Rattle.whole.specs.declared.arithmetic.Answer.TheVariants.{Whole, Fault}
 use Rattle.whole.specs.declared.arithmetic.Operator.{Operator}
 use Rattle.whole.specs.declared.arithmetic.Operator.TheVariants as operator
 use Rattle.whole.specs.declared.errors.Error.{Error}
@@ -103,9 +102,9 @@ module _ (Near : Room → Room → Type 0) (Spared : Side → Error → Type 0) 
   all_free [] n = n
   all_free (v ∷ vs) n = all_free vs (k.frees v _ _ n)
 
-  answered_agree : (a : Answer) (vs : List Value) {r s : Room} → Near r s → Agree Near Spared (answered a vs r) (answered a vs s)
-  answered_agree (Whole w) vs n = values (whole w) (all_free vs n)
-  answered_agree (Fault e) vs n = faults n
+  answered_agree : (a : Result ℕ Error) (vs : List Value) {r s : Room} → Near r s → Agree Near Spared (answered a vs r) (answered a vs s)
+  answered_agree (Ok w) vs n = values (whole w) (all_free vs n)
+  answered_agree (Err e) vs n = faults n
 
   produced_agree : (b : List ℕ) (vs : List Value) {r s : Room} → Near r s → Agree Near Spared (produced b vs r) (produced b vs s)
   unfolding produced
@@ -118,8 +117,8 @@ module _ (Near : Room → Room → Type 0) (Spared : Side → Error → Type 0) 
   ranged_agree false n h = faults n
 
   called_agree : (f : Function) (vs : List Value) {r s : Room} → is_fre f ≡ false → Near r s → Agree Near Spared (called f vs r) (called f vs s)
-  called_agree function.Len vs x n = answered_agree (Whole (length (bytes vs 0))) vs n
-  called_agree function.Asc vs x n = ranged_agree (leb 1 (length (bytes vs 0))) n (answered_agree (Whole (get_or (bytes vs 0) 0 0)) vs n)
+  called_agree function.Len vs x n = answered_agree (Ok (length (bytes vs 0))) vs n
+  called_agree function.Asc vs x n = ranged_agree (leb 1 (length (bytes vs 0))) n (answered_agree (Ok (get_or (bytes vs 0) 0 0)) vs n)
   called_agree function.Chr vs x n = ranged_agree (within 0 (word vs 0)) n (produced_agree (word vs 0 ∷ []) vs n)
   called_agree function.Left vs x n = ranged_agree (within 0 (word vs 1)) n (produced_agree (take (word vs 1) (bytes vs 0)) vs n)
   called_agree function.Right vs x n =
@@ -133,12 +132,12 @@ module _ (Near : Room → Room → Type 0) (Spared : Side → Error → Type 0) 
       (produced_agree (replicate (word vs 0) (fill_byte (argument vs 1))) vs n)
   called_agree function.Instr vs x n =
       ranged_agree (within 1 (instr_start vs)) n
-      (answered_agree (Whole (place_of (instr_start vs) (bytes vs (instr_texts vs)) (bytes vs (suc (instr_texts vs))))) vs n)
+      (answered_agree (Ok (place_of (instr_start vs) (bytes vs (instr_texts vs)) (bytes vs (suc (instr_texts vs))))) vs n)
   called_agree function.Str vs x n = produced_agree (signed_numeral (word vs 0)) vs n
   called_agree function.Hex vs x n = produced_agree (hexadecimal (word vs 0)) vs n
   called_agree function.Val vs x n = answered_agree (val_of (bytes vs 0)) vs n
   called_agree function.Abs vs x n = answered_agree (magnitude (word vs 0)) vs n
-  called_agree function.Sgn vs x n = answered_agree (Whole (signum (word vs 0))) vs n
+  called_agree function.Sgn vs x n = answered_agree (Ok (signum (word vs 0))) vs n
   called_agree function.Fre vs x n = absurd (false≢true (cc))
 
   -- ---- operators

@@ -1,4 +1,5 @@
 -- The laws of strings: what LEFT$, MID$ and `+` come to, in whatever room.
+use Rattle.std.specs.Prelude.{Ok}
 use mathlib.Core.Path.{◌≡◌, refl}
 use mathlib.Core.Bool.{true}
 use mathlib.Core.List.{List, [], ◌∷◌, ◌++◌, append_assoc}
@@ -11,7 +12,6 @@ use lib.ListN.{length, take, drop, length-append, length-take, length-drop, take
 use lib.Seq.{take_all}
 use Rattle.whole.specs.Texts.{longest_string}
 use Rattle.whole.specs.Whole.{applied}
-use Rattle.whole.specs.declared.arithmetic.Answer.TheVariants.{Whole}
 use Rattle.whole.specs.declared.arithmetic.Operator.TheVariants.{Add}
 use Rattle.whole.proofs.Numbers.{num_low, fit_in}
 use Rattle.words.specs.declared.symbols.Function.{Function}
@@ -88,7 +88,7 @@ module _ (vars : Variables) where
       with_text (comes {room = after}) = with_number (hn.inside after)
 
 -- N+1
-next_number : (n : ℕ) → n ≤ last_part → applied Add n 1 ≡ Whole (n + 1)
+next_number : (n : ℕ) → n ≤ last_part → applied Add n 1 ≡ Ok (n + 1)
 next_number n h = rw (num_low n (omega arith), num_low 1 (omega arith)) (fit_in (pos (n + 1)) (omega arith))
 
 whole_part : (x : List ℕ) (n : ℕ) → length x ≤ longest_string → take n x ++ take longest_string (drop n x) ≡ x

@@ -1,12 +1,12 @@
 -- The laws of whole numbers. A formula that gives one leaves the room as it was, so that another has the same space before and after it.
+use Rattle.std.specs.Prelude.{Err, Ok, Result, ℕ}
+use Rattle.whole.specs.declared.errors.Error.{Error}
 use mathlib.Core.Path.{◌≡◌, refl, sym, ap, ap₂, ◌∙◌}
 use mathlib.Core.Bool.{true, false, false≢true}
 use Prim.Native.Nat.{ℕ}
 use native.Mathlib.Omega.{arith}
 use lib.Bits.{bit_and}
 use Rattle.whole.specs.Whole.{applied, flipped}
-use Rattle.whole.specs.declared.arithmetic.Answer.{Answer}
-use Rattle.whole.specs.declared.arithmetic.Answer.TheVariants.{Whole, Fault}
 use Rattle.whole.specs.declared.arithmetic.Operator.{Operator}
 use Rattle.whole.specs.declared.arithmetic.Operator.TheVariants.{Multiply, Divide, Modulo, And, Or}
 use Rattle.whole.proofs.Never.{never}
@@ -57,7 +57,7 @@ steady_gives {room = room} h =
     let x = h.inside room (record { limit = refl; live = refl }) in record { free = h.free; after = x.after; is = x.is }
 
 module _ {vars : Variables} {room : Room} where
-  operator_steady : {op : Operator} {f g : Formula} {a b w : ℕ} → Steady vars room f a → Steady vars room g b → applied op a b ≡ Whole w
+  operator_steady : {op : Operator} {f g : Formula} {a b w : ℕ} → Steady vars room f a → Steady vars room g b → applied op a b ≡ Ok w
       → Steady vars room (tree.two_sided op f g) w
   unfolding value_of without_fre let_all_go
   operator_steady hf hg e = record {
@@ -89,9 +89,9 @@ not_of_and vars room A B a b ga gb =
     )
 
 -- an answer that others follow to a whole number is a whole number
-followed : (x : Answer) (go : ℕ → Answer) (w : ℕ) → and_then x go ≡ Whole w → (q : ℕ) × (x ≡ Whole q) × (go q ≡ Whole w)
-followed (Whole q) go w e = (q, refl, e)
-followed (Fault f) go w e = never (cc)
+followed : (x : Result ℕ Error) (go : ℕ → Result ℕ Error) (w : ℕ) → and_then x go ≡ Ok w → (q : ℕ) × (x ≡ Ok q) × (go q ≡ Ok w)
+followed (Ok q) go w e = (q, refl, e)
+followed (Err f) go w e = never (cc)
 
 -- the exceptions
 lowest-excepted : excepted lowest minus_one ≡ true

@@ -1,4 +1,5 @@
 -- Numbers and the lines that have them: the three cases of a line's number, and the search for a line by its number.
+use Rattle.std.specs.Prelude.{None, Some}
 use mathlib.Core.Path.{◌≡◌, sym, ap, ◌∙◌}
 use mathlib.Core.Bool.{true, false, ◌&&◌}
 use mathlib.Core.List.{List, [], ◌∷◌, ◌++◌, cons-ne-nil, IsSuffix, suffix_refl, suffix-cons, IsSuffix-trans}
@@ -14,9 +15,7 @@ use Rattle.words.specs.Places.{line_number, largest_line_number}
 use Rattle.words.specs.declared.places.LineNumber.{LineNumber}
 use Rattle.words.proofs.Choices.{by_test, both}
 use Rattle.loader.specs.Lines.{Line, lines_of, number_of, first_of, has, from_number, spanned}
-use Rattle.loader.specs.declared.lines.NumberFound.TheVariants.{Is, None}
 use Rattle.loader.specs.declared.lines.Extent.{Extent}
-use Rattle.loader.specs.declared.lines.LineFound.TheVariants as line
 use Rattle.loader.proofs.Extents.{lines_at, passed, Walked, walked_size, cut}
 
 -- ---- the number of a line
@@ -28,13 +27,15 @@ module _ (s : List ℕ) where
   no_digit e = rw e
 
   -- a number over 65529
-  pub too_large : (length (leading_digits s) ≡ 0 → ⊥) → largest_line_number < leading_value s → number_of s ≡ None
+  pub too_large : largest_line_number < leading_value s → number_of s ≡ None
   unfolding number_of
-  too_large z h = rw (le-leb 1 (length (leading_digits s)) (omega arith), lt-leb (leading_value s) largest_line_number h)
+  too_large h =
+      let f = lt-leb (leading_value s) largest_line_number h in
+      by_test (leb 1 (length (leading_digits s))) (λ t. rw (t, f)) (λ t. rw t)
 
   -- a line with a number
   pub is_number : (length (leading_digits s) ≡ 0 → ⊥) → leading_value s ≤ largest_line_number
-      → number_of s ≡ Is (line_number (leading_value s)) (length (leading_digits s))
+      → number_of s ≡ Some (line_number (leading_value s), length (leading_digits s))
   unfolding number_of
   is_number z h = rw (le-leb 1 (length (leading_digits s)) (omega arith), le-leb (leading_value s) largest_line_number h)
 
@@ -45,25 +46,27 @@ pub record Numbered (s : List ℕ) (n : LineNumber) (count : ℕ) : Type 0 where
   pub small : leading_value s ≤ largest_line_number
 
 module _ (s : List ℕ) {n : LineNumber} {count : ℕ} where
-  pub numbered_as : number_of s ≡ Is n count → Numbered s n count
+  pub numbered_as : number_of s ≡ Some (n, count) → Numbered s n count
   unfolding number_of
   numbered_as e =
       let some = leb 1 (length (leading_digits s)) in let fits = leb (leading_value s) largest_line_number in
       by_test (some && fits)
-      (λ t. let f = rw t at e in record { is = cc; digits = cc; small = leb-true _ _ (both some fits t).1 })
+      (λ t. let f = rw t at e in
+      let g : ◌≡◌ {A = LineNumber × ℕ} (line_number (leading_value s), length (leading_digits s)) (n, count) = cc in
+      record { is = sym (ap (λ p. p.0) g); digits = sym (ap (λ p. p.1) g); small = leb-true _ _ (both some fits t).1 })
       (λ t. let f = rw t at e in never (cc))
 
   -- its digits stand within the line
-  pub digits_inside : number_of s ≡ Is n count → count ≤ length s
+  pub digits_inside : number_of s ≡ Some (n, count) → count ≤ length s
   digits_inside e = omega (arith, (numbered_as e).digits, leading_inside is_digit s)
 
 module _ (text : List ℕ) (p : ℕ) {e : Extent} {n : LineNumber} {count : ℕ} (w : Walked text p e) where
   -- so the line at a place does not end before they do,
-  pub digits_end : number_of (passed text p e).bytes ≡ Is n count → p + count ≤ e.end.0
+  pub digits_end : number_of (passed text p e).bytes ≡ Some (n, count) → p + count ≤ e.end.0
   digits_end q = omega (arith, digits_inside (passed text p e).bytes q, walked_size text p w)
 
   -- and is found with its number
-  pub found_here : number_of (passed text p e).bytes ≡ Is n count → first_of (lines_at text p) ≡ line.Is (spanned p e n count)
+  pub found_here : number_of (passed text p e).bytes ≡ Some (n, count) → first_of (lines_at text p) ≡ Some (spanned p e n count)
   found_here q = rw (w.lines, q, walked_size text p w)
 
 -- ---- the search for a number

@@ -1,4 +1,6 @@
+pub mod Chunks
 pub mod Extents
 pub mod Found
+pub mod Plain
 pub mod Rising
 pub mod Spans

@@ -1,4 +1,5 @@
 -- The span of a line: of lines that are sound, what it tells of the line, of the bytes after its number and of the lines after it.
+use Rattle.std.specs.Prelude.{None, Some}
 use mathlib.Core.Path.{◌≡◌, refl, sym, ap, ◌∙◌}
 use mathlib.Core.List.{List, [], ◌∷◌}
 use Prim.Native.Nat.{ℕ, ◌+◌, ◌-◌, ◌≤◌, ◌<◌}
@@ -10,7 +11,6 @@ use Rattle.whole.proofs.Never.{never}
 use Rattle.words.specs.Places.{place, line_number}
 use Rattle.loader.specs.Lines.{Line, after_number, first_of}
 use Rattle.loader.specs.declared.lines.LineSpan.{LineSpan}
-use Rattle.loader.specs.declared.lines.LineFound.TheVariants.{Is, None}
 use Rattle.loader.proofs.Extents.{lines_at, cut}
 use Rattle.loader.proofs.Found.{digits_inside}
 use Rattle.loader.proofs.Rising.{Sound, Rising, rising_lower}
@@ -50,7 +50,7 @@ none_left [] r e = refl
 none_left (l ∷ ls) r e = let f = rw r.0.is at e in never (cc)
 
 -- and one that is found is at its place
-spanned_by : (text : List ℕ) (p : ℕ) (ls : List Line) {span : LineSpan} → lines_at text p ≡ ls → Rising 0 ls → first_of ls ≡ Is span → Spanned text p span
+spanned_by : (text : List ℕ) (p : ℕ) (ls : List Line) {span : LineSpan} → lines_at text p ≡ ls → Rising 0 ls → first_of ls ≡ Some span → Spanned text p span
 spanned_by text p [] q r e = never (cc)
 spanned_by text p (l ∷ ls) {span} q r e =
     let k = cut text p q in
@@ -81,5 +81,5 @@ spanned_by text p (l ∷ ls) {span} q r e =
       rising = rw (on, ← k.rest) (rising_lower 0 (leading_value l.bytes + 1) ls (omega arith) r.2);
     }
 
-pub spanned_as : (text : List ℕ) (p : ℕ) {span : LineSpan} → Rising 0 (lines_at text p) → first_of (lines_at text p) ≡ Is span → Spanned text p span
+pub spanned_as : (text : List ℕ) (p : ℕ) {span : LineSpan} → Rising 0 (lines_at text p) → first_of (lines_at text p) ≡ Some span → Spanned text p span
 spanned_as text p r e = spanned_by text p (lines_at text p) refl r e

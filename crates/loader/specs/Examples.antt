@@ -1,5 +1,7 @@
 -- Worked examples, computed by the checker: each row of the paper's table of refusals, and texts that load.
-use Rattle.std.specs.Prelude.{◌≡◌, refl, List, [], ◌∷◌, ◌++◌, map, ℕ, zero, suc, ◌+◌, ◌/◌, ◌%◌, replicate}
+use Rattle.loader.specs.declared.refusals.RefusedAt.{RefusedAt}
+use Rattle.loader.specs.Refusals.{refused_at}
+use Rattle.std.specs.Prelude.{◌≡◌, refl, List, [], ◌∷◌, ◌++◌, map, ℕ, zero, suc, ◌+◌, ◌/◌, ◌%◌, replicate, None, Ok, Result, Some}
 use Prim.Native.String.{String}
 use Rattle.whole.specs.Bytes.{bytes, leading}
 use Rattle.whole.specs.Digits.{is_digit, value_from}
@@ -14,9 +16,6 @@ use Rattle.loader.specs.declared.refusals.Refusal.TheVariants.{
   NotRising,
   TooManyLines,
 }
-use Rattle.loader.specs.declared.lines.LineFound.TheVariants.{Is, None}
-use Rattle.loader.specs.declared.loading.Loaded.{Loaded}
-use Rattle.loader.specs.declared.loading.Loaded.TheVariants.{Fine, Refused}
 
 -- lines, each ended by byte 10
 abbrev joined : List String → List ℕ
@@ -30,40 +29,40 @@ numbered_lines (suc n) k = (48 + k / 100) ∷ (48 + k / 10 % 10) ∷ (48 + k % 1
 
 pub record Example : Type 0 where
   pub text : List ℕ
-  pub answer : Loaded
+  pub answer : Result (Unit {0}) RefusedAt
 
 infix 3 ◌loads◌
-abbrev ◌loads◌ : List ℕ → Loaded → Example
+abbrev ◌loads◌ : List ℕ → Result (Unit {0}) RefusedAt → Example
 t loads a = record { text = t; answer = a }
 
 pub texts : List Example
 texts =
-    ([] loads Fine)
-    ∷ (joined ("10 A=1" ∷ "20 B=2" ∷ []) loads Fine)
+    ([] loads (Ok tt))
+    ∷ (joined ("10 A=1" ∷ "20 B=2" ∷ []) loads (Ok tt))
     -- a last line without its end; byte 13 before byte 10; leading zeros
-    ∷ (bytes "10 A=1\r\n00020 B=2" loads Fine)
+    ∷ (bytes "10 A=1\r\n00020 B=2" loads (Ok tt))
     -- 103: over 255 bytes, the end not counted
-    ∷ (bytes "1" ++ (replicate 254 32 ++ bytes "\r\n") loads Fine)
-    ∷ (bytes "1\n2" ++ replicate 255 32 loads Refused LineTooLong (place 2))
+    ∷ (bytes "1" ++ (replicate 254 32 ++ bytes "\r\n") loads (Ok tt))
+    ∷ (bytes "1\n2" ++ replicate 255 32 loads refused_at LineTooLong (place 2))
     -- 104: the first byte outside 32 to 126
-    ∷ (bytes "10 A\t\t" loads Refused ForeignByte (place 4))
-    ∷ (bytes "10 \rA\n" loads Refused ForeignByte (place 3))
-    ∷ (bytes "10\n20 B\r" loads Refused ForeignByte (place 7))
+    ∷ (bytes "10 A\t\t" loads refused_at ForeignByte (place 4))
+    ∷ (bytes "10 \rA\n" loads refused_at ForeignByte (place 3))
+    ∷ (bytes "10\n20 B\r" loads refused_at ForeignByte (place 7))
     -- 101: no digit first, an empty line, a number over 65529
-    ∷ (bytes "10\n A=1\n" loads Refused BadNumber (place 3))
-    ∷ (bytes "10\n\n" loads Refused BadNumber (place 3))
-    ∷ (bytes "65529\n" loads Fine)
-    ∷ (bytes "65530\n" loads Refused BadNumber (place 0))
-    ∷ (replicate 200 57 loads Refused BadNumber (place 0))
+    ∷ (bytes "10\n A=1\n" loads refused_at BadNumber (place 3))
+    ∷ (bytes "10\n\n" loads refused_at BadNumber (place 3))
+    ∷ (bytes "65529\n" loads (Ok tt))
+    ∷ (bytes "65530\n" loads refused_at BadNumber (place 0))
+    ∷ (replicate 200 57 loads refused_at BadNumber (place 0))
     -- 102: not above the one before
-    ∷ (bytes "10\n10\n" loads Refused NotRising (place 3))
-    ∷ (bytes "0\n00\n" loads Refused NotRising (place 2))
+    ∷ (bytes "10\n10\n" loads refused_at NotRising (place 3))
+    ∷ (bytes "0\n00\n" loads refused_at NotRising (place 2))
     -- 105: a 513th line; another fault of it comes first
-    ∷ (numbered_lines 512 100 loads Fine)
-    ∷ (numbered_lines 513 100 loads Refused TooManyLines (place 2048))
-    ∷ (numbered_lines 512 100 ++ bytes "5" loads Refused NotRising (place 2048))
+    ∷ (numbered_lines 512 100 loads (Ok tt))
+    ∷ (numbered_lines 513 100 loads refused_at TooManyLines (place 2048))
+    ∷ (numbered_lines 512 100 ++ bytes "5" loads refused_at NotRising (place 2048))
     -- 100: over 16,384 bytes, before all else
-    ∷ (replicate 16385 32 loads Refused TextTooLong (place 0))
+    ∷ (replicate 16385 32 loads refused_at TextTooLong (place 0))
     ∷ []
 
 pub texts_hold : map (λ (e : Example). load_of e.text) texts ≡ map (λ (e : Example). e.answer) texts
@@ -76,12 +75,12 @@ pub two : List ℕ
 two = bytes "10 A\r\n020 B"
 
 pub first_found : line_at two (place 0)
-    ≡ Is (record { number = line_number 10; place = place 0; body = place 2; end = place 4; next = place 6 })
+    ≡ Some (record { number = line_number 10; place = place 0; body = place 2; end = place 4; next = place 6 })
 unfolding two bytes leading is_digit value_from lines_from number_of
 first_found = refl
 
 pub second_found : find_line two (line_number 20)
-    ≡ Is (record { number = line_number 20; place = place 6; body = place 9; end = place 11; next = place 11 })
+    ≡ Some (record { number = line_number 20; place = place 6; body = place 9; end = place 11; next = place 11 })
 unfolding two bytes leading is_digit value_from lines_from number_of from_number
 second_found = refl
 

@@ -1,16 +1,12 @@
 -- The lines of a text. A text has lines ended by byte 10; one byte 13 just before it is dropped. The last line may lack its
 -- end, and a text that ends in byte 10 has no further line.
-use Rattle.std.specs.Prelude.{Bool, false, cond, ◌&&◌, List, [], ◌∷◌, ℕ, zero, suc, ◌+◌, leb, eqb, length, drop}
+use Rattle.std.specs.Prelude.{Bool, false, cond, ◌&&◌, List, [], ◌∷◌, ℕ, zero, suc, ◌+◌, leb, eqb, length, drop, None, Option, Some}
 use Rattle.whole.specs.Digits.{leading_digits, leading_value}
 use Rattle.words.specs.Places.{place, line_number, largest_line_number}
 use Rattle.words.specs.declared.places.Place.{Place}
 use Rattle.words.specs.declared.places.LineNumber.{LineNumber}
 use Rattle.loader.specs.declared.lines.Extent.{Extent}
-use Rattle.loader.specs.declared.lines.NumberFound.{NumberFound}
-use Rattle.loader.specs.declared.lines.NumberFound.TheVariants as number
 use Rattle.loader.specs.declared.lines.LineSpan.{LineSpan}
-use Rattle.loader.specs.declared.lines.LineFound.{LineFound}
-use Rattle.loader.specs.declared.lines.LineFound.TheVariants.{Is, None}
 
 -- a line: the place of its first byte, its bytes without its end, and the place where the next line begins
 pub record Line : Type 0 where
@@ -60,16 +56,16 @@ abbrev pub after_number : Line → List ℕ
 after_number l = drop (length (leading_digits l.bytes)) l.bytes
 
 -- a line begins with its number's first digit, all its digits belong to it, and it is at most 65529
-unfoldable pub number_of : List ℕ → NumberFound
+unfoldable pub number_of : List ℕ → Option (LineNumber × ℕ)
 number_of bytes =
     cond (leb 1 (length (leading_digits bytes)) && leb (leading_value bytes) largest_line_number)
-    (number.Is (line_number (leading_value bytes)) (length (leading_digits bytes)))
-    number.None
+    (Some (line_number (leading_value bytes), length (leading_digits bytes)))
+    None
 
 -- a line with its number, where the bytes after the number begin and end, and where the next begins
-abbrev pub located : Line → NumberFound → LineFound
-located l (number.Is n count) =
-    Is
+abbrev pub located : Line → Option (LineNumber × ℕ) → Option LineSpan
+located l (Some (n, count)) =
+    Some
     (record {
       number = n;
       place = place l.start;
@@ -77,21 +73,21 @@ located l (number.Is n count) =
       end = place (l.start + length l.bytes);
       next = place l.next;
     })
-located l number.None = None
+located l None = None
 
 -- the first of some lines, where it has a number
-abbrev pub first_of : List Line → LineFound
+abbrev pub first_of : List Line → Option LineSpan
 first_of [] = None
 first_of (l ∷ ls) = located l (number_of l.bytes)
 
 -- the line that begins at a place
-abbrev pub line_at : List ℕ → Place → LineFound
+abbrev pub line_at : List ℕ → Place → Option LineSpan
 line_at text at = first_of (lines_from at.0 (drop at.0 text))
 
 -- whether a line has the number n
-abbrev pub has : ℕ → NumberFound → Bool
-has n (number.Is m count) = eqb m.0 n
-has n number.None = false
+abbrev pub has : ℕ → Option (LineNumber × ℕ) → Bool
+has n (Some (m, count)) = eqb m.0 n
+has n None = false
 
 -- the lines from the first with the number n on
 unfoldable pub from_number : ℕ → List Line → List Line
@@ -99,7 +95,7 @@ from_number n [] = []
 from_number n (l ∷ ls) = cond (has n (number_of l.bytes)) (l ∷ ls) (from_number n ls)
 
 -- the line with a number
-abbrev pub find_line : List ℕ → LineNumber → LineFound
+abbrev pub find_line : List ℕ → LineNumber → Option LineSpan
 find_line text n = first_of (from_number n.0 (lines_of text))
 
 -- ---- how the code finds a line's end, which `lines_from` says in other words (the proofs join the two)

@@ -1,4 +1,7 @@
 -- The numbers of the refusals, in the order of the paper's table.
+use Rattle.std.specs.Prelude.{Err, Result}
+use Rattle.words.specs.declared.places.Place.{Place}
+use Rattle.loader.specs.declared.refusals.RefusedAt.{RefusedAt}
 use Rattle.std.specs.Prelude.{ℕ}
 use Rattle.loader.specs.declared.refusals.Refusal.{Refusal}
 use Rattle.loader.specs.declared.refusals.Refusal.TheVariants.{
@@ -29,3 +32,7 @@ refusal_number TooManyLines = 105
 refusal_number ShortGroup = 108
 refusal_number TooManyPairs = 109
 refusal_number NoRoom = 110
+
+-- refused, at a place
+abbrev pub refused_at : {T : Type 0} → Refusal → Place → Result T RefusedAt
+refused_at refusal at = Err (record { refusal = refusal; place = at })

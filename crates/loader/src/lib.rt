@@ -5,6 +5,6 @@ mod lines;
 mod loading;
 mod refusals;
 
-pub use lines::{Extent, LineFound, LineSpan, extent_at, find_line, line_at};
-pub use loading::{Loaded, load};
-pub use refusals::{Refusal, refusal_number};
+pub use lines::{Extent, LineSpan, extent_at, find_line, line_at};
+pub use loading::{Recipe, load};
+pub use refusals::{Refusal, RefusedAt, refusal_number};

@@ -2,7 +2,7 @@
 ghost use Rattle.std.specs.Prelude.{◌≡◌, ◌+◌, ◌≤◌, drop};
 ghost use Rattle.loader.specs.Lines.{ending_of, extent_at, number_of, spanned, line_at, find_line};
 
-use whole::{Magnitude, leading_digits};
+use whole::leading_digits;
 use words::{LineNumber, Place};
 
 // Where a line ends, its end not counted, and where the next one begins.
@@ -10,13 +10,6 @@ use words::{LineNumber, Place};
 pub struct Extent {
     pub end: Place,
     pub next: Place,
-}
-
-// The number that a line begins with, and how many digits it has; or no number of a line.
-#[derive(Clone, Copy)]
-pub enum NumberFound {
-    Is(LineNumber, usize),
-    None,
 }
 
 // A line in its text: its number, where it begins, where the bytes after the number begin and end, and where the next begins.
@@ -29,77 +22,49 @@ pub struct LineSpan {
     pub next: Place,
 }
 
-#[derive(Clone, Copy)]
-pub enum LineFound {
-    Is(LineSpan),
-    None,
-}
-
 const LINE_FEED: u8 = 10;
 
 const CARRIAGE_RETURN: u8 = 13;
 
-// How many bytes of a line's end stand at a place: byte 10 is one, and with a byte 13 just before it two.
-fn ending(text: &[u8], at: Place) -> usize
-    ensures { result ≡ ending_of (drop at.0 text.now) }
+// How many bytes of a line's end stand at the front: byte 10 is one, and with a byte 13 just before it two.
+#[tactic(auto, unfolding(crate::specs::Lines::ending_of))]
+fn ending(rest: &[u8]) -> usize
+    ensures { result ≡ ending_of rest.now }
 {
-    let here = at.0;
-    if text.len() <= here {
-        return 0;
+    match rest {
+        [LINE_FEED, ..] => 1,
+        [CARRIAGE_RETURN, LINE_FEED, ..] => 2,
+        _ => 0,
     }
-    let first = text[here];
-    if first == LINE_FEED {
-        return 1;
-    }
-    if first != CARRIAGE_RETURN {
-        return 0;
-    }
-    let next = here + 1;
-    if text.len() <= next {
-        return 0;
-    }
-    if text[next] == LINE_FEED { 2 } else { 0 }
 }
 
 // How far the line that begins at a place goes.
 pub fn extent_at(text: &[u8], start: Place) -> Extent
     ensures { result ≡ extent_at start.0 (drop start.0 text.now) }
 {
-    let mut at = start.0;
-    while at < text.len() {
-        let count = ending(text, Place(at));
+    for at in start.0..text.len() {
+        let count = ending(&text[at..]);
         if count != 0 {
-            let next = at + count;
             return Extent {
                 end: Place(at),
-                next: Place(next),
+                next: Place(at + count),
             };
         }
-        at += 1;
     }
-    Extent {
-        end: Place(at),
-        next: Place(at),
-    }
+    let end = Place(start.0.max(text.len()));
+    Extent { end, next: end }
 }
 
 // A line begins with its number's first digit; all its digits belong to it.
-pub(crate) fn number_of(line: &[u8]) -> NumberFound
+pub(crate) fn number_of(line: &[u8]) -> Option<(LineNumber, usize)>
     ensures { result ≡ number_of line.now }
 {
     let digits = leading_digits(line);
-    let count = digits.count;
-    if count == 0 {
-        return NumberFound::None;
+    let value = digits.magnitude?;
+    if digits.count == 0 || LineNumber::LARGEST < value {
+        return None;
     }
-    let magnitude = digits.magnitude;
-    let Magnitude::Fits(value) = magnitude else {
-        return NumberFound::None;
-    };
-    if LineNumber::LARGEST < value {
-        return NumberFound::None;
-    }
-    NumberFound::Is(LineNumber(value), count)
+    Some((LineNumber(value), digits.count))
 }
 
 // The span of a line, from where it begins, how far it goes, its number and how many digits that has.
@@ -107,49 +72,40 @@ fn spanned(start: Place, extent: Extent, number: LineNumber, count: usize) -> Li
     requires { start.0 + count ≤ extent.end.0 }
     ensures { result ≡ spanned start.0 extent number count }
 {
-    let body = start.0 + count;
-    let end = extent.end;
-    let next = extent.next;
     LineSpan {
         number,
         place: start,
-        body: Place(body),
-        end,
-        next,
+        body: Place(start.0 + count),
+        end: extent.end,
+        next: extent.next,
     }
 }
 
 // The line that begins at a place, where one with a number does.
-pub fn line_at(text: &[u8], at: Place) -> LineFound
+pub fn line_at(text: &[u8], at: Place) -> Option<LineSpan>
     ensures { result ≡ line_at text.now at }
 {
-    let start = at.0;
-    if text.len() <= start {
-        return LineFound::None;
+    if text.len() <= at.0 {
+        return None;
     }
     let extent = extent_at(text, at);
-    let end = extent.end.0;
-    match number_of(&text[start..end]) {
-        NumberFound::Is(number, count) => LineFound::Is(spanned(at, extent, number, count)),
-        NumberFound::None => LineFound::None,
-    }
+    let (number, count) = number_of(&text[at.0..extent.end.0])?;
+    Some(spanned(at, extent, number, count))
 }
 
 // The first line with a number, found by scanning from the start.
-pub fn find_line(text: &[u8], number: LineNumber) -> LineFound
+pub fn find_line(text: &[u8], number: LineNumber) -> Option<LineSpan>
     ensures { result ≡ find_line text.now number }
 {
-    let wanted = number.0;
-    let mut at = 0;
-    while at < text.len() {
-        let extent = extent_at(text, Place(at));
-        let end = extent.end.0;
-        if let NumberFound::Is(here, count) = number_of(&text[at..end]) {
-            if here.0 == wanted {
-                return LineFound::Is(spanned(Place(at), extent, here, count));
+    let mut at = Place(0);
+    while at.0 < text.len() {
+        let extent = extent_at(text, at);
+        if let Some((here, count)) = number_of(&text[at.0..extent.end.0]) {
+            if here == number {
+                return Some(spanned(at, extent, here, count));
             }
         }
-        at = extent.next.0;
+        at = extent.next;
     }
-    LineFound::None
+    None
 }

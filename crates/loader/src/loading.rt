@@ -1,20 +1,15 @@
 // Loading: the tests of a text, in the order of the paper's table, the last five line by line.
-ghost use Rattle.std.specs.Prelude.{◌≡◌, length};
-ghost use Rattle.whole.specs.Bytes.{leading};
+ghost use Rattle.std.specs.Prelude.{◌≡◌, not, position};
 ghost use Rattle.loader.specs.Loading.{is_plain, numbered, judged, load_of};
 
-use crate::lines::{NumberFound, extent_at, number_of};
-use crate::refusals::Refusal;
+use crate::lines::{extent_at, number_of};
+use crate::refusals::{Refusal, RefusedAt};
 use words::{LineNumber, Place};
 
-// What loading answers: fine, or refused and the place.
-#[derive(Clone, Copy)]
-pub enum Loaded {
-    Fine,
-    Refused(Refusal, Place),
-}
+// The limits of a text.
+pub struct Recipe;
 
-impl Loaded {
+impl Recipe {
     pub const LONGEST_TEXT: usize = 16384;
 
     pub const LONGEST_LINE: usize = 255;
@@ -22,89 +17,89 @@ impl Loaded {
     pub const MOST_LINES: usize = 512;
 }
 
-// What one line is judged: good, with its number, or refused for a byte of it.
-#[derive(Clone, Copy)]
-pub enum Judged {
-    Good(LineNumber),
-    Bad(Refusal, Place),
-}
-
 // A byte of 32 to 126, which a line may hold.
+#[tactic(auto, unfolding(crate::specs::Loading::is_plain))]
 fn is_plain(byte: u8) -> bool
     ensures { result ≡ is_plain byte }
 {
-    b' ' <= byte && byte <= b'~'
+    matches!(byte, b' '..=b'~')
 }
 
-// How many bytes stand before the first that a line may not hold.
-fn plain_length(line: &[u8]) -> usize
-    ensures { result ≡ length (leading is_plain line.now) }
+// Where the first byte stands that a line may not hold.
+fn first_foreign(line: &[u8]) -> Option<usize>
+    ensures { result ≡ position (λ byte. not (is_plain byte)) line.now }
 {
-    let mut count = 0;
-    while count < line.len() {
-        if !is_plain(line[count]) {
-            return count;
-        }
-        count += 1;
-    }
-    count
+    line.iter().position(|byte| !is_plain(*byte))
 }
 
 // The tests of a line that so many lines stand before, and whose number may not be below `floor`.
-fn judge(line: &[u8], before: usize, floor: u32) -> Judged
+fn judge(line: &[u8], before: usize, floor: u16) -> Result<LineNumber, RefusedAt>
     ensures { result ≡ judged line.now before floor }
 {
-    if Loaded::LONGEST_LINE < line.len() {
-        return Judged::Bad(Refusal::LineTooLong, Place(0));
+    if Recipe::LONGEST_LINE < line.len() {
+        return Err(RefusedAt {
+            refusal: Refusal::LineTooLong,
+            place: Place(0),
+        });
     }
-    let plain = plain_length(line);
-    if plain < line.len() {
-        return Judged::Bad(Refusal::ForeignByte, Place(plain));
+    if let Some(at) = first_foreign(line) {
+        return Err(RefusedAt {
+            refusal: Refusal::ForeignByte,
+            place: Place(at),
+        });
     }
-    match number_of(line) {
-        NumberFound::None => Judged::Bad(Refusal::BadNumber, Place(0)),
-        NumberFound::Is(number, _) => numbered(number, before, floor),
-    }
+    let Some((number, _)) = number_of(line) else {
+        return Err(RefusedAt {
+            refusal: Refusal::BadNumber,
+            place: Place(0),
+        });
+    };
+    numbered(number, before, floor)
 }
 
 // The tests of a line that has a number.
-fn numbered(number: LineNumber, before: usize, floor: u32) -> Judged
+fn numbered(number: LineNumber, before: usize, floor: u16) -> Result<LineNumber, RefusedAt>
     ensures { result ≡ numbered number.0 before floor }
 {
-    let value = number.0;
-    if (value as u32) < floor {
-        return Judged::Bad(Refusal::NotRising, Place(0));
+    if number.0 < floor {
+        return Err(RefusedAt {
+            refusal: Refusal::NotRising,
+            place: Place(0),
+        });
     }
-    if Loaded::MOST_LINES <= before {
-        return Judged::Bad(Refusal::TooManyLines, Place(0));
+    if Recipe::MOST_LINES <= before {
+        return Err(RefusedAt {
+            refusal: Refusal::TooManyLines,
+            place: Place(0),
+        });
     }
-    Judged::Good(number)
+    Ok(number)
 }
 
 // Whether a text is a recipe.
-pub fn load(text: &[u8]) -> Loaded
+pub fn load(text: &[u8]) -> Result<(), RefusedAt>
     ensures { result ≡ load_of text.now }
 {
-    if Loaded::LONGEST_TEXT < text.len() {
-        return Loaded::Refused(Refusal::TextTooLong, Place(0));
+    if Recipe::LONGEST_TEXT < text.len() {
+        return Err(RefusedAt {
+            refusal: Refusal::TextTooLong,
+            place: Place(0),
+        });
     }
-    let mut at = 0;
+    let mut at = Place(0);
     let mut before = 0;
-    let mut floor: u32 = 0;
-    while at < text.len() {
-        let extent = extent_at(text, Place(at));
-        let end = extent.end.0;
-        match judge(&text[at..end], before, floor) {
-            Judged::Bad(refusal, byte) => {
-                let place = at + byte.0;
-                return Loaded::Refused(refusal, Place(place));
-            }
-            Judged::Good(number) => {
-                floor = number.0 as u32 + 1;
+    let mut floor = 0;
+    while at.0 < text.len() {
+        let extent = extent_at(text, at);
+        match judge(&text[at.0..extent.end.0], before, floor) {
+            Ok(number) => floor = number.0 + 1,
+            Err(bad) => {
+                let place = Place(at.0 + bad.place.0);
+                return Err(RefusedAt { place, ..bad });
             }
         }
         before += 1;
-        at = extent.next.0;
+        at = extent.next;
     }
-    Loaded::Fine
+    Ok(())
 }

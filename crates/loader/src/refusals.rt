@@ -2,38 +2,42 @@
 ghost use Rattle.std.specs.Prelude.{◌≡◌};
 ghost use Rattle.loader.specs.Refusals.{refusal_number};
 
+use words::Place;
+
 #[derive(Clone, Copy)]
 pub enum Refusal {
-    NoVariable,
-    SpaceTooLong,
-    StackTooLong,
-    TextTooLong,
-    LineTooLong,
-    ForeignByte,
-    BadNumber,
-    NotRising,
-    TooManyLines,
-    ShortGroup,
-    TooManyPairs,
-    NoRoom,
+    NoVariable = 111,
+    SpaceTooLong = 106,
+    StackTooLong = 107,
+    TextTooLong = 100,
+    LineTooLong = 103,
+    ForeignByte = 104,
+    BadNumber = 101,
+    NotRising = 102,
+    TooManyLines = 105,
+    ShortGroup = 108,
+    TooManyPairs = 109,
+    NoRoom = 110,
+}
+
+// Why something is refused, and the place.
+#[derive(Clone, Copy)]
+pub struct RefusedAt {
+    pub refusal: Refusal,
+    pub place: Place,
+}
+
+impl From<Refusal> for u8 {
+    ghost from_gives = { λ refusal number. number ≡ refusal_number refusal };
+
+    fn from(refusal: Refusal) -> u8 {
+        refusal as u8
+    }
 }
 
 // The number that the paper gives a refusal.
 pub fn refusal_number(refusal: Refusal) -> u8
     ensures { result ≡ refusal_number refusal }
 {
-    match refusal {
-        Refusal::NoVariable => 111,
-        Refusal::SpaceTooLong => 106,
-        Refusal::StackTooLong => 107,
-        Refusal::TextTooLong => 100,
-        Refusal::LineTooLong => 103,
-        Refusal::ForeignByte => 104,
-        Refusal::BadNumber => 101,
-        Refusal::NotRising => 102,
-        Refusal::TooManyLines => 105,
-        Refusal::ShortGroup => 108,
-        Refusal::TooManyPairs => 109,
-        Refusal::NoRoom => 110,
-    }
+    u8::from(refusal)
 }

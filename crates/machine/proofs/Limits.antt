@@ -1,4 +1,6 @@
 -- Numbers compared, and a loop's limit passed.
+use Rattle.std.specs.Prelude.{Err, Ok, Result, ℕ}
+use Rattle.whole.specs.declared.errors.Error.{Error}
 use mathlib.Core.Path.{◌≡◌, refl}
 use mathlib.Core.Bool.{Bool, true, false, not}
 use Prim.Native.Nat.{ℕ}
@@ -6,14 +8,12 @@ use borrow.Author.Tests.{eq-eqb, ne_eqb}
 use lib.Dec.{eqb}
 use lib.Signed.{lt_z}
 use Rattle.whole.specs.Whole.{num, say}
-use Rattle.whole.specs.declared.arithmetic.Answer.{Answer}
-use Rattle.whole.specs.declared.arithmetic.Answer.TheVariants.{Whole, Fault}
 use Rattle.machine.specs.Machine.{passed}
 
 -- whether an answer is a word other than 0
-abbrev pub holds : Answer → Bool
-holds (Whole w) = not (eqb w 0)
-holds (Fault x) = false
+abbrev pub holds : Result ℕ Error → Bool
+holds (Ok w) = not (eqb w 0)
+holds (Err x) = false
 
 -- a comparison's answer is just where it holds
 pub says : (b : Bool) → holds (say b) ≡ b

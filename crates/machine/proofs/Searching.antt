@@ -1,4 +1,5 @@
 -- The search down the records, by the code's slots and as the definition makes it.
+use Rattle.std.specs.Prelude.{None, Option, Some, ℕ}
 use mathlib.Core.Path.{◌≡◌, refl, sym, ap, ◌∙◌}
 use mathlib.Core.Bool.{Bool, true, false, cond, not, ◌&&◌, false≢true}
 use mathlib.Core.List.{List}
@@ -13,8 +14,6 @@ use Rattle.words.specs.Names.{Telling, alike}
 use Rattle.variables.specs.Tables.{names_from, slot_in}
 use Rattle.variables.specs.Variables.{most_variables}
 use Rattle.variables.specs.bridge.Memory.{name_at, Apart}
-use Rattle.variables.specs.declared.tables.Slot.{Slot}
-use Rattle.variables.specs.declared.tables.Slot.TheVariants as slot
 use Rattle.variables.proofs.Names.{name_slot, slot_name}
 use Rattle.machine.specs.Machine as spec
 use Rattle.machine.specs.Machine.{missing, is_call}
@@ -24,8 +23,6 @@ use Rattle.machine.specs.bridge.Holding.{lines_at, body_of, position_of, blank_r
 use Rattle.machine.specs.bridge.Wanted.{is_sought, found_in, entry_at, FoundAt, Told}
 use Rattle.machine.specs.bridge.Seeking.{Wish, nothing, call, loop, loop_of, while_at, while_of, test_of, by_slot, sought_for}
 use Rattle.machine.specs.declared.records.Record.{Record}
-use Rattle.machine.specs.declared.records.Found.{Found}
-use Rattle.machine.specs.declared.records.Found.TheVariants as found
 use Rattle.machine.specs.declared.records.Sought.{Sought}
 use Rattle.machine.proofs.Stacking.{by_kind, record_kept, records_kept}
 use Rattle.machine.proofs.Standing.{begins_at, part_place}
@@ -37,20 +34,20 @@ none_sought : (k : Sought) (e : Record) → k.kind ≡ 0 → is_sought k e ≡ f
 none_sought k e z = by_test (counts e) (λ f. rw (z, f)) (λ f. rw (z, f))
 
 -- and finds nothing
-pub nothing_found : (k : Sought) (rs : List Record) (d : ℕ) → k.kind ≡ 0 → found.None ≡ found_in k rs d
+pub nothing_found : (k : Sought) (rs : List Record) (d : ℕ) → k.kind ≡ 0 → None ≡ found_in k rs d
 unfolding found_in
 nothing_found k rs zero z = refl
 nothing_found k rs (suc d) z =
     let x = get_or rs d blank_record in
     by_test (passes x) (λ f. rw (none_sought k x z, f) (nothing_found k rs d z)) (λ f. rw (none_sought k x z, f))
 
-not_found : {P : Type 0} {i : ℕ} → found.None ≡ found.At i → P
+not_found : {P : Type 0} {i : ℕ} → None ≡ Some i → P
 not_found e = never (cc)
 
 -- a record that is no FOR's is no loop's
-no_loop : (numbers : ℕ) (x : Slot) (e : Record) → counts e ≡ false → false ≡ is_sought (by_slot numbers x) e
-no_loop numbers slot.None e f = rw f
-no_loop numbers (slot.At i) e f = by_test (ltb i numbers) (λ t. rw (t, f)) (λ t. rw (t, f))
+no_loop : (numbers : ℕ) (x : Option ℕ) (e : Record) → counts e ≡ false → false ≡ is_sought (by_slot numbers x) e
+no_loop numbers None e f = rw f
+no_loop numbers (Some i) e f = by_test (ltb i numbers) (λ t. rw (t, f)) (λ t. rw (t, f))
 
 -- ---- as the definition makes it
 
@@ -96,7 +93,7 @@ while_found text names {e = e} h line at t =
 no_while : (e : Record) → counts e ≡ true → repeats e ≡ false
 no_while e f = let k : e.kind ≡ 2 = eqb-true e.kind 2 f in rw k
 
-not_at : {P : Type 0} {i : ℕ} → slot.None ≡ slot.At i → P
+not_at : {P : Type 0} {i : ℕ} → None ≡ Some i → P
 not_at e = never (cc)
 
 -- no two names of the table are one variable's
@@ -104,25 +101,25 @@ module _ (text names : List ℕ) (numbers : ℕ) (few : numbers ≤ most_variabl
   -- a loop's record is that of a variable just where its entry is the variable's
   module _ (name : Telling) (e : Record) (known : e.slot < numbers) where
     abbrev Own : Type 0
-    Own = alike (name_at names e.slot) name ≡ true → slot_in names name ≡ slot.At e.slot
+    Own = alike (name_at names e.slot) name ≡ true → slot_in names name ≡ Some e.slot
 
     has_own : Own
     has_own t = name_slot names numbers few apart e.slot name known t
 
-    other : (x : Slot) → slot_in names name ≡ x → (x ≡ slot.At e.slot → ⊥) → alike (name_at names e.slot) name ≡ false
+    other : (x : Option ℕ) → slot_in names name ≡ x → (x ≡ Some e.slot → ⊥) → alike (name_at names e.slot) name ≡ false
     other x q n = by_test (alike (name_at names e.slot) name) (λ t. absurd (n (sym q ∙ has_own t))) (λ t. t)
 
-    slot_is : (i : ℕ) → slot_in names name ≡ slot.At i → alike (name_at names e.slot) name ≡ eqb e.slot i
+    slot_is : (i : ℕ) → slot_in names name ≡ Some i → alike (name_at names e.slot) name ≡ eqb e.slot i
     slot_is i q =
         by_test (eqb e.slot i)
         (λ t. let s = eqb-true e.slot i t in rw (t, s) (slot_name names i name (omega arith) q))
-        (λ t. rw t (other (slot.At i) q (λ z. let s : i ≡ e.slot = cc in eqb-false e.slot i t (sym s))))
+        (λ t. rw t (other (Some i) q (λ z. let s : i ≡ e.slot = cc in eqb-false e.slot i t (sym s))))
 
-    same_loop : (x : Slot) → slot_in names name ≡ x → counts e ≡ true → alike (name_at names e.slot) name ≡ is_sought (by_slot numbers x) e
-    same_loop slot.None q f = rw f (other slot.None q (λ z. not_at z))
-    same_loop (slot.At i) q f =
+    same_loop : (x : Option ℕ) → slot_in names name ≡ x → counts e ≡ true → alike (name_at names e.slot) name ≡ is_sought (by_slot numbers x) e
+    same_loop None q f = rw f (other None q (λ z. not_at z))
+    same_loop (Some i) q f =
         by_test (ltb i numbers) (λ t. rw (t, f) (slot_is i q))
-        (λ t. rw (t, f) (other (slot.At i) q (λ z. let s : i ≡ e.slot = cc in absurd (omega (arith, ltb-false i numbers t)))))
+        (λ t. rw (t, f) (other (Some i) q (λ z. let s : i ≡ e.slot = cc in absurd (omega (arith, ltb-false i numbers t)))))
 
   -- its test on a record is the code's
   same_test : (w : Wish) (e : Record) → Placed text numbers e → test_of w (record_of text names e) ≡ is_sought (sought_for names numbers w) e
@@ -153,20 +150,20 @@ module _ (text names : List ℕ) (numbers : ℕ) (few : numbers ≤ most_variabl
     unfolding records_in spec.sought
     step d h = let x = get_or rs d blank_record in rw (same_test w x (h d (omega arith)), same_end text names x)
 
-    found_at : (d i : ℕ) → Known d → found_in k rs d ≡ found.At i → FoundAt text names (test_of w) d i (get_or rs i blank_record) rs
+    found_at : (d i : ℕ) → Known d → found_in k rs d ≡ Some i → FoundAt text names (test_of w) d i (get_or rs i blank_record) rs
     unfolding found_in
     found_at zero i h e = not_found e
     found_at (suc d) i h e =
         let x = get_or rs d blank_record in
         by_test (is_sought k x)
-        (λ t. let f : found.At d ≡ found.At i = rw t at e in let g : d ≡ i = cc in
+        (λ t. let f : Some d ≡ Some i = rw t at e in let g : d ≡ i = cc in
         rw (← g) (record { below = omega arith; at = refl; passes = same_test w x (h d (omega arith)) ∙ t; is = step d h ∙ rw t }))
         (λ t. by_test (passes x)
         (λ l. let r = found_at d i (λ j m. h j (omega arith)) (rw (t, l) at e) in
         record { below = omega (arith, r.below); at = refl; passes = r.passes; is = step d h ∙ rw (t, l) r.is })
         (λ l. not_found (rw (t, l) at e)))
 
-    found_none : (d : ℕ) → Known d → found_in k rs d ≡ found.None → spec.sought (test_of w) (records_in text names rs d) ≡ missing
+    found_none : (d : ℕ) → Known d → found_in k rs d ≡ None → spec.sought (test_of w) (records_in text names rs d) ≡ missing
     unfolding found_in records_in spec.sought
     found_none zero h e = refl
     found_none (suc d) h e =
@@ -174,9 +171,9 @@ module _ (text names : List ℕ) (numbers : ℕ) (few : numbers ≤ most_variabl
         by_test (is_sought k x) (λ t. not_found (sym (rw t at e)))
         (λ t. step d h ∙ by_test (passes x) (λ l. rw (t, l) (found_none d (λ j m. h j (omega arith)) (rw (t, l) at e))) (λ l. rw (t, l)))
 
-    told_by : (d : ℕ) → Known d → (f : Found) → found_in k rs d ≡ f → Told text names (test_of w) d f (entry_at f rs) rs
-    told_by d h (found.At i) e = found_at d i h e
-    told_by d h found.None e = found_none d h e
+    told_by : (d : ℕ) → Known d → (f : Option ℕ) → found_in k rs d ≡ f → Told text names (test_of w) d f (entry_at f rs) rs
+    told_by d h (Some i) e = found_at d i h e
+    told_by d h None e = found_none d h e
 
     -- what the code finds is what the definition finds
     pub told : (d : ℕ) → Known d → Told text names (test_of w) d (found_in k rs d) (entry_at (found_in k rs d) rs) rs
@@ -185,9 +182,9 @@ module _ (text names : List ℕ) (numbers : ℕ) (few : numbers ≤ most_variabl
 -- what was told of the records stands when more names are in the table
 module _ (text names names' : List ℕ) (numbers : ℕ) (kept : (i : ℕ) → i < numbers → name_at names' i ≡ name_at names i) (rs : List Record)
     (test : spec.Record → Bool) (d : ℕ) (known : (i : ℕ) → i < d → counts (get_or rs i blank_record) ≡ true → (get_or rs i blank_record).slot < numbers) where
-  pub told_kept : (f : Found) (entry : Record) → Told text names test d f entry rs → Told text names' test d f entry rs
-  told_kept found.None entry t = rw (records_kept text names names' numbers kept rs d known) t
-  told_kept (found.At i) entry t =
+  pub told_kept : (f : Option ℕ) (entry : Record) → Told text names test d f entry rs → Told text names' test d f entry rs
+  told_kept None entry t = rw (records_kept text names names' numbers kept rs d known) t
+  told_kept (Some i) entry t =
       let e = t.at in
       let one : record_of text names' entry ≡ record_of text names entry = rw e (record_kept text names names' numbers kept (get_or rs i blank_record) (known i t.below)) in
       record {

@@ -1,4 +1,5 @@
 -- The record that a statement asks for, by how the statement is led.
+use Rattle.std.specs.Prelude.{Option}
 use mathlib.Core.Path.{◌≡◌, refl}
 use mathlib.Core.Bool.{true}
 use mathlib.Core.List.{List, [], ◌∷◌}
@@ -41,7 +42,7 @@ module _ (names : List ℕ) (numbers : ℕ) (here spot : Place) where
   part_by line at (more q x rest) end e h = rw (more_view line true at e).begun at h
 
   -- led as the statement at a place is
-  pub part_seeks : (line : List ℕ) (at : ℕ) {l : Lead} {k : Sought} → l ≡ lead_of line true (token_at line (place at))
+  pub part_seeks : (line : List ℕ) (at : ℕ) {l : Option Lead} {k : Sought} → l ≡ lead_of line true (token_at line (place at))
       → Seeks names numbers here spot k (begun_by line l) → (p : Part) (end : Scanned) → part_of line true at ≡ good_part p end
       → k ≡ sought_for names numbers (wish_of here.0 spot.0 (head_of p))
   unfolding begun_at

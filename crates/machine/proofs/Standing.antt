@@ -1,4 +1,5 @@
 -- Positions of a run: the lines from a place on, the line that the code finds there, and the parts that read in it.
+use Rattle.std.specs.Prelude.{None, Ok, Option, Some, ℕ}
 use mathlib.Core.Path.{◌≡◌, refl, sym, ap, ◌∙◌}
 use mathlib.Core.Logic.{⊎_elim}
 use mathlib.Core.Bool.{Bool, true}
@@ -13,11 +14,7 @@ use Rattle.words.specs.Places.{place, line_number, largest_line_number, longest_
 use Rattle.words.specs.declared.places.LineNumber.{LineNumber}
 use Rattle.loader.specs.Lines.{Line, lines_of, number_of, located, first_of, line_at, has, from_number, find_line}
 use Rattle.loader.specs.Loading.{load_of}
-use Rattle.loader.specs.declared.lines.NumberFound.{NumberFound}
-use Rattle.loader.specs.declared.lines.NumberFound.TheVariants as number
 use Rattle.loader.specs.declared.lines.LineSpan.{LineSpan}
-use Rattle.loader.specs.declared.lines.LineFound.TheVariants.{Is, None}
-use Rattle.loader.specs.declared.loading.Loaded.TheVariants.{Fine}
 use Rattle.loader.proofs.Extents.{cut, walked}
 use Rattle.loader.proofs.Found.{from_suffix, from_has, from_at}
 use Rattle.loader.proofs.Rising.{Rising, recipe, rising_suffix}
@@ -127,29 +124,29 @@ told_by {text} {p} {span} s =
     }
 
 -- the last of its lines rise
-pub reaches_rising : {text : List ℕ} {p : ℕ} → Reaches text p → load_of text ≡ Fine → Rising 0 (lines_at text p)
+pub reaches_rising : {text : List ℕ} {p : ℕ} → Reaches text p → load_of text ≡ Ok tt → Rising 0 (lines_at text p)
 reaches_rising {text} w fine = rising_suffix 0 (w.before, sym w.all) (recipe text fine).rising
 
 -- what is found where one begins is its span
-pub told_as : {text : List ℕ} {p : ℕ} → Begins text p → load_of text ≡ Fine → {span : LineSpan} → line_at text (place p) ≡ Is span
+pub told_as : {text : List ℕ} {p : ℕ} → Begins text p → load_of text ≡ Ok tt → {span : LineSpan} → line_at text (place p) ≡ Some span
     → Told text p span
 told_as {text} {p} b fine e = told_by (spanned_as text p (reaches_rising (reaches_line b) fine) e)
 
 -- where one is found one begins,
-some_first : (text : List ℕ) (p : ℕ) (ls : List Line) → lines_at text p ≡ ls → Reaches text p → {span : LineSpan} → first_of ls ≡ Is span
+some_first : (text : List ℕ) (p : ℕ) (ls : List Line) → lines_at text p ≡ ls → Reaches text p → {span : LineSpan} → first_of ls ≡ Some span
     → Begins text p
 some_first text p [] q w e = never (cc)
 some_first text p (l ∷ ls) q w e = begins_here w q
 
-pub reached_some : {text : List ℕ} {p : ℕ} → Reaches text p → {span : LineSpan} → line_at text (place p) ≡ Is span → Begins text p
+pub reached_some : {text : List ℕ} {p : ℕ} → Reaches text p → {span : LineSpan} → line_at text (place p) ≡ Some span → Begins text p
 reached_some {text} {p} w e = some_first text p (lines_at text p) refl w e
 
 -- and where none is, none is left
-pub reached_none : {text : List ℕ} {p : ℕ} → Reaches text p → load_of text ≡ Fine → line_at text (place p) ≡ None → lines_at text p ≡ []
+pub reached_none : {text : List ℕ} {p : ℕ} → Reaches text p → load_of text ≡ Ok tt → line_at text (place p) ≡ None → lines_at text p ≡ []
 reached_none {text} {p} w fine e = none_left (lines_at text p) (reaches_rising w fine) e
 
 -- so one is found where one begins
-pub none_here : {text : List ℕ} {p : ℕ} → Begins text p → load_of text ≡ Fine → {P : Type 0} → line_at text (place p) ≡ None → P
+pub none_here : {text : List ℕ} {p : ℕ} → Begins text p → load_of text ≡ Ok tt → {P : Type 0} → line_at text (place p) ≡ None → P
 none_here b fine e = absurd (cons-ne-nil _ _ (sym b.here ∙ reached_none (reaches_line b) fine e))
 
 -- ---- the line with a number
@@ -159,17 +156,17 @@ pub record FoundBegins (text : List ℕ) (n : LineNumber) (span : LineSpan) : Ty
   pub begins : Begins text span.place.0
   pub lines : lines_at text span.place.0 ≡ from_number n.0 (lines_of text)
 
-located_at : (l : Line) (x : NumberFound) {span : LineSpan} → located l x ≡ Is span → span.place.0 ≡ l.start
-located_at l (number.Is m count) {span} e =
+located_at : (l : Line) (x : Option (LineNumber × ℕ)) {span : LineSpan} → located l x ≡ Some span → span.place.0 ≡ l.start
+located_at l (Some (m, count)) {span} e =
     let f : place l.start ≡ span.place = cc in sym (ap (λ x. x.0) f)
-located_at l number.None e = never (cc)
+located_at l None e = never (cc)
 
-located_some : (n : ℕ) (l : Line) (x : NumberFound) → has n x ≡ true → located l x ≡ None → ⊥
-located_some n l (number.Is m count) h e = never (cc)
-located_some n l number.None h e = never (cc)
+located_some : (n : ℕ) (l : Line) (x : Option (LineNumber × ℕ)) → has n x ≡ true → located l x ≡ None → ⊥
+located_some n l (Some (m, count)) h e = never (cc)
+located_some n l None h e = never (cc)
 
 module _ (text : List ℕ) (n : LineNumber) where
-  found_by : (ls : List Line) → from_number n.0 (lines_of text) ≡ ls → {span : LineSpan} → first_of ls ≡ Is span → FoundBegins text n span
+  found_by : (ls : List Line) → from_number n.0 (lines_of text) ≡ ls → {span : LineSpan} → first_of ls ≡ Some span → FoundBegins text n span
   found_by [] q e = never (cc)
   found_by (l ∷ ls) q {span} e =
       let s = from_suffix n.0 (lines_of text) in
@@ -180,7 +177,7 @@ module _ (text : List ℕ) (n : LineNumber) where
         lines = sym a;
       })
 
-  pub found_begins : {span : LineSpan} → find_line text n ≡ Is span → FoundBegins text n span
+  pub found_begins : {span : LineSpan} → find_line text n ≡ Some span → FoundBegins text n span
   found_begins e = found_by (from_number n.0 (lines_of text)) refl e
 
   none_by : (ls : List Line) → from_number n.0 (lines_of text) ≡ ls → first_of ls ≡ None → from_number n.0 (lines_of text) ≡ []

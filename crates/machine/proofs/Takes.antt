@@ -1,4 +1,5 @@
 -- The line of input from a place on goes as far as the code walks.
+use Rattle.std.specs.Prelude.{Err, Ok}
 use mathlib.Core.Path.{◌≡◌, refl, ◌∙◌}
 use mathlib.Core.Logic.{⊎_elim}
 use mathlib.Core.Bool.{cond}
@@ -17,27 +18,26 @@ use Rattle.loader.specs.Lines.{extent_at}
 use Rattle.loader.specs.declared.lines.Extent.{Extent}
 use Rattle.loader.proofs.Extents.{passed, lines_out, walked, walked_size}
 use Rattle.machine.specs.bridge.Taking.{taken_at}
-use Rattle.machine.specs.declared.taking.InputLine.TheVariants.{Is, Fault}
 use Rattle.machine.specs.Machine.{longest_input_line}
 
 module _ (input : List ℕ) (p : ℕ) where
   -- no bytes are left
-  pub taken_none : length input ≤ p → taken_at input p ≡ Fault InputPastEnd
+  pub taken_none : length input ≤ p → taken_at input p ≡ Err InputPastEnd
   taken_none h = rw (lines_out input p h)
 
   -- some are
   module _ {e : Extent} (h : p < length input) (q : e ≡ extent_at p (drop p input)) where
-    taken_some : taken_at input p ≡ cond (ltb longest_input_line (e.end.0 - p)) (Fault LineBufferOverflow) (Is e)
+    taken_some : taken_at input p ≡ cond (ltb longest_input_line (e.end.0 - p)) (Err LineBufferOverflow) (Ok e)
     taken_some =
         let w = walked input p h q in
         let s = walked_size input p w in
         let k : length (passed input p e).bytes ≡ e.end.0 - p = omega arith in
         rw (w.lines, s, k)
 
-    pub taken_long : longest_input_line < e.end.0 - p → taken_at input p ≡ Fault LineBufferOverflow
+    pub taken_long : longest_input_line < e.end.0 - p → taken_at input p ≡ Err LineBufferOverflow
     taken_long b = taken_some ∙ rw (lt-ltb longest_input_line (e.end.0 - p) b)
 
-    pub taken_line : e.end.0 - p ≤ longest_input_line → taken_at input p ≡ Is e
+    pub taken_line : e.end.0 - p ≤ longest_input_line → taken_at input p ≡ Ok e
     taken_line b = taken_some ∙ rw (le-ltb longest_input_line (e.end.0 - p) b)
 
   -- ---- what was taken tells
@@ -50,7 +50,7 @@ module _ (input : List ℕ) (p : ℕ) where
     pub inside : e.end.0 ≤ length input
     pub short : e.end.0 - p ≤ longest_input_line
 
-  pub took : {e : Extent} → taken_at input p ≡ Is e → Took e
+  pub took : {e : Extent} → taken_at input p ≡ Ok e → Took e
   took {e} t =
       ⊎_elim
       (λ h.
@@ -67,7 +67,7 @@ module _ (input : List ℕ) (p : ℕ) where
       (less p (length input))
 
   -- or why there is none
-  pub untaken : (P : Error → Type 0) {x : Error} → taken_at input p ≡ Fault x → (length input ≤ p → P InputPastEnd)
+  pub untaken : (P : Error → Type 0) {x : Error} → taken_at input p ≡ Err x → (length input ≤ p → P InputPastEnd)
       → (p < length input → longest_input_line < (extent_at p (drop p input)).end.0 - p → P LineBufferOverflow) → P x
   untaken P {x} t none long =
       ⊎_elim

@@ -4,14 +4,14 @@ ghost use Rattle.std.specs.Int.Signed.{lt_z};
 ghost use Rattle.whole.specs.Whole.{num};
 ghost use Rattle.machine.specs.Machine.{passed};
 
-use whole::{Answer, Operator, apply};
+use whole::{Operator, apply};
 
 fn is_less(a: u16, b: u16) -> bool
     ensures { result ≡ lt_z (num a) (num b) }
 {
     match apply(Operator::Less, a, b) {
-        Answer::Whole(word) => word != 0,
-        Answer::Fault(_) => false,
+        Ok(word) => word != 0,
+        Err(_) => false,
     }
 }
 

@@ -25,12 +25,6 @@ pub struct Record {
     pub close: usize,
 }
 
-#[derive(Clone, Copy)]
-pub enum Found {
-    At(usize),
-    None,
-}
-
 // The record that a statement asks for, by its kind: none, the nearest GOSUB's, the topmost loop's, or that of the loop of the variable
 // at an entry.
 #[derive(Clone, Copy)]

@@ -6,26 +6,25 @@ ghost use Rattle.machine.specs.bridge.Seeking.{Seeks, sought_loop, loop_sought};
 
 use crate::records::Sought;
 use statements::Lead;
-use variables::{NameTable, Slot, slot_of};
+use variables::{Numbers, slot_of};
 use words::{Name, Place, Scanned, Token, Word};
 
-// By how it is led; `names` are those of so many number variables.
+// By how it is led.
 pub fn sought_record(
     line: &[u8],
     here: Place,
     at: Place,
-    lead: Lead,
-    names: &NameTable,
-    numbers: usize,
+    lead: Option<Lead>,
+    numbers: &Numbers,
 ) -> Sought
-    ensures { Seeks names.now numbers here at result (begun_by line.now lead) }
+    ensures { Seeks numbers.now.names numbers.now.count here at result (begun_by line.now lead) }
 {
     match lead {
-        Lead::Nothing => Sought::NOTHING,
-        Lead::By(word, from) => match word {
+        None => Sought::NOTHING,
+        Some(lead) => match lead.word {
             Word::Return => Sought::CALL,
-            Word::For => sought_loop(line, from, names, numbers),
-            Word::Next => sought_loop(line, from, names, numbers),
+            Word::For => sought_loop(line, lead.ahead, numbers),
+            Word::Next => sought_loop(line, lead.ahead, numbers),
             Word::While => Sought::while_at(here, at),
             Word::Wend => Sought::while_of(here, at),
             _ => Sought::NOTHING,
@@ -33,23 +32,23 @@ pub fn sought_record(
     }
 }
 
-fn sought_loop(line: &[u8], target: Scanned, names: &NameTable, numbers: usize) -> Sought
-    ensures { result ≡ sought_loop names.now numbers line.now target }
+fn sought_loop(line: &[u8], target: Scanned, numbers: &Numbers) -> Sought
+    ensures { result ≡ sought_loop numbers.now.names numbers.now.count line.now target }
 {
     let token = target.token;
     match token {
-        Token::Named(name) => loop_of(line, name, names, numbers),
+        Token::Named(name) => loop_of(line, name, numbers),
         _ => Sought::LOOP,
     }
 }
 
 // A variable that was never assigned has no loop.
-fn loop_of(line: &[u8], name: Name, names: &NameTable, numbers: usize) -> Sought
-    ensures { result ≡ loop_sought names.now numbers (telling_of (name_bytes line.now name)) }
+fn loop_of(line: &[u8], name: Name, numbers: &Numbers) -> Sought
+    ensures { result ≡ loop_sought numbers.now.names numbers.now.count (telling_of (name_bytes line.now name)) }
 {
-    match slot_of(names, line, name) {
-        Slot::None => Sought::NOTHING,
-        Slot::At(slot) => if slot < numbers {
+    match slot_of(&numbers.names, line, name) {
+        None => Sought::NOTHING,
+        Some(slot) => if slot < numbers.count {
             Sought::loop_of(slot)
         } else {
             Sought::NOTHING

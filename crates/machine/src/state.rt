@@ -24,9 +24,6 @@ pub struct Feed {
 // The variables' tables are lent beside it, and so are the records.
 #[derive(Clone, Copy)]
 pub struct Machine {
-    // How many number variables there are, and how many string variables.
-    pub numbers: usize,
-    pub strings: usize,
     // Where the variables' bytes end in the string space.
     pub used: Offset,
     pub printer: Printer,
@@ -65,8 +62,6 @@ impl Machine {
         ensures { result ≡ fresh_machine records }
     {
         Machine {
-            numbers: 0,
-            strings: 0,
             used: Offset(0),
             printer: Printer {
                 column: 0,

@@ -7,25 +7,18 @@ use loader::{Extent, extent_at};
 use whole::Error;
 use words::Place;
 
-// How far a line of the input goes, or why none is taken.
-#[derive(Clone, Copy)]
-pub enum InputLine {
-    Is(Extent),
-    Fault(Error),
-}
-
 // The line from a place on: 62 if no bytes are left, 23 if over 254 bytes.
-pub fn take_line(input: &[u8], from: Place) -> InputLine
+pub fn take_line(input: &[u8], from: Place) -> Result<Extent, Error>
     ensures { result ≡ taken_at input.now from.0 }
 {
     let start = from.0;
     if input.len() <= start {
-        return InputLine::Fault(Error::InputPastEnd);
+        return Err(Error::InputPastEnd);
     }
     let extent = extent_at(input, from);
     let end = extent.end.0;
     if Machine::LONGEST_INPUT_LINE < end - start {
-        return InputLine::Fault(Error::LineBufferOverflow);
+        return Err(Error::LineBufferOverflow);
     }
-    InputLine::Is(extent)
+    Ok(extent)
 }

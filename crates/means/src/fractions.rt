@@ -14,12 +14,9 @@ fn greatest_common(total: u64, count: u64) -> u64
     requires { 0 < count }
     ensures { result ≡ greatest_common total count }
 {
-    let mut divisor = total;
-    let mut left = count;
+    let (mut divisor, mut left) = (total, count);
     while left != 0 {
-        let over = divisor % left;
-        divisor = left;
-        left = over;
+        (divisor, left) = (left, divisor % left);
     }
     divisor
 }

@@ -6,9 +6,9 @@
 use console::{
     LONGEST, argument_count, complain, complain_of_reading, open_path, path_given, read_some, write,
 };
-use sheet::{Report, Sheet, begin, finish, take};
+use sheet::{Sheet, begin, finish, take};
 use std::io;
-use std::io::{Read, Write};
+use std::io::Read;
 
 // The place of the argument; the program's own name is the first.
 const FILE: usize = 1;
@@ -31,14 +31,6 @@ fn take_from<R: Read>(reader: &mut R) -> io::Result<Sheet> {
     Err(io::Error::from(io::ErrorKind::FileTooLarge))
 }
 
-fn write_report<W: Write, E: Write>(out: &mut W, err: &mut E, report: Report) {
-    let bytes = report.bytes;
-    let len = report.len;
-    if len <= Report::ROOM {
-        write(out, err, &bytes[..len]);
-    }
-}
-
 fn sheet_at(rt: &HostRuntime, path: &[u8]) -> io::Result<Sheet> {
     let mut file = open_path(rt, path)?;
     take_from(&mut file)
@@ -47,7 +39,9 @@ fn sheet_at(rt: &HostRuntime, path: &[u8]) -> io::Result<Sheet> {
 fn total_path(rt: &HostRuntime, path: &[u8]) {
     let mut err = rt.stderr();
     match sheet_at(rt, path) {
-        Ok(sheet) => write_report(&mut rt.stdout(), &mut err, finish(sheet)),
+        Ok(sheet) => {
+            write(&mut rt.stdout(), &mut err, finish(sheet).as_bytes());
+        }
         Err(error) => complain_of_reading(&mut err, path, &error),
     }
 }

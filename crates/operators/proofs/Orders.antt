@@ -3,17 +3,16 @@ use mathlib.Core.Path.{◌≡◌, refl, sym, ◌∙◌}
 use mathlib.Core.Logic.{◌⊎◌, inl, inr, ⊎_elim}
 use mathlib.Core.Bool.{Bool, true, false, cond, false≢true}
 use mathlib.Core.List.{List, [], ◌∷◌}
-use Prim.Native.Nat.{ℕ, ◌+◌, ◌≤◌, ◌<◌}
+use Prim.Native.Nat.{ℕ, ◌≤◌, ◌<◌}
 use native.Mathlib.Omega.{arith}
 use borrow.Author.Tests.{lt-ltb, le-ltb, eq-eqb, ne_eqb}
-use lib.ListN.{length, take, drop, get_or}
 use Rattle.whole.proofs.Numbers.{less}
 use Rattle.words.specs.Spellings.{same_bytes}
 use Rattle.operators.specs.Values.{is_before}
-use Rattle.operators.specs.bridge.Memory.{order_of, is_less_order, is_same_order, is_greater_order}
-use Rattle.operators.specs.declared.applying.Order.{Order}
-use Rattle.operators.specs.declared.applying.Order.TheVariants as order
-use Rattle.variables.proofs.Bytewise.{part_end, part_next}
+use Rattle.operators.specs.bridge.Memory.{order_of}
+use Rattle.std.specs.declared.cmp.Ordering.TheVariants.{Less, Equal, Greater}
+use Rattle.std.specs.Ordering.{is_lt, is_eq, is_gt, nat_cmp}
+use Rattle.std.specs.Cmp.Lexicographic.{slice_cmp}
 
 -- ---- by their first bytes
 
@@ -94,56 +93,36 @@ before_trans (x ∷ a) (y ∷ b) (z ∷ c) p q =
 -- ---- what the order says
 
 order_of_tests : (x y z : Bool) → OneOf x y z
-    → (is_less_order (cond x order.Less (cond z order.Greater order.Same)) ≡ x)
-    × (is_same_order (cond x order.Less (cond z order.Greater order.Same)) ≡ y)
-    × (is_greater_order (cond x order.Less (cond z order.Greater order.Same)) ≡ z)
+    → (is_lt (cond x Less (cond z Greater Equal)) ≡ x)
+    × (is_eq (cond x Less (cond z Greater Equal)) ≡ y)
+    × (is_gt (cond x Less (cond z Greater Equal)) ≡ z)
 order_of_tests x y z =
     ⊎_elim
     (λ o. rw (o.0, o.1, o.2) (refl, refl, refl))
     (⊎_elim (λ o. rw (o.0, o.1, o.2) (refl, refl, refl)) (λ o. rw (o.0, o.1, o.2) (refl, refl, refl)))
 
 module _ (a b : List ℕ) where
-  pub less_told : is_less_order (order_of a b) ≡ is_before a b
+  pub less_told : is_lt (order_of a b) ≡ is_before a b
   less_told = (order_of_tests (is_before a b) (same_bytes a b) (is_before b a) (one_of_three a b)).0
 
-  pub same_told : is_same_order (order_of a b) ≡ same_bytes a b
+  pub same_told : is_eq (order_of a b) ≡ same_bytes a b
   same_told = (order_of_tests (is_before a b) (same_bytes a b) (is_before b a) (one_of_three a b)).1
 
-  pub greater_told : is_greater_order (order_of a b) ≡ is_before b a
+  pub greater_told : is_gt (order_of a b) ≡ is_before b a
   greater_told = (order_of_tests (is_before a b) (same_bytes a b) (is_before b a) (one_of_three a b)).2
 
--- ---- two parts side by side, after i bytes that are the same
+-- ---- the library's order of slices
 
-module _ (s : List ℕ) (at m n : ℕ) (h : at + m + n ≤ length s) (i : ℕ) where
-  abbrev pub Rest : Order → Type 0
-  Rest o = order_of (drop i (take m (drop at s))) (drop i (take n (drop (at + m) s))) ≡ o
-
-  both_next : i < m → i < n → order_of (drop i (take m (drop at s))) (drop i (take n (drop (at + m) s)))
-      ≡ order_of (get_or s (at + i) 0 ∷ drop (i + 1) (take m (drop at s))) (get_or s (at + m + i) 0 ∷ drop (i + 1) (take n (drop (at + m) s)))
-  both_next l k = rw (part_next s at m i (omega arith) l, part_next s (at + m) n i (omega arith) k)
-
-  pub rest_less : i < m → i < n → get_or s (at + i) 0 < get_or s (at + m + i) 0 → Rest order.Less
-  rest_less l k q = both_next l k ∙ rw (before_less (get_or s (at + i) 0) (get_or s (at + m + i) 0) _ _ q)
-
-  pub rest_greater : i < m → i < n → get_or s (at + m + i) 0 < get_or s (at + i) 0 → Rest order.Greater
-  rest_greater l k q =
-      both_next l k
-      ∙ rw (before_greater (get_or s (at + i) 0) (get_or s (at + m + i) 0) _ _ q, before_less (get_or s (at + m + i) 0) (get_or s (at + i) 0) _ _ q)
-
-  pub rest_same : i < m → i < n → get_or s (at + i) 0 ≡ get_or s (at + m + i) 0
-      → Rest (order_of (drop (i + 1) (take m (drop at s))) (drop (i + 1) (take n (drop (at + m) s))))
-  rest_same l k q =
-      both_next l k
-      ∙ rw (before_same (get_or s (at + i) 0) (get_or s (at + m + i) 0) _ _ q, before_same (get_or s (at + m + i) 0) (get_or s (at + i) 0) _ _ (sym q))
-
-  pub rest_shorter : m ≤ i → i < n → Rest order.Less
-  unfolding is_before
-  rest_shorter l k = rw (part_end s at m i (omega arith) l, part_next s (at + m) n i (omega arith) k)
-
-  pub rest_longer : i < m → n ≤ i → Rest order.Greater
-  unfolding is_before
-  rest_longer l k = rw (part_next s at m i (omega arith) l, part_end s (at + m) n i (omega arith) k)
-
-  pub rest_ended : m ≤ i → n ≤ i → Rest order.Same
-  unfolding is_before
-  rest_ended l k = rw (part_end s at m i (omega arith) l, part_end s (at + m) n i (omega arith) k)
+pub order_told : (a b : List ℕ) → slice_cmp nat_cmp a b ≡ order_of a b
+unfolding is_before
+order_told [] [] = refl
+order_told [] (c ∷ b) = refl
+order_told (x ∷ a) [] = refl
+order_told (x ∷ a) (c ∷ b) =
+    ⊎_elim
+    (λ l. rw (lt-ltb x c l))
+    (λ h. ⊎_elim
+    (λ l. let n : x ≡ c → ⊥ = λ e. omega arith in rw (le-ltb x c h, ne_eqb x c n, lt-ltb c x l))
+    (λ g. let e : x ≡ c = omega arith in rw (le-ltb x c h, eq-eqb x c e, le-ltb c x g, eq-eqb c x (sym e)) (order_told a b))
+    (less c x))
+    (less x c)

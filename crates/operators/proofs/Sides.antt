@@ -1,5 +1,7 @@
 -- What an operator makes of both sides, over the space, agrees with the outcome that the definition gives: whole numbers, comparisons, and
 -- texts side by side.
+use Rattle.std.specs.Prelude.{Err, Ok, Result, ℕ}
+use Rattle.whole.specs.declared.errors.Error.{Error}
 use mathlib.Core.Path.{◌≡◌, refl, sym, ap, ◌∙◌}
 use mathlib.Core.Bool.{Bool, true, false, cond, not, false≢true}
 use mathlib.Core.List.{List, [], ◌∷◌, ◌++◌}
@@ -13,8 +15,6 @@ use types.Run.{OneOf, miss}
 use Rattle.whole.specs.Whole.{say}
 use Rattle.whole.specs.declared.arithmetic.Operator.{Operator}
 use Rattle.whole.specs.declared.arithmetic.Operator.TheVariants as operator
-use Rattle.whole.specs.declared.arithmetic.Answer.{Answer}
-use Rattle.whole.specs.declared.arithmetic.Answer.TheVariants.{Whole, Fault}
 use Rattle.words.proofs.Choices.{by_test}
 use Rattle.words.specs.Spellings.{same_bytes}
 use Rattle.words.specs.declared.symbols.Scanned.{Scanned}
@@ -22,8 +22,9 @@ use Rattle.variables.specs.Strings.{Value, Room, Outcome, whole, text, value, fa
 use Rattle.strings.specs.Functions.{answered}
 use Rattle.operators.specs.Values.{is_before, on_texts, wants_whole, joined, sides}
 use Rattle.variables.specs.bridge.Memory.{Agrees, Held, GoesOn, answered_as, text_length}
-use Rattle.operators.specs.bridge.Memory.{RightMet, SidesMet, takes_left, joined_length, order_of, is_less_order, is_same_order, is_greater_order, holds_in}
-use Rattle.operators.specs.declared.applying.Order.{Order}
+use Rattle.operators.specs.bridge.Memory.{RightMet, SidesMet, takes_left, joined_length, order_of, holds_in}
+use Rattle.std.specs.declared.cmp.Ordering.{Ordering}
+use Rattle.std.specs.Ordering.{is_lt, is_eq, is_gt}
 use Rattle.variables.proofs.Lookups.{part_kept}
 use Rattle.variables.proofs.Bytewise.{part_length}
 use Rattle.operators.proofs.Orders.{less_told, same_told, greater_told}
@@ -33,14 +34,14 @@ use Rattle.whole.specs.declared.errors.Error.TheVariants.{StringTooLong, OutOfSt
 use Rattle.whole.specs.Texts.{longest_string}
 
 -- an answer agrees with what is made of any room that holds, and goes on
-abbrev pub Gives : Worked → Scanned → List ℕ → ℕ → ℕ → (Room → Outcome) → Type 0
+abbrev pub Gives : Result Worked Error → Scanned → List ℕ → ℕ → ℕ → (Room → Outcome) → Type 0
 Gives r t space used live outcome = ((room : Room) → Held room space live → Agrees r space used (outcome room)) × GoesOn r t
 
 -- a whole number or its error, of whole numbers
-pub answer_gives : (x : Answer) (t : Scanned) (space : List ℕ) (used : ℕ) → Gives (answered_as x t) t space used used (answered x [])
+pub answer_gives : (x : Result ℕ Error) (t : Scanned) (space : List ℕ) (used : ℕ) → Gives (answered_as x t) t space used used (answered x [])
 unfolding let_all_go
-answer_gives (Whole w) t space used = (λ room h. (refl, h), refl)
-answer_gives (Fault e) t space used = (λ room h. refl, tt)
+answer_gives (Ok w) t space used = (λ room h. (refl, h), refl)
+answer_gives (Err e) t space used = (λ room h. refl, tt)
 
 -- ---- operators by their tags
 
@@ -76,7 +77,7 @@ wanted_whole operator.Xor h = refl
 wanted_whole operator.Eqv h = refl
 wanted_whole operator.Imp h = refl
 
-pub holds_not : (op : Operator) (o : Order) → OneOf not_comparing (operator_tag op) → holds_in op o ≡ false
+pub holds_not : (op : Operator) (o : Ordering) → OneOf not_comparing (operator_tag op) → holds_in op o ≡ false
 holds_not operator.Multiply o h = refl
 holds_not operator.Divide o h = refl
 holds_not operator.Modulo o h = refl
@@ -103,7 +104,7 @@ module _ (space : List ℕ) (used : ℕ) (a b : List ℕ) (t : Scanned) where
   said_gives true = (λ room h. (refl, record { limit = h.limit; lives = omega (arith, h.lives) }), refl)
   said_gives false = (λ room h. (refl, record { limit = h.limit; lives = omega (arith, h.lives) }), refl)
 
-  goes_on : (x y : Bool) → GoesOn (cond x (worked.Fault StringTooLong) (cond y (worked.Fault OutOfStringSpace) (worked.Text (length a + length b) t))) t
+  goes_on : (x y : Bool) → GoesOn (cond x (Err StringTooLong) (cond y (Err OutOfStringSpace) (Ok (worked.Text (length a + length b) t)))) t
   goes_on true y = tt
   goes_on false true = tt
   goes_on false false = refl
@@ -137,16 +138,16 @@ module _ (space : List ℕ) (used m n : ℕ) where
   abbrev B : List ℕ
   B = take n (drop (used + m) space)
 
-  module _ {o : Order} {x : Bool} (e : o ≡ order_of A B) where
+  module _ {o : Ordering} {x : Bool} (e : o ≡ order_of A B) where
     -- what their order says
-    pub beside_less : x ≡ is_less_order o → x ≡ is_before A B
-    beside_less f = f ∙ ap is_less_order e ∙ less_told A B
+    pub beside_less : x ≡ is_lt o → x ≡ is_before A B
+    beside_less f = f ∙ ap is_lt e ∙ less_told A B
 
-    pub beside_same : x ≡ is_same_order o → x ≡ same_bytes A B
-    beside_same f = f ∙ ap is_same_order e ∙ same_told A B
+    pub beside_same : x ≡ is_eq o → x ≡ same_bytes A B
+    beside_same f = f ∙ ap is_eq e ∙ same_told A B
 
-    pub beside_greater : x ≡ is_greater_order o → x ≡ is_before B A
-    beside_greater f = f ∙ ap is_greater_order e ∙ greater_told A B
+    pub beside_greater : x ≡ is_gt o → x ≡ is_before B A
+    beside_greater f = f ∙ ap is_gt e ∙ greater_told A B
 
   module _ (h : used + m + n ≤ length space) (t : Scanned) where
     length-A : length A ≡ m
@@ -156,12 +157,12 @@ module _ (space : List ℕ) (used m n : ℕ) where
     length-B = part_length space (used + m) n (omega arith)
 
     -- what is said of them
-    pub beside_said : {r : Worked} {answer : Answer} {x y : Bool} → r ≡ answered_as answer t → answer ≡ say x → x ≡ y
+    pub beside_said : {r : Result Worked Error} {answer : Result ℕ Error} {x y : Bool} → r ≡ answered_as answer t → answer ≡ say x → x ≡ y
         → Gives r t space used (used + m + n) (answered (say y) (text A ∷ text B ∷ []))
     beside_said {y = y} e f g = rw (e, f, g) (rw (length-A, length-B) at (said_gives space used A B t y))
 
     -- and of a comparison, which is any operator that wants no whole numbers but `+`
-    pub beside_compared : (op : Operator) → wants_whole op ≡ false → OneOf not_add (operator_tag op) → {r : Worked} {answer : Answer} {x : Bool} {o : Order}
+    pub beside_compared : (op : Operator) → wants_whole op ≡ false → OneOf not_add (operator_tag op) → {r : Result Worked Error} {answer : Result ℕ Error} {x : Bool} {o : Ordering}
         → r ≡ answered_as answer t → answer ≡ say x → x ≡ holds_in op o → o ≡ order_of A B → Gives r t space used (used + m + n) (on_texts op A B)
     beside_compared operator.Multiply w l e f g k = absurd (false≢true (sym w))
     beside_compared operator.Divide w l e f g k = absurd (false≢true (sym w))
@@ -189,7 +190,7 @@ module _ (space : List ℕ) (used m n : ℕ) where
 
 -- no other operator takes texts
 pub texts_refused : (op : Operator) (a b : List ℕ) (t : Scanned) (space : List ℕ) (used live : ℕ) → wants_whole op ≡ true
-    → Gives (worked.Fault TypeMismatch) t space used live (on_texts op a b)
+    → Gives (Err TypeMismatch) t space used live (on_texts op a b)
 texts_refused operator.Multiply a b t space used live w = (λ room h. refl, tt)
 texts_refused operator.Divide a b t space used live w = (λ room h. refl, tt)
 texts_refused operator.Modulo a b t space used live w = (λ room h. refl, tt)
@@ -209,41 +210,46 @@ texts_refused operator.Imp a b t space used live w = (λ room h. refl, tt)
 
 -- ---- both sides of an operator
 
+-- a left side's answer is of a type that the operator takes, or an error
+abbrev pub takes_answer : Operator → Result Worked Error → Bool
+takes_answer op (Ok left) = takes_left op left
+takes_answer op (Err e) = true
+
 -- the left side is of a type that the operator does not take
-pub sides_refused : (op : Operator) (left : Worked) (space : List ℕ) (used : ℕ) (o : Outcome) (right : Room → Outcome) → Agrees left space used o
-    → takes_left op left ≡ false → Agrees (worked.Fault TypeMismatch) space used (sides op o right)
-sides_refused op (worked.Text n t) space used (value (text b) room) right h e = rw e refl
-sides_refused op (worked.Whole w t) space used o right h e = absurd (false≢true (sym e))
-sides_refused op (worked.Fault x) space used o right h e = absurd (false≢true (sym e))
-sides_refused op (worked.Text n t) space used (value (whole _) room) right h e = elim h [ ]
-sides_refused op (worked.Text n t) space used (fault _ _) right h e = elim h [ ]
+pub sides_refused : (op : Operator) (left : Result Worked Error) (space : List ℕ) (used : ℕ) (o : Outcome) (right : Room → Outcome) → Agrees left space used o
+    → takes_answer op left ≡ false → Agrees (Err TypeMismatch) space used (sides op o right)
+sides_refused op (Ok (worked.Text n t)) space used (value (text b) room) right h e = rw e refl
+sides_refused op (Ok (worked.Whole w t)) space used o right h e = absurd (false≢true (sym e))
+sides_refused op (Err x) space used o right h e = absurd (false≢true (sym e))
+sides_refused op (Ok (worked.Text n t)) space used (value (whole _) room) right h e = elim h [ ]
+sides_refused op (Ok (worked.Text n t)) space used (fault _ _) right h e = elim h [ ]
 
 -- the right side's answer after a left value
-right_agrees : (op : Operator) (a : Value) (next : ℕ) (right r : Worked) (space : List ℕ) (used : ℕ) (o : Outcome)
+right_agrees : (op : Operator) (a : Value) (next : ℕ) (right r : Result Worked Error) (space : List ℕ) (used : ℕ) (o : Outcome)
     → Agrees right space next o → RightMet op a next right space used r → Agrees r space used (then o (λ b after. joined op a b after))
-right_agrees op a next (worked.Whole b t) r space used (value (whole v) room) (f, h) m = rw f at (m.0 room h)
-right_agrees op a next (worked.Text n t) r space used (value (text b) room) (f, (g, h)) m = rw f at (m.0 room h)
-right_agrees op a next (worked.Fault e) r space used (fault f room) h m = rw m h
-right_agrees op a next (worked.Whole b t) r space used (value (text _) room) h m = elim h [ ]
-right_agrees op a next (worked.Whole b t) r space used (fault f room) h m = elim h [ ]
-right_agrees op a next (worked.Text n t) r space used (value (whole v) room) h m = elim h [ ]
-right_agrees op a next (worked.Text n t) r space used (fault f room) h m = elim h [ ]
-right_agrees op a next (worked.Fault e) r space used (value _ room) h m = elim h [ ]
+right_agrees op a next (Ok (worked.Whole b t)) r space used (value (whole v) room) (f, h) m = rw f at (m.0 room h)
+right_agrees op a next (Ok (worked.Text n t)) r space used (value (text b) room) (f, (g, h)) m = rw f at (m.0 room h)
+right_agrees op a next (Err e) r space used (fault f room) h m = rw m h
+right_agrees op a next (Ok (worked.Whole b t)) r space used (value (text _) room) h m = elim h [ ]
+right_agrees op a next (Ok (worked.Whole b t)) r space used (fault f room) h m = elim h [ ]
+right_agrees op a next (Ok (worked.Text n t)) r space used (value (whole v) room) h m = elim h [ ]
+right_agrees op a next (Ok (worked.Text n t)) r space used (fault f room) h m = elim h [ ]
+right_agrees op a next (Err e) r space used (value _ room) h m = elim h [ ]
 
 -- both answers: the left one over the space s, the right one over s', where the left one's text is kept
-pub sides_agree : (op : Operator) (left right r : Worked) (s s' : List ℕ) (used : ℕ) (o : Outcome) (go : Room → Outcome)
-    → Agrees left s used o → takes_left op left ≡ true → length s' ≡ length s → take (used + text_length left) s' ≡ take (used + text_length left) s
+pub sides_agree : (op : Operator) (left right r : Result Worked Error) (s s' : List ℕ) (used : ℕ) (o : Outcome) (go : Room → Outcome)
+    → Agrees left s used o → takes_answer op left ≡ true → length s' ≡ length s → take (used + text_length left) s' ≡ take (used + text_length left) s
     → ((room : Room) → Held room s (used + text_length left) → Agrees right s' (used + text_length left) (go room))
     → SidesMet op left right s' used r → Agrees r s' used (sides op o go)
-sides_agree op (worked.Whole w t) right r s s' used (value (whole v) room) go (f, h) y l k rights m =
+sides_agree op (Ok (worked.Whole w t)) right r s s' used (value (whole v) room) go (f, h) y l k rights m =
     let z : used + 0 ≡ used = omega arith in
     rw f at (right_agrees op (whole w) used right r s' used (go room) (rw z at (rights room (rw z h))) m)
-sides_agree op (worked.Text n t) right r s s' used (value (text b) room) go (f, (g, h)) y l k rights m =
+sides_agree op (Ok (worked.Text n t)) right r s s' used (value (text b) room) go (f, (g, h)) y l k rights m =
     let e : take n (drop used s') ≡ b = part_kept s s' used n k ∙ f in
     rw y (rw e at (right_agrees op (text (take n (drop used s'))) (used + n) right r s' used (go room) (rights room h) m))
-sides_agree op (worked.Fault e) right r s s' used (fault f room) go h y l k rights m = rw m h
-sides_agree op (worked.Whole w t) right r s s' used (value (text b) room) go h y l k rights m = elim h [ ]
-sides_agree op (worked.Whole w t) right r s s' used (fault f room) go h y l k rights m = elim h [ ]
-sides_agree op (worked.Text n t) right r s s' used (value (whole v) room) go h y l k rights m = elim h [ ]
-sides_agree op (worked.Text n t) right r s s' used (fault f room) go h y l k rights m = elim h [ ]
-sides_agree op (worked.Fault e) right r s s' used (value _ room) go h y l k rights m = elim h [ ]
+sides_agree op (Err e) right r s s' used (fault f room) go h y l k rights m = rw m h
+sides_agree op (Ok (worked.Whole w t)) right r s s' used (value (text b) room) go h y l k rights m = elim h [ ]
+sides_agree op (Ok (worked.Whole w t)) right r s s' used (fault f room) go h y l k rights m = elim h [ ]
+sides_agree op (Ok (worked.Text n t)) right r s s' used (value (whole v) room) go h y l k rights m = elim h [ ]
+sides_agree op (Ok (worked.Text n t)) right r s s' used (fault f room) go h y l k rights m = elim h [ ]
+sides_agree op (Err e) right r s s' used (value _ room) go h y l k rights m = elim h [ ]

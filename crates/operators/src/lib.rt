@@ -3,4 +3,4 @@
 
 mod applying;
 
-pub use applying::{Turn, joined, turn_of};
+pub use applying::{joined, turn_of};

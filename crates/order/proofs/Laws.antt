@@ -1,5 +1,6 @@
 -- Laws of text order for those who reason about runs: places rise, what holds of all statements of a line holds of all statements of
 -- each part that begins in it, a partner is one of the statements searched, and pairs nest.
+use Rattle.std.specs.Prelude.{Some}
 use mathlib.Core.Path.{◌≡◌, refl, sym, ◌∙◌, ap}
 use mathlib.Core.Bool.{true}
 use mathlib.Core.List.{List, [], ◌∷◌, ◌++◌}
@@ -21,7 +22,6 @@ use Rattle.machine.specs.bridge.Holding.{lines_at, body_of}
 use Rattle.machine.specs.Order.{beyond, Stand, placed, parts_held, parts_in, stands_in, stands, later, Bracket, opens, closes, neither, Partner, none, some, paired, partner}
 use Rattle.order.specs.bridge.Walking.{lines_from, Ahead, Spotted, PartnerAs}
 use Rattle.order.specs.declared.texts.Spot.{Spot}
-use Rattle.order.specs.declared.texts.Walk.TheVariants as walk
 use Rattle.order.proofs.Rising.{Rises, rises, beyond_one, held_rises}
 use Rattle.order.proofs.Texting.{body_at, here_ahead, told, later_here, parting}
 
@@ -280,6 +280,6 @@ ahead_unique {text} {spot} a b =
 
 -- ---- a partner that was found is a statement of the text
 
-pub spot_of : {text : List ℕ} {spot : Spot} (p : Partner) → PartnerAs text (walk.At spot) p → Spotted text spot
+pub spot_of : {text : List ℕ} {spot : Spot} (p : Partner) → PartnerAs text (Some spot) p → Spotted text spot
 spot_of none h = absurd h
 spot_of (some x) h = record { xs = x ∷ h.rest; ahead = h.ahead }

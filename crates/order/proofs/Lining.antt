@@ -1,4 +1,6 @@
 -- A line that passes, and the step from one of its statements to the next.
+use Rattle.std.specs.Prelude.{Option, Result, is_ok}
+use Rattle.words.specs.declared.places.Place.{Place}
 use mathlib.Core.Path.{◌≡◌, sym}
 use mathlib.Core.Bool.{Bool, true, false, not, false≢true}
 use mathlib.Core.List.{List, [], ◌∷◌}
@@ -12,14 +14,12 @@ use Rattle.statements.specs.bridge.Answers.{begun_answer}
 use Rattle.statements.specs.declared.reading.StatementRead.{StatementRead}
 use Rattle.reader.specs.Lines.{Judgement, unreadable, too_deep, holds, judgement, judged_as}
 use Rattle.reader.specs.bridge.Walking.{follow_of, start_of, Onto, StartsAs, Further}
-use Rattle.reader.specs.declared.branches.Start.{Start}
-use Rattle.reader.specs.declared.lines.Judged.{Judged}
-use Rattle.reader.specs.declared.lines.Judged.TheVariants as judged
+use Rattle.reader.specs.declared.lines.LineFault.{LineFault}
 use Rattle.reader.proofs.Visits.{visit, further}
 use Rattle.machine.specs.Order.{parts_held}
 use Rattle.order.specs.bridge.Walking.{Passes, PassesIf}
 
-pub steps : (s : List ℕ) (p : ℕ) {read : StatementRead} {next : Start} → read ≡ begun_answer (begun_at s true p) → next ≡ start_of (follow_of read)
+pub steps : (s : List ℕ) (p : ℕ) {read : Option StatementRead} {next : Option Place} → read ≡ begun_answer (begun_at s true p) → next ≡ start_of (follow_of read)
     → Further s p next × ((x : Part) (xs : List Part) → Onto s p (x ∷ xs) → StartsAs s next xs)
 steps s p e i = (
   further s p e i,
@@ -27,18 +27,13 @@ steps s p e i = (
 )
 
 -- the statement that is led as the one at a place is the one there
-pub led_there : (s : List ℕ) (p : ℕ) {l : Lead} → l ≡ lead_of s true (token_at s (place p)) → begun_by s l ≡ begun_at s true p
+pub led_there : (s : List ℕ) (p : ℕ) {l : Option Lead} → l ≡ lead_of s true (token_at s (place p)) → begun_by s l ≡ begun_at s true p
 unfolding begun_at
 led_there s p e = rw e
 
 -- ---- a line that is judged
 
-abbrev pub is_read : Judged → Bool
-is_read judged.Unreadable = false
-is_read judged.TooDeep = false
-is_read (judged.Reads b) = true
-
-pub pass_judged : (s : List ℕ) (g : Judgement) → judgement s ≡ g → {j : Judged} → j ≡ judged_as g → PassesIf s (is_read j)
+pub pass_judged : (s : List ℕ) (g : Judgement) → judgement s ≡ g → {j : Result Bool LineFault} → j ≡ judged_as g → PassesIf s (is_ok j)
 pass_judged s unreadable q e = rw (e, q)
 pass_judged s too_deep q e = rw (e, q)
 pass_judged s (holds part) q e = rw e (record { part = part; is = q })

@@ -1,4 +1,5 @@
 -- Where a run goes on after the statement at a spot.
+use Rattle.std.specs.Prelude.{Option}
 use mathlib.Core.Path.{◌≡◌, refl, sym}
 use mathlib.Core.Bool.{true, false≢true}
 use mathlib.Core.List.{List, [], ◌∷◌}
@@ -79,7 +80,7 @@ module _ {text : List ℕ} (line : Place) (begins : Begins text line.0) where
       let g = true_part body f.end.next.0 f.goes in
       rw (f.begun, f.colon) (record { begins = begins; reads = λ _. record { of = r; end = u; is = g; shallow = rest_shallow q x r low } }, rw g)
 
-pub past_spot : {text : List ℕ} {spot : Spot} {x : Stand} {xs : List Stand} {read : StatementRead} → Ahead text spot (x ∷ xs)
+pub past_spot : {text : List ℕ} {spot : Spot} {x : Stand} {xs : List Stand} {read : Option StatementRead} → Ahead text spot (x ∷ xs)
     → read ≡ begun_answer (begun_at (body_at text spot.line) true spot.at.0)
     → Positioned text (past_read spot.line.place read) × (position_of text (past_read spot.line.place read) ≡ past x)
 past_spot {text} {spot} a e =

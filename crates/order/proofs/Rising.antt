@@ -1,4 +1,5 @@
 -- Places rise in text order, so those beyond a place are the last of a line.
+use Rattle.std.specs.Prelude.{None, Option, Some}
 use mathlib.Core.Path.{◌≡◌, refl, sym, ◌∙◌, ap}
 use mathlib.Core.Logic.{⊎_elim}
 use mathlib.Core.Bool.{true}
@@ -37,12 +38,12 @@ module _ (s : List ℕ) where
   -- ---- places rise
 
   -- what follows a statement stands after it
-  abbrev Beyond : ℕ → Follow → Type 0
-  Beyond p (follow.Statement q) = p < q.0
-  Beyond p (follow.Part q) = p < q.0
-  Beyond p (follow.Else q) = p < q.0
-  Beyond p follow.End = Unit {0}
-  Beyond p follow.Nothing = Unit {0}
+  abbrev Beyond : ℕ → Option Follow → Type 0
+  Beyond p (Some (follow.Statement q)) = p < q.0
+  Beyond p (Some (follow.Part q)) = p < q.0
+  Beyond p (Some (follow.Else q)) = p < q.0
+  Beyond p (Some follow.End) = Unit {0}
+  Beyond p None = Unit {0}
 
   token_beyond : (p : ℕ) (t : Scanned) → scan.reads t.token ≡ true → weight s t ≤ weight_at s p → p < t.next.0
   unfolding weight
@@ -72,12 +73,12 @@ module _ (s : List ℕ) where
   rises_lower low high [] h r = tt
   rises_lower low high (x ∷ xs) h r = (omega (arith, r.0), r.1)
 
-  next_rises : (p : ℕ) (f : Follow) (xs : List Part) → ((q : ℕ) → Onto s q xs → Rises q xs) → Beyond p f → StartsAs s (start_of f) xs → Rises (p + 1) xs
-  next_rises p (follow.Statement q) xs go b o = rises_lower (p + 1) q.0 xs (omega (arith, b)) (go q.0 o)
-  next_rises p (follow.Part q) xs go b o = rises_lower (p + 1) q.0 xs (omega (arith, b)) (go q.0 o)
-  next_rises p (follow.Else q) xs go b o = rises_lower (p + 1) q.0 xs (omega (arith, b)) (go q.0 o)
-  next_rises p follow.End xs go b o = rw o tt
-  next_rises p follow.Nothing xs go b o = rw o tt
+  next_rises : (p : ℕ) (f : Option Follow) (xs : List Part) → ((q : ℕ) → Onto s q xs → Rises q xs) → Beyond p f → StartsAs s (start_of f) xs → Rises (p + 1) xs
+  next_rises p (Some (follow.Statement q)) xs go b o = rises_lower (p + 1) q.0 xs (omega (arith, b)) (go q.0 o)
+  next_rises p (Some (follow.Part q)) xs go b o = rises_lower (p + 1) q.0 xs (omega (arith, b)) (go q.0 o)
+  next_rises p (Some (follow.Else q)) xs go b o = rises_lower (p + 1) q.0 xs (omega (arith, b)) (go q.0 o)
+  next_rises p (Some follow.End) xs go b o = rw o tt
+  next_rises p None xs go b o = rw o tt
 
   -- the statements from a place on rise from it
   pub rises : (xs : List Part) (p : ℕ) → Onto s p xs → Rises p xs

@@ -1,4 +1,5 @@
 -- The statements of a text that loads, line after line: what the line at a place adds, and what a spot in it has ahead.
+use Rattle.std.specs.Prelude.{None, Ok, Some}
 use mathlib.Core.Path.{◌≡◌, refl, sym, ◌∙◌, ap}
 use mathlib.Core.Bool.{true}
 use mathlib.Core.List.{List, [], ◌∷◌, ◌++◌, append_assoc, cons-ne-nil}
@@ -11,8 +12,6 @@ use Rattle.words.specs.declared.symbols.Scanned.{Scanned}
 use Rattle.loader.specs.Lines.{line_at, next_line}
 use Rattle.loader.specs.Loading.{load_of}
 use Rattle.loader.specs.declared.lines.LineSpan.{LineSpan}
-use Rattle.loader.specs.declared.lines.LineFound.TheVariants.{Is, None}
-use Rattle.loader.specs.declared.loading.Loaded.TheVariants.{Fine}
 use Rattle.grammar.specs.Trees.{Part}
 use Rattle.scanner.specs.Tokens.{token_at}
 use Rattle.skimming.specs.bridge.Remaining.{weight}
@@ -43,14 +42,14 @@ reaches w = record { before = w.before; all = w.all }
 
 -- a text loads, and the line that begins at a place of it has a span
 pub record Here (text : List ℕ) (p : ℕ) (span : LineSpan) : Type 0 where
-  pub loads : load_of text ≡ Fine
+  pub loads : load_of text ≡ Ok tt
   pub begins : Begins text p
-  pub is : line_at text (place p) ≡ Is span
+  pub is : line_at text (place p) ≡ Some span
 
-pub here_reached : {text : List ℕ} {p : ℕ} → Reached text p → {span : LineSpan} → line_at text (place p) ≡ Is span → Here text p span
+pub here_reached : {text : List ℕ} {p : ℕ} → Reached text p → {span : LineSpan} → line_at text (place p) ≡ Some span → Here text p span
 here_reached w e = record { loads = w.loads; begins = reached_some (reaches w) e; is = e }
 
-pub here_lined : {text : List ℕ} {p : ℕ} → Lined text p → {span : LineSpan} → line_at text (place p) ≡ Is span → Here text p span
+pub here_lined : {text : List ℕ} {p : ℕ} → Lined text p → {span : LineSpan} → line_at text (place p) ≡ Some span → Here text p span
 here_lined w e = record { loads = w.loads; begins = w.begins; is = e }
 
 pub here_ahead : {text : List ℕ} {spot : Spot} {xs : List Stand} → Ahead text spot xs → Here text spot.line.place.0 spot.line

@@ -1,4 +1,5 @@
 -- The word that leads a statement is the one that the definition says.
+use Rattle.std.specs.Prelude.{None, Option, Some}
 use mathlib.Core.Path.{◌≡◌, refl, sym, ◌∙◌}
 use mathlib.Core.Bool.{true}
 use mathlib.Core.List.{List}
@@ -14,7 +15,6 @@ use Rattle.grammar.specs.Trees.{Part, last, more}
 use Rattle.statements.specs.Parts.{head_of}
 use Rattle.statements.specs.Statements.{Begun, bad, done, choice, variable_of, by_word, lead_of, begun_by, begun_at, good_part, part_of}
 use Rattle.statements.specs.declared.leading.Lead.{Lead}
-use Rattle.statements.specs.declared.leading.Lead.TheVariants.{By, Nothing}
 use Rattle.grammar.specs.Formulas.{after}
 use Rattle.statements.proofs.Findings.{by_name, by_line}
 use Rattle.statements.proofs.Parts.{unrolled}
@@ -53,33 +53,33 @@ module _ (s : List ℕ) (t : Scanned) where
   worded Read = by_read (Worded Read) tt s t (λ vs u e. refl)
   worded Restore = by_line (Worded Restore) t.token _ _ (λ l n r. refl) (λ n. refl)
 
-abbrev LedAs : Lead → Begun → Type 0
-LedAs (By w t) b = Worded w b
-LedAs Nothing b = b ≡ bad
+abbrev LedAs : Option Lead → Begun → Type 0
+LedAs (Some lead) b = Worded lead.word b
+LedAs None b = b ≡ bad
 
-led_as : (s : List ℕ) (l : Lead) → LedAs l (begun_by s l)
-led_as s (By w t) = worded s t w
-led_as s Nothing = refl
+led_as : (s : List ℕ) (l : Option Lead) → LedAs l (begun_by s l)
+led_as s (Some lead) = worded s lead.ahead lead.word
+led_as s None = refl
 
 begun_led : (s : List ℕ) (p : ℕ) → LedAs (lead_of s true (token_at s (place p))) (begun_at s true p)
 unfolding begun_at
 begun_led s p = led_as s (lead_of s true (token_at s (place p)))
 
 -- the statement that begins a part is of the word that leads it
-abbrev pub WordedAs : Lead → Part → Type 0
-WordedAs (By w t) q = word_of (head_of q) ≡ w
-WordedAs Nothing q = ⊥
+abbrev pub WordedAs : Option Lead → Part → Type 0
+WordedAs (Some lead) q = word_of (head_of q) ≡ lead.word
+WordedAs None q = ⊥
 
 module _ (s : List ℕ) (p : ℕ) where
   bad_not : {q : Part} {u : Scanned} → part_of s true p ≡ good_part q u → begun_at s true p ≡ bad → ⊥
   bad_not e b = let f = sym (unrolled s true p) ∙ e in let g = rw b at f in never (cc)
 
-  part_by : (l : Lead) → LedAs l (begun_at s true p) → (q : Part) (u : Scanned) → part_of s true p ≡ good_part q u → WordedAs l q
-  part_by Nothing h q u e = bad_not e h
-  part_by (By w t) h (more q x r) u e = rw (more_view s true p e).begun at h
-  part_by (By w t) h (last q x) u e = by_final (final_view s true p e)
+  part_by : (l : Option Lead) → LedAs l (begun_at s true p) → (q : Part) (u : Scanned) → part_of s true p ≡ good_part q u → WordedAs l q
+  part_by None h q u e = bad_not e h
+  part_by (Some lead) h (more q x r) u e = rw (more_view s true p e).begun at h
+  part_by (Some lead) h (last q x) u e = by_final (final_view s true p e)
     where
-      by_final : {y : _} → Final s true p q y u → word_of y ≡ w
+      by_final : {y : _} → Final s true p q y u → word_of y ≡ lead.word
       by_final (plain f) = rw f.begun at h
       by_final (thens f) = rw f.begun at h
       by_final (elses f) = rw f.begun at h

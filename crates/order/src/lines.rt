@@ -7,7 +7,7 @@ ghost use Rattle.reader.specs.bridge.Walking.{StartsAs};
 ghost use Rattle.machine.specs.Order.{beyond};
 ghost use Rattle.order.specs.bridge.Walking.{PassesIf};
 
-use reader::{Judged, Start, judge, next_statement};
+use reader::{judge, next_statement};
 use statements::statement_at;
 use words::Place;
 
@@ -15,26 +15,19 @@ use words::Place;
 pub(crate) fn passes(line: &[u8]) -> bool
     ensures { PassesIf line.now result }
 {
-    match judge(line) {
-        Judged::Unreadable => false,
-        Judged::TooDeep => false,
-        Judged::Reads(_) => true,
-    }
+    judge(line).is_ok()
 }
 
 // The first statement that begins after a place.
-pub(crate) fn first_beyond(line: &[u8], at: Place) -> Start
+pub(crate) fn first_beyond(line: &[u8], at: Place) -> Option<Place>
     ensures { (part : Part) → judgement line.now ≡ holds part → StartsAs line.now result (beyond at.0 (parts_of part)) }
 {
     let limit = at.0;
     let mut here = Place(0);
     loop {
         if limit < here.0 {
-            return Start::At(here);
+            return Some(here);
         }
-        let Start::At(next) = next_statement(statement_at(line, here, true)) else {
-            return Start::None;
-        };
-        here = next;
+        here = next_statement(statement_at(line, here, true))?;
     }
 }

@@ -11,30 +11,20 @@ use statements::{StatementRead, statement_at};
 use words::{Place, Sign};
 
 // After a statement of a line that was read: at what stands after its colon, or the line is over, as it is after an IF.
-fn past_read(line: Place, read: StatementRead) -> Position
+fn past_read(line: Place, read: Option<StatementRead>) -> Position
     ensures { result ≡ past_read line read }
 {
-    match read {
-        StatementRead::Bad => Position {
+    let Some(StatementRead::Done(own)) = read else {
+        return Position {
             line,
             at: line,
             over: true,
-        },
-        StatementRead::Choice(_) => Position {
-            line,
-            at: line,
-            over: true,
-        },
-        StatementRead::Done(own) => {
-            let ahead = own.ahead;
-            let token = ahead.token;
-            let at = ahead.next;
-            Position {
-                line,
-                at,
-                over: !is_symbol(Sign::Colon, token),
-            }
-        }
+        };
+    };
+    Position {
+        line,
+        at: own.ahead.next,
+        over: !is_symbol(Sign::Colon, own.ahead.token),
     }
 }
 
@@ -45,8 +35,6 @@ pub fn position_past(text: &[u8], spot: Spot) -> Position
         → Positioned text.now result × (position_of text.now result ≡ past x) }
 {
     let line = spot.line;
-    let from = line.body.0;
-    let end = line.end.0;
-    let place = line.place;
-    past_read(place, statement_at(&text[from..end], spot.at, true))
+    let body = &text[line.body.0..line.end.0];
+    past_read(line.place, statement_at(body, spot.at, true))
 }

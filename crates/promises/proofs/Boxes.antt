@@ -1,4 +1,6 @@
 -- What a box is told, by the contracts of the library's functions.
+use Rattle.std.specs.Prelude.{Err, Ok, Result}
+use Rattle.checker.specs.declared.checking.Fault.{Fault}
 use mathlib.Core.Path.{◌≡◌, refl, sym, ap, ap₂, subst, ◌∙◌}
 use mathlib.Core.Bool.{true, false, false≢true}
 use mathlib.Core.List.{List, [], ◌∷◌}
@@ -10,10 +12,10 @@ use Rattle.words.proofs.Choices.{by_test}
 use Rattle.variables.specs.declared.tables.Tables.{Tables}
 use Rattle.machine.specs.Items.{fresh}
 use Rattle.checker.specs.Check.{check_of}
-use Rattle.checker.specs.declared.checking.Verdict.{Verdict}
-use Rattle.checker.specs.declared.checking.Verdict.TheVariants as verdict
+use Rattle.checker.specs.declared.checking.Fault.TheVariants as verdict
 use Rattle.asking.specs.Asking.{ask_of}
 use Rattle.asking.specs.declared.questions.Asked.{Asked}
+use Rattle.loader.specs.declared.refusals.Refusal.{Refusal}
 use Rattle.asking.specs.declared.questions.Asked.TheVariants as asked
 use Rattle.blocks.specs.Blocks.{tables_in}
 use Rattle.host.specs.Answers.{outcome_in, answer_in, passed_in, found_in}
@@ -94,23 +96,23 @@ box_refusals_change_nothing c h =
 
 -- ---- a check
 
-word_passed : (v : Verdict) → passed_in v ≡ 0 → v ≡ verdict.Passed
-word_passed verdict.Passed e = refl
-word_passed (verdict.Refused r p) e = absurd (omega arith)
-word_passed (verdict.Faulty x l) e = absurd (omega arith)
+word_passed : (v : Result (Unit {0}) Fault) → passed_in v ≡ 0 → v ≡ Ok tt
+word_passed (Ok _) e = refl
+word_passed (Err (verdict.Refused r p)) e = absurd (omega arith)
+word_passed (Err (verdict.Faulty x l)) e = absurd (omega arith)
 
 pub box_passed_runs_end_well : BoxPassedRunsEndWell
 box_passed_runs_end_well k c same e =
-    let passed : check_of (text_in c) ≡ verdict.Passed = ap check_of (sym same) ∙ word_passed (check_of (recipe_in k)) (sym (ap (λ (x : List ℕ). get_or x 0 0) k.allowed) ∙ e) in
+    let passed : check_of (text_in c) ≡ Ok tt = ap check_of (sym same) ∙ word_passed (check_of (recipe_in k)) (sym (ap (λ (x : List ℕ). get_or x 0 0) k.allowed) ∙ e) in
     ap (one_of spared_numbers) (told c 1) ∙ not-true (one_of spared_numbers (number_in (ran c).ending)) (checked_runs_end_well (text_in c) (input_in c) (lent_in c) (budget_in c) passed)
 
 -- ---- a question
 
-found_well : (space : ℕ) (x : Asked) → Inside space x
+found_well : (space : ℕ) (x : Result Asked Refusal) → Inside space x
     → (one_of (0 ∷ 111 ∷ []) (get_or (found_in x) 0 0) ≡ true) × (get_or (found_in x) 3 0 + get_or (found_in x) 4 0 ≤ space)
-found_well space (asked.Whole w) h = (refl, omega arith)
-found_well space (asked.Text from len) h = (refl, h)
-found_well space asked.Refused h = (refl, omega arith)
+found_well space (Ok (asked.Whole w)) h = (refl, omega arith)
+found_well space (Ok (asked.Text from len)) h = (refl, h)
+found_well space (Err r) h = rw h (refl, omega arith)
 
 pub box_asks_well : BoxAsksWell
 box_asks_well c =
@@ -123,7 +125,7 @@ box_asks_well c =
 
 -- ---- a question after a run
 
-told_by : {space : List ℕ} {x : Asked} {r : Reply} → Says space x r → Told space (found_in x) r
+told_by : {space : List ℕ} {x : Result Asked Refusal} {r : Reply} → Says space x r → Told space (found_in x) r
 told_by (questions.its_word w) = its_number w refl refl refl
 told_by (questions.its_part front bytes back e) = its_part front bytes back e refl refl refl refl
 told_by questions.refused = no_variable refl

@@ -1,4 +1,7 @@
 -- The demands hold.
+use Rattle.checker.specs.declared.checking.Fault.{Fault}
+use Rattle.std.specs.Prelude.{Ok, Err, Result}
+use Rattle.loader.specs.Refusals.{refused_at}
 use mathlib.Core.Path.{◌≡◌, refl, sym, ap, subst, ◌∙◌}
 use mathlib.Core.Bool.{Bool, true, false, cond}
 use mathlib.Core.List.{List, [], ◌∷◌, ◌++◌}
@@ -12,7 +15,6 @@ use Rattle.words.specs.declared.places.LineNumber.{LineNumber}
 use Rattle.words.specs.declared.places.Place.{Place}
 use Rattle.loader.specs.Lines.{lines_of}
 use Rattle.loader.specs.Loading.{load_of}
-use Rattle.loader.specs.declared.loading.Loaded.TheVariants as loaded
 use Rattle.loader.specs.declared.refusals.Refusal.{Refusal}
 use lib.ListN.{length, replicate, length-append, length-drop, length-replicate}
 use Rattle.variables.specs.Variables.{StringVariable, string_bytes, joined_strings}
@@ -20,8 +22,7 @@ use Rattle.machine.specs.Machine.{Lent}
 use Rattle.machine.specs.Records.{blank_record}
 use Rattle.machine.specs.declared.records.Record.{Record}
 use Rattle.checker.specs.Check.{check_of}
-use Rattle.checker.specs.declared.checking.Verdict.{Verdict}
-use Rattle.checker.specs.declared.checking.Verdict.TheVariants as verdict
+use Rattle.checker.specs.declared.checking.Fault.TheVariants as verdict
 use Rattle.runner.specs.Run as run
 use Rattle.runner.specs.Run.{is_refused}
 use Rattle.runner.specs.declared.running.Outcome.{Outcome}
@@ -147,20 +148,20 @@ fourteen_exactly c line =
     )
 
 module _ (c : CheckCall) where
-  faulty : (e : Error) (n : LineNumber) → (c.answer ≡ verdict.Faulty e n) ↔ ((load_of (recipe_of c) ≡ loaded.Fine) × FirstFault (recipe_of c) e n)
+  faulty : (e : Error) (n : LineNumber) → (c.answer ≡ Err (verdict.Faulty e n)) ↔ ((load_of (recipe_of c) ≡ Ok tt) × FirstFault (recipe_of c) e n)
   faulty e n = told_exactly c.allowed (verdicts.faulty_exactly (recipe_of c) e n)
 
-  refused : (r : Refusal) (p : Place) → (c.answer ≡ verdict.Refused r p) ↔ (load_of (recipe_of c) ≡ loaded.Refused r p)
+  refused : (r : Refusal) (p : Place) → (c.answer ≡ Err (verdict.Refused r p)) ↔ (load_of (recipe_of c) ≡ refused_at r p)
   refused r p = told_exactly c.allowed (verdicts.refused_exactly (recipe_of c) r p)
 
-  passed : (c.answer ≡ verdict.Passed) ↔ ((load_of (recipe_of c) ≡ loaded.Fine) × AllFaultless (lines_of (recipe_of c)) (lines_of (recipe_of c)))
+  passed : (c.answer ≡ Ok tt) ↔ ((load_of (recipe_of c) ≡ Ok tt) × AllFaultless (lines_of (recipe_of c)) (lines_of (recipe_of c)))
   passed = told_exactly c.allowed (verdicts.passed_exactly (recipe_of c))
 
   -- a number from 100 on is no fault's
-  no_fault : (v : Verdict) → c.answer ≡ v → (number at : ℕ) → first_refusal ≤ number → Tells v number 0 at → Unloads v number at
-  no_fault verdict.Passed e n p h t = absurd (omega (arith, t.numbered))
-  no_fault (verdict.Refused r q) e n p h t = record { refusal = r; numbered = t.numbered; is = ap (verdict.Refused r) (ap place t.placed) }
-  no_fault (verdict.Faulty d k) e n p h t = absurd (omega (arith, t.numbered, fault_low ((faulty d k).0 e).1.fault))
+  no_fault : (v : Result (Unit {0}) Fault) → c.answer ≡ v → (number at : ℕ) → first_refusal ≤ number → Tells v number 0 at → Unloads v number at
+  no_fault (Ok _) e n p h t = absurd (omega (arith, t.numbered))
+  no_fault (Err (verdict.Refused r q)) e n p h t = record { refusal = r; numbered = t.numbered; is = ap (λ p. Err (verdict.Refused r p)) (ap place t.placed) }
+  no_fault (Err (verdict.Faulty d k)) e n p h t = absurd (omega (arith, t.numbered, fault_low ((faulty d k).0 e).1.fault))
 
   unloaded_told : (number at : ℕ) → first_refusal ≤ number → Tells c.answer number 0 at → Unloads c.answer number at
   unloaded_told = no_fault c.answer refl

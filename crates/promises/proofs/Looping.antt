@@ -1,4 +1,6 @@
 -- NEXT never ends in 7: every loop's variable was made by its FOR, and a variable that was made stays.
+use Rattle.std.specs.Prelude.{Err, Ok, Result, ℕ}
+use Rattle.whole.specs.declared.errors.Error.{Error}
 use mathlib.Core.Path.{◌≡◌, refl}
 use mathlib.Core.Bool.{Bool, true, false, false≢true}
 use mathlib.Core.List.{List, [], ◌∷◌}
@@ -10,8 +12,6 @@ use lib.Signed.{lt_z}
 use Rattle.whole.specs.Digits.{number_item}
 use Rattle.whole.specs.Errors.{error_number}
 use Rattle.whole.specs.Whole.{fit, applied}
-use Rattle.whole.specs.declared.arithmetic.Answer.{Answer}
-use Rattle.whole.specs.declared.arithmetic.Answer.TheVariants as answer
 use Rattle.whole.specs.declared.arithmetic.Operator.TheVariants.{Add}
 use Rattle.words.specs.Names.{Telling, alike}
 use Rattle.words.specs.declared.names.Kind.{Kind}
@@ -163,13 +163,13 @@ begun_made name place after start limit step m r =
     (skipped_made name (next_for place after.lines) (cleared name n) clear)
     (pushed_made (cleared name n) (loop name limit step after) (λ o. goes_on o after) clear h (λ o s. s)))
 
-turned_made : (m : Machine) (v : Telling) (limit step : ℕ) (back : Position) (under : List Record) (after : Position) (a : Answer)
+turned_made : (m : Machine) (v : Telling) (limit step : ℕ) (back : Position) (under : List Record) (after : Position) (a : Result ℕ Error)
     → RecordsMade m.variables.numbers under → NextMade (turned m v limit step back under after a)
-turned_made m v limit step back under after (answer.Whole w) u =
+turned_made m v limit step back under after (Ok w) u =
     let vs = m.variables.numbers in
     let stay = records_stay vs v w under u in
     by_choice NextMade (numbers_full vs v) tt (by_choice NextMade (passed w limit step) stay (number_made vs v w, stay))
-turned_made m v limit step back under after (answer.Fault e) u = tt
+turned_made m v limit step back under after (Err e) u = tt
 
 found_made : (m : Machine) (s : Search) (after : Position) → SearchMade m.variables.numbers s → NextMade (next_on m s after)
 found_made m missing after h = tt
@@ -213,9 +213,9 @@ input_made (b ∷ s) m v go r k =
 given_made : (k : Kind) (name : Telling) (b : List ℕ) (m : Machine) (go : Machine → Next) → MachineMade m → Continues go → NextMade (given k name b m go)
 given_made kind.Whole name b m go r k = by_number (number_item b)
   where
-    by_number : (a : Answer) → NextMade (given_number a name m go)
-    by_number (answer.Whole w) = number_stored m name w go r (λ n q h. k n q)
-    by_number (answer.Fault e) = tt
+    by_number : (a : Result ℕ Error) → NextMade (given_number a name m go)
+    by_number (Ok w) = number_stored m name w go r (λ n q h. k n q)
+    by_number (Err e) = tt
 given_made kind.Text name b m go r k = worked_made m (make b (room_of m)) _ r (λ v n q. string_stored n name b go q k)
 
 read_made : (vs : List Variable) (m : Machine) (go : Machine → Next) → MachineMade m → Continues go → NextMade (read_items vs m go)
@@ -300,18 +300,18 @@ abbrev HasRoom : Next → Type 0
 HasRoom n = lacks_room n ≡ false
 
 -- a sum that is too large is 6
-abbrev AnswerHasRoom : Answer → Type 0
-AnswerHasRoom (answer.Whole w) = Unit {0}
-AnswerHasRoom (answer.Fault e) = eqb (error_number e) 7 ≡ false
+abbrev AnswerHasRoom : Result ℕ Error → Type 0
+AnswerHasRoom (Ok w) = Unit {0}
+AnswerHasRoom (Err e) = eqb (error_number e) 7 ≡ false
 
 fit_has_room : (z : ℤ) → AnswerHasRoom (fit z)
 unfolding fit
 fit_has_room z = by_choice AnswerHasRoom (lt_z (pos 32767) z) refl (by_choice AnswerHasRoom (lt_z z (negsuc 32767)) refl tt)
 
-turned_has_room : (m : Machine) (v : Telling) (limit step : ℕ) (back : Position) (under : List Record) (after : Position) (a : Answer)
+turned_has_room : (m : Machine) (v : Telling) (limit step : ℕ) (back : Position) (under : List Record) (after : Position) (a : Result ℕ Error)
     → has_number m.variables.numbers v ≡ true → AnswerHasRoom a → HasRoom (turned m v limit step back under after a)
-turned_has_room m v limit step back under after (answer.Whole w) h k = rw h (by_choice HasRoom (passed w limit step) refl refl)
-turned_has_room m v limit step back under after (answer.Fault e) h k = k
+turned_has_room m v limit step back under after (Ok w) h k = rw h (by_choice HasRoom (passed w limit step) refl refl)
+turned_has_room m v limit step back under after (Err e) h k = k
 
 found_has_room : (m : Machine) (s : Search) (after : Position) → SearchMade m.variables.numbers s → HasRoom (next_on m s after)
 found_has_room m missing after h = refl

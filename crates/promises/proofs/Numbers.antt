@@ -1,4 +1,6 @@
 -- Errors, refusals and verdicts are told apart by the paper's numbers.
+use Rattle.std.specs.Prelude.{Err, Ok, Result}
+use Rattle.checker.specs.declared.checking.Fault.{Fault}
 use mathlib.Core.Path.{◌≡◌, refl, sym, ap, ap₂, ◌∙◌}
 use mathlib.Core.Bool.{false, false≢true, cond}
 use mathlib.Core.List.{List}
@@ -47,8 +49,7 @@ use Rattle.loader.specs.declared.refusals.Refusal.TheVariants.{
   NoRoom,
 }
 use Rattle.checker.specs.Check.{verdict_number}
-use Rattle.checker.specs.declared.checking.Verdict.{Verdict}
-use Rattle.checker.specs.declared.checking.Verdict.TheVariants as verdict
+use Rattle.checker.specs.declared.checking.Fault.TheVariants as verdict
 use Rattle.runner.specs.Run.{number_in, line_in}
 use Rattle.runner.specs.declared.running.Outcome.{Outcome}
 use Rattle.runner.specs.declared.running.Outcome.TheVariants.{Ended, Stopped, Out, Failed, Refused}
@@ -220,24 +221,24 @@ fault_low (too_deep r) = omega arith
 fault_low (wrongly_typed r t) = omega arith
 fault_low (names_missing r t m) = omega arith
 
-pub record Faults (v : Verdict) (number line : ℕ) : Type 0 where
+pub record Faults (v : Result (Unit {0}) Fault) (number line : ℕ) : Type 0 where
   pub error : Error
   pub numbered : error_number error ≡ number
-  pub is : v ≡ verdict.Faulty error (line_number line)
+  pub is : v ≡ Err (verdict.Faulty error (line_number line))
 
-pub faulty_told : (v : Verdict) (number line at : ℕ) → 0 < number → number < first_refusal → Tells v number line at → Faults v number line
-faulty_told verdict.Passed n l p a b t = absurd (omega (arith, t.numbered))
-faulty_told (verdict.Refused r q) n l p a b t = absurd (omega (arith, t.numbered, refusal_high r))
-faulty_told (verdict.Faulty e k) n l p a b t =
-    record { error = e; numbered = t.numbered; is = ap (verdict.Faulty e) (ap line_number t.lined) }
+pub faulty_told : (v : Result (Unit {0}) Fault) (number line at : ℕ) → 0 < number → number < first_refusal → Tells v number line at → Faults v number line
+faulty_told (Ok _) n l p a b t = absurd (omega (arith, t.numbered))
+faulty_told (Err (verdict.Refused r q)) n l p a b t = absurd (omega (arith, t.numbered, refusal_high r))
+faulty_told (Err (verdict.Faulty e k)) n l p a b t =
+    record { error = e; numbered = t.numbered; is = ap (λ l. Err (verdict.Faulty e l)) (ap line_number t.lined) }
 
 -- a refusal, by its number and place
-pub record Unloads (v : Verdict) (number at : ℕ) : Type 0 where
+pub record Unloads (v : Result (Unit {0}) Fault) (number at : ℕ) : Type 0 where
   pub refusal : Refusal
   pub numbered : refusal_number refusal ≡ number
-  pub is : v ≡ verdict.Refused refusal (place at)
+  pub is : v ≡ Err (verdict.Refused refusal (place at))
 
-pub passed_told : (v : Verdict) → verdict_number v ≡ 0 → v ≡ verdict.Passed
-passed_told verdict.Passed t = refl
-passed_told (verdict.Refused r q) t = absurd (omega (arith, refusal_high r))
-passed_told (verdict.Faulty e k) t = absurd (omega (arith, error_some e))
+pub passed_told : (v : Result (Unit {0}) Fault) → verdict_number v ≡ 0 → v ≡ Ok tt
+passed_told (Ok _) t = refl
+passed_told (Err (verdict.Refused r q)) t = absurd (omega (arith, refusal_high r))
+passed_told (Err (verdict.Faulty e k)) t = absurd (omega (arith, error_some e))

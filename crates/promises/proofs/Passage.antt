@@ -1,16 +1,13 @@
 -- The check's verdict decides what a checked run comes to.
+use Rattle.std.specs.Prelude.{Err, Ok}
 use mathlib.Core.Path.{◌≡◌, refl}
 use mathlib.Core.Bool.{true}
 use mathlib.Core.List.{List}
 use Prim.Native.Nat.{ℕ}
-use Rattle.whole.specs.declared.errors.Error.{Error}
-use Rattle.words.specs.declared.places.LineNumber.{LineNumber}
-use Rattle.words.specs.declared.places.Place.{Place}
-use Rattle.loader.specs.declared.refusals.Refusal.{Refusal}
 use Rattle.variables.specs.declared.tables.Tables.{Tables}
 use Rattle.machine.specs.Machine.{lent_by}
 use Rattle.checker.specs.Check.{check_of}
-use Rattle.checker.specs.declared.checking.Verdict.TheVariants.{Passed, Refused, Faulty}
+use Rattle.checker.specs.declared.checking.Fault.{Fault}
 use Rattle.runner.specs.Run as run
 use Rattle.runner.specs.Run.{answer_of, space_after, room_after, run_of}
 use Rattle.runner.specs.declared.running.Ran.{Ran}
@@ -31,21 +28,15 @@ module _ (text input space room : List ℕ) (records budget : ℕ) (tables : Tab
   ran = run_of text input (lent_by space room records) budget
 
   -- it passed, and was run,
-  pub passed_run : check_of text ≡ Passed → {a : Ran} {space' room' : List ℕ}
+  pub passed_run : check_of text ≡ Ok tt → {a : Ran} {space' room' : List ℕ}
       → (a ≡ answer_of ran tables) × ((space' ≡ space_after ran space) × (room' ≡ room_after ran room))
       → {r : CheckedRun} → r ≡ run_as a → Met whole tables space room r space' room'
   unfolding guarded_run
   passed_run e h f =
       rw (e, f) (rw h.0 refl, (h.1.0, (h.1.1, rw h.0 (checked_runs_end_well text input (lent_by space room records) budget e))))
 
-  -- it was refused as in loading,
-  pub refused_run : {x : Refusal} {p : Place} → check_of text ≡ Refused x p → {r : CheckedRun} → r ≡ held_as (Refused x p) tables
+  -- or it did not pass
+  pub held_run : {fault : Fault} → check_of text ≡ Err fault → {r : CheckedRun} → r ≡ held_as fault tables
       → Met whole tables space room r space room
   unfolding guarded_run
-  refused_run e f = rw e (f, (refl, (refl, rw f)))
-
-  -- or a line of it is faulty
-  pub faulty_run : {x : Error} {n : LineNumber} → check_of text ≡ Faulty x n → {r : CheckedRun} → r ≡ held_as (Faulty x n) tables
-      → Met whole tables space room r space room
-  unfolding guarded_run
-  faulty_run e f = rw e (f, (refl, (refl, rw f)))
+  held_run e f = rw e (f, (refl, (refl, rw f)))

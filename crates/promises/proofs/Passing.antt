@@ -1,4 +1,6 @@
 -- A recipe that the check has passed never ends in 2, 8, 13 or 16.
+use Rattle.std.specs.Prelude.{Err, Ok, Result}
+use Rattle.loader.specs.declared.refusals.RefusedAt.{RefusedAt}
 use mathlib.Core.Path.{◌≡◌, refl, ap}
 use mathlib.Core.Bool.{true, not}
 use mathlib.Core.List.{List, [], ◌∷◌}
@@ -7,12 +9,9 @@ use lib.Dec.{ltb}
 use Rattle.words.specs.declared.places.LineNumber.{LineNumber}
 use Rattle.loader.specs.Lines.{Line, lines_of, next_line}
 use Rattle.loader.specs.Loading.{load_of}
-use Rattle.loader.specs.declared.loading.Loaded.{Loaded}
-use Rattle.loader.specs.declared.loading.Loaded.TheVariants as loaded
 use Rattle.grammar.specs.Trees.{Part}
 use Rattle.checker.specs.Check as check
 use Rattle.checker.specs.Check.{first_fault, check_of}
-use Rattle.checker.specs.declared.checking.Verdict.TheVariants.{Passed}
 use Rattle.machine.specs.Items.{fresh}
 use Rattle.machine.specs.Machine.{Position, Machine, most_records, with_step}
 use Rattle.statements.specs.Parts.{place_of}
@@ -79,14 +78,14 @@ module _ (program : List ℕ) (lines : LinesChecked (lines_of program) (lines_of
   running_ends_well (suc n) (at m ls p) h = running_ends_well n (turn program m ls p) (turn_checked m ls p h)
 
 -- a run of a text that is not loaded is refused; a text that the check has passed is loaded, and its lines are sound
-loaded_ends_well : (l : Loaded) (text : List ℕ) (m : Machine) (budget : ℕ) → m.records ≡ []
-    → check.if_loaded l (λ _. first_fault (lines_of text) (lines_of text)) ≡ Passed
+loaded_ends_well : (l : Result (Unit {0}) RefusedAt) (text : List ℕ) (m : Machine) (budget : ℕ) → m.records ≡ []
+    → check.if_loaded l (λ _. first_fault (lines_of text) (lines_of text)) ≡ Ok tt
     → EndsWell (if_loaded l m (λ _. running budget text (entering m (lines_of text))))
-loaded_ends_well loaded.Fine text m budget r e =
+loaded_ends_well (Ok _) text m budget r e =
     let lines = passed_lines (lines_of text) (lines_of text) e in
     running_ends_well text lines budget (entering m (lines_of text))
     (entering_checked (lines_of text) m (lines_of text) (rw r tt) lines)
-loaded_ends_well (loaded.Refused refusal p) text m budget r e = ap not (refusal_spared refusal)
+loaded_ends_well (Err x) text m budget r e = ap not (refusal_spared x.refusal)
 
 pub checked_runs_end_well : CheckedRunsEndWell
 unfolding check_of run_of

@@ -1,11 +1,12 @@
 -- The customer's demands, as statements about every call of the code: `Calls` says what a call is. A statement has the proof of its name,
 -- in snake case, in `proofs/Demands.antt`. Above each stand what it says, what it does not say, and two wrong programs that it rules out.
-use Rattle.std.specs.Prelude.{◌≡◌, true, List, ◌↔◌, ℕ, ◌+◌, ◌≤◌, ◌<◌, length}
+use Rattle.checker.specs.declared.checking.Fault.{Fault}
+use Rattle.loader.specs.Refusals.{refused_at}
+use Rattle.std.specs.Prelude.{◌≡◌, true, List, ◌↔◌, ℕ, ◌+◌, ◌≤◌, ◌<◌, length, Ok, Result}
 use Rattle.whole.specs.declared.errors.Error.TheVariants.{OutOfStringSpace}
 use Rattle.words.specs.Places.{place, line_number}
 use Rattle.loader.specs.Lines.{lines_of}
 use Rattle.loader.specs.Loading.{load_of}
-use Rattle.loader.specs.declared.loading.Loaded.TheVariants as loaded
 use Rattle.loader.specs.Refusals.{refusal_number}
 use Rattle.loader.specs.declared.refusals.Refusal.{Refusal}
 use Rattle.space.specs.declared.offsets.Offset.{Offset}
@@ -13,7 +14,6 @@ use Rattle.variables.specs.Strings.{Room, fault, make, longest_space}
 use Rattle.variables.specs.Variables.{string_bytes}
 use Rattle.machine.specs.Machine.{Lent, most_records}
 use Rattle.checker.specs.Check.{verdict_number, verdict_line, verdict_place}
-use Rattle.checker.specs.declared.checking.Verdict.{Verdict}
 use Rattle.runner.specs.Run as run
 use Rattle.runner.specs.Run.{run_of, number_in, line_in, place_in, is_refused}
 use Rattle.asking.specs.declared.questions.Asked.TheVariants.{Text}
@@ -72,7 +72,7 @@ StopsWithinBudget = (c : RunCall) → c.answer.steps ≤ budget_of c
 pub record LoadRefused (text : List ℕ) (number at : ℕ) : Type 0 where
   pub refusal : Refusal
   pub numbered : refusal_number refusal ≡ number
-  pub loads : load_of text ≡ loaded.Refused refusal (place at)
+  pub loads : load_of text ≡ refused_at refusal (place at)
 
 -- a string space over 16,384 bytes is 106 at place 0, whatever the records and the text; else more than 256 records are 107 at place 0; else
 -- loading decides, by 100 to 105 and a place
@@ -127,7 +127,7 @@ StaysWithinMemory = (c : RunCall) → Within c
 -- tables and space are those of one run: that is the host's affair. Ruled out: an answer that trusts the lengths in tables that no run made;
 -- one that answers a string as its part of a space that was handed in too short.
 abbrev pub AskedPartsLieInside : Type 0
-AskedPartsLieInside = (c : AskCall) (from : Offset) (len : ℕ) → c.answer ≡ Text from len → from.0 + len ≤ length (space_handed c)
+AskedPartsLieInside = (c : AskCall) (from : Offset) (len : ℕ) → c.answer ≡ Ok (Text from len) → from.0 + len ≤ length (space_handed c)
 
 -- ---- Demand 2: every run does what document 01 says; 14 comes exactly when the bytes of all live strings, unfinished ones included, plus
 -- ---- those asked for exceed the space lent; the check refuses a recipe exactly for the faults listed
@@ -161,7 +161,7 @@ FourteenExactly =
     ↔ AsksTooMuch (text_of c) (input_of c) (lent_of c) (budget_of c) (line_number line)
 
 -- a verdict's number, line and place
-pub record Tells (v : Verdict) (number line at : ℕ) : Type 0 where
+pub record Tells (v : Result (Unit {0}) Fault) (number line at : ℕ) : Type 0 where
   pub numbered : verdict_number v ≡ number
   pub lined : verdict_line v ≡ line
   pub placed : verdict_place v ≡ at
@@ -172,9 +172,9 @@ first_refusal = 100
 
 pub record ChecksExactlyFacts (c : CheckCall) : Type 0 where
   pub faulty : (number line : ℕ) → 0 < number → number < first_refusal
-      → Tells c.answer number line 0 ↔ ((load_of (recipe_of c) ≡ loaded.Fine) × NumberedFault (recipe_of c) number line)
+      → Tells c.answer number line 0 ↔ ((load_of (recipe_of c) ≡ Ok tt) × NumberedFault (recipe_of c) number line)
   pub refused : (number at : ℕ) → first_refusal ≤ number → Tells c.answer number 0 at ↔ LoadRefused (recipe_of c) number at
-  pub passed : Tells c.answer 0 0 0 ↔ ((load_of (recipe_of c) ≡ loaded.Fine) × AllFaultless (lines_of (recipe_of c)) (lines_of (recipe_of c)))
+  pub passed : Tells c.answer 0 0 0 ↔ ((load_of (recipe_of c) ≡ Ok tt) × AllFaultless (lines_of (recipe_of c)) (lines_of (recipe_of c)))
 
 -- The check gives an error and a line if and only if the recipe loads, that line has that fault and no earlier line has one (`Faults`: 2, then
 -- 16, then 13, then 8); it refuses if and only if loading does, and passes if and only if there is no fault at all. It says nothing of runs:

@@ -1,10 +1,9 @@
 -- Out of steps: if the next statement would exceed the budget, the outcome is 'out of steps' at its line. A statement has the proof of its
 -- name, in snake case, in `proofs/OutOfSteps.antt`.
-use Rattle.std.specs.Prelude.{◌≡◌, List, ◌↔◌, ℕ, ◌≤◌}
+use Rattle.std.specs.Prelude.{◌≡◌, List, ◌↔◌, ℕ, ◌≤◌, Ok}
 use Rattle.words.specs.declared.places.LineNumber.{LineNumber}
 use Rattle.loader.specs.Lines.{Line, lines_of}
 use Rattle.loader.specs.Loading.{load_of}
-use Rattle.loader.specs.declared.loading.Loaded.TheVariants.{Fine}
 use Rattle.grammar.specs.Trees.{Part}
 use Rattle.variables.specs.Strings.{longest_space}
 use Rattle.machine.specs.Items.{fresh}
@@ -19,7 +18,7 @@ use Rattle.promises.specs.Passing.{stands_after}
 pub record AnotherStands (text input : List ℕ) (lent : Lent) (budget : ℕ) (l : LineNumber) : Type 0 where
   pub small : lent.space ≤ longest_space
   pub few : lent.records ≤ most_records
-  pub loads : load_of text ≡ Fine
+  pub loads : load_of text ≡ Ok tt
   pub machine : Machine
   pub lines : List Line
   pub part : Part

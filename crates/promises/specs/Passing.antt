@@ -1,8 +1,7 @@
 -- Demand 3, its first half: what the check promises of every run of a recipe that it has passed.
-use Rattle.std.specs.Prelude.{◌≡◌, Bool, true, false, not, ◌||◌, List, [], ◌∷◌, ℕ, zero, suc, eqb}
+use Rattle.std.specs.Prelude.{◌≡◌, Bool, true, false, not, ◌||◌, List, [], ◌∷◌, ℕ, zero, suc, eqb, Ok}
 use Rattle.whole.specs.Errors.{error_number}
 use Rattle.checker.specs.Check.{check_of}
-use Rattle.checker.specs.declared.checking.Verdict.TheVariants.{Passed}
 use Rattle.loader.specs.Lines.{Line, lines_of}
 use Rattle.grammar.specs.Trees as tree
 use Rattle.grammar.specs.Trees.{Statement, Part}
@@ -32,7 +31,7 @@ ends_well o = not (one_of spared_numbers (number_in o))
 -- recipes that the check has not passed.
 abbrev pub CheckedRunsEndWell : Type 0
 CheckedRunsEndWell =
-    (text input : List ℕ) (lent : Lent) (budget : ℕ) → check_of text ≡ Passed → ends_well (run_of text input lent budget).ending ≡ true
+    (text input : List ℕ) (lent : Lent) (budget : ℕ) → check_of text ≡ Ok tt → ends_well (run_of text input lent budget).ending ≡ true
 
 -- ---- NEXT always has room for its variable
 

@@ -1,6 +1,6 @@
 -- Asking for a variable after a run, said of the run's variables: the layout of tables and space is a law (`AskedOverVariables`), not the
 -- meaning. A statement has the proof of its name, in snake case, in `proofs/Questions/Asking.antt`.
-use Rattle.std.specs.Prelude.{◌≡◌, false, cond, List, ◌++◌, ℕ, ◌≤◌, length}
+use Rattle.std.specs.Prelude.{◌≡◌, false, cond, List, ◌++◌, ℕ, ◌≤◌, length, Result, Ok, Err}
 use Rattle.words.specs.Names.{Telling, name_bytes, telling_of}
 use Rattle.words.specs.Places.{place}
 use Rattle.words.specs.declared.names.Kind.{Kind}
@@ -10,7 +10,9 @@ use Rattle.grammar.specs.Tests.{on_name}
 use Rattle.variables.specs.Variables.{Variables, word_of, bytes_of, joined_strings, most_variables}
 use Rattle.asking.specs.Asking.{is_whole_name, ask_of}
 use Rattle.asking.specs.declared.questions.Asked.{Asked}
-use Rattle.asking.specs.declared.questions.Asked.TheVariants.{Whole, Text, Refused}
+use Rattle.asking.specs.declared.questions.Asked.TheVariants.{Whole, Text}
+use Rattle.loader.specs.declared.refusals.Refusal.{Refusal}
+use Rattle.loader.specs.declared.refusals.Refusal.TheVariants.{NoVariable}
 use Rattle.variables.specs.declared.tables.Tables.{Tables}
 use Rattle.machine.specs.Machine.{lent_by}
 use Rattle.runner.specs.Run as run
@@ -37,11 +39,11 @@ answer_for vars given =
     on_name t.token (λ v. cond (is_whole_name given t v) (value_for vars v.kind (telling_of (name_bytes given v))) no_name) no_name
 
 -- an answer says so: a string by the part of the space that holds exactly its bytes, what is no name by 111
-pub data Says (space : List ℕ) : Asked → Reply → Type 0 where
-  its_word : (w : ℕ) → Says space (Whole w) (number w)
+pub data Says (space : List ℕ) : Result Asked Refusal → Reply → Type 0 where
+  its_word : (w : ℕ) → Says space (Ok (Whole w)) (number w)
   its_part : (front bytes back : List ℕ) → space ≡ front ++ (bytes ++ back)
-      → Says space (Text (record { 0 = length front }) (length bytes)) (string bytes)
-  refused : Says space Refused no_name
+      → Says space (Ok (Text (record { 0 = length front }) (length bytes))) (string bytes)
+  refused : Says space (Err NoVariable) no_name
 
 -- ---- of tables and a space that hold some variables
 

@@ -1,12 +1,12 @@
 -- What a text is refused for, row by row of the paper's table, and where. A statement has the proof of its name, in snake case, in
 -- `proofs/Refusals/` (`Loading`, `Calls`, `Places`).
-use Rattle.std.specs.Prelude.{◌≡◌, Bool, false, List, [], ◌∷◌, ◌++◌, ◌↔◌, ℕ, ◌+◌, ◌≤◌, ◌<◌, length}
+use Rattle.loader.specs.Refusals.{refused_at}
+use Rattle.std.specs.Prelude.{◌≡◌, Bool, false, List, [], ◌∷◌, ◌++◌, ◌↔◌, ℕ, ◌+◌, ◌≤◌, ◌<◌, length, Ok, Err}
 use Rattle.whole.specs.Digits.{is_digit, leading_value}
 use Rattle.words.specs.Places.{place, largest_line_number, longest_line}
 use Rattle.words.specs.declared.places.Place.{Place}
 use Rattle.loader.specs.Lines.{Line, lines_of}
 use Rattle.loader.specs.Loading.{most_lines, longest_text, load_of}
-use Rattle.loader.specs.declared.loading.Loaded.TheVariants as loaded
 use Rattle.loader.specs.declared.refusals.Refusal.{Refusal}
 use Rattle.loader.specs.declared.refusals.Refusal.TheVariants.{
   NoVariable,
@@ -24,7 +24,7 @@ use Rattle.loader.specs.declared.refusals.Refusal.TheVariants.{
 }
 use Rattle.variables.specs.Strings.{longest_space}
 use Rattle.machine.specs.Machine.{Lent, most_records}
-use Rattle.checker.specs.declared.checking.Verdict.TheVariants as verdict
+use Rattle.checker.specs.declared.checking.Fault.TheVariants as verdict
 use Rattle.runner.specs.declared.running.Outcome.TheVariants as outcome
 use Rattle.promises.specs.Calls.{RunCall, text_of, lent_of, CheckCall, recipe_of}
 
@@ -106,8 +106,8 @@ pub record PassesTable (text : List ℕ) : Type 0 where
 -- ---- loading is the table
 
 pub record LoadsByTableFacts (text : List ℕ) : Type 0 where
-  pub refused : (r : Refusal) (p : Place) → (load_of text ≡ loaded.Refused r p) ↔ RefusedByTable text r p
-  pub fine : (load_of text ≡ loaded.Fine) ↔ PassesTable text
+  pub refused : (r : Refusal) (p : Place) → (load_of text ≡ refused_at r p) ↔ RefusedByTable text r p
+  pub fine : (load_of text ≡ Ok tt) ↔ PassesTable text
 
 -- Loading refuses a text with a number and a place if and only if the table does: 100 first, and then the first line to which a row applies,
 -- by the first such row; and it takes a text if and only if no row applies. What the lines of a text are is `lines_of`. Ruled out: a loader that
@@ -126,7 +126,7 @@ pub data RunRefused (text : List ℕ) (lent : Lent) : Refusal → Place → Type
 
 pub record CallsRefuseByTableFacts : Type 0 where
   pub runs : (c : RunCall) (r : Refusal) (p : Place) → (c.answer.outcome ≡ outcome.Refused r p) ↔ RunRefused (text_of c) (lent_of c) r p
-  pub checks : (c : CheckCall) (r : Refusal) (p : Place) → (c.answer ≡ verdict.Refused r p) ↔ RefusedByTable (recipe_of c) r p
+  pub checks : (c : CheckCall) (r : Refusal) (p : Place) → (c.answer ≡ Err (verdict.Refused r p)) ↔ RefusedByTable (recipe_of c) r p
 
 -- `run` and `check_recipe` refuse with a number and a place if and only if the table does, and so in no other case. It says nothing of what is
 -- lent: `RefusalsChangeNothing` does; 111 is `ask`'s. Ruled out: a check that refuses a recipe for a string space; a run that tests its text

@@ -1,9 +1,8 @@
 -- Unfinished strings, counted request by request: which strings are unfinished whenever a run asks for another is what `StringSpace` says,
 -- and no counter of the machine is used. A statement has the proof of its name, in snake case, in `proofs/Counting/Runs.antt`.
-use Rattle.std.specs.Prelude.{◌≡◌, List, ℕ, ◌+◌, ◌≤◌, length}
+use Rattle.std.specs.Prelude.{◌≡◌, List, ℕ, ◌+◌, ◌≤◌, length, Ok}
 use Rattle.loader.specs.Lines.{Line, lines_of}
 use Rattle.loader.specs.Loading.{load_of}
-use Rattle.loader.specs.declared.loading.Loaded.TheVariants.{Fine}
 use Rattle.grammar.specs.Trees.{Statement}
 use Rattle.variables.specs.Strings.{longest_space}
 use Rattle.variables.specs.Variables.{string_bytes}
@@ -25,7 +24,7 @@ Fits space variables k = variables + bytes_in k.unfinished + length k.bytes ≤ 
 pub record Request (text input : List ℕ) (lent : Lent) (budget : ℕ) : Type 0 where
   pub small : lent.space ≤ longest_space
   pub few : lent.records ≤ most_records
-  pub loads : load_of text ≡ Fine
+  pub loads : load_of text ≡ Ok tt
   pub from : List Line
   pub place : ℕ
   pub statement : Statement

@@ -1,12 +1,11 @@
 -- Error 7 for records (document 02, M-108): it comes exactly when all records that are lent are taken. A statement has the proof of its name, in
 -- snake case, in `proofs/Seven.antt`.
-use Rattle.std.specs.Prelude.{◌≡◌, true, false, List, ◌∷◌, ◌↔◌, ℕ, ◌≤◌, length}
+use Rattle.std.specs.Prelude.{◌≡◌, true, false, List, ◌∷◌, ◌↔◌, ℕ, ◌≤◌, length, Ok}
 use Rattle.whole.specs.declared.errors.Error.TheVariants.{OutOfMemory}
 use Rattle.words.specs.Places.{line_number}
 use Rattle.words.specs.declared.places.LineNumber.{LineNumber}
 use Rattle.loader.specs.Lines.{Line, lines_of, from_number}
 use Rattle.loader.specs.Loading.{load_of}
-use Rattle.loader.specs.declared.loading.Loaded.TheVariants.{Fine}
 use Rattle.grammar.specs.Trees as tree
 use Rattle.grammar.specs.Trees.{Formula, Variable, Statement, Part}
 use Rattle.statements.specs.Parts.{Rest}
@@ -57,7 +56,7 @@ SevenExactly =
 pub record LacksRecord (text input : List ℕ) (lent : Lent) (budget : ℕ) (l : LineNumber) : Type 0 where
   pub small : lent.space ≤ longest_space
   pub few : lent.records ≤ most_records
-  pub loads : load_of text ≡ Fine
+  pub loads : load_of text ≡ Ok tt
   pub from : List Line
   pub numbered : line_number_of from ≡ l
   pub place : ℕ

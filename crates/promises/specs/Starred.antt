@@ -1,6 +1,7 @@
 -- Document 01's starred examples, all of them, by one statement over one list: how a run of the recipe comes out, what it printed, its
 -- steps, a variable that is asked for after it, the string space that it leaves, and what the check says.
-use Rattle.std.specs.Prelude.{◌≡◌, refl, List, [], ◌∷◌, ◌++◌, map, ℕ, ◌-◌, length, replicate}
+use Rattle.checker.specs.declared.checking.Fault.{Fault}
+use Rattle.std.specs.Prelude.{◌≡◌, refl, List, [], ◌∷◌, ◌++◌, map, ℕ, ◌-◌, length, replicate, Result, Ok, Err}
 use Prim.Native.String.{String}
 use Rattle.whole.specs.Bytes.{bytes, leading}
 use Rattle.whole.specs.Digits.{is_digit, value_from, signed_value}
@@ -28,11 +29,11 @@ use Rattle.variables.specs.Tables.{names_from, names_in, numbers_in, slot_from, 
 use Rattle.machine.specs.Machine.{column_after, write, sought, passed}
 use Rattle.turns.specs.Steps.{print_items}
 use Rattle.checker.specs.Check.{present, any_missing, first_fault, check_of}
-use Rattle.checker.specs.declared.checking.Verdict.{Verdict}
-use Rattle.checker.specs.declared.checking.Verdict.TheVariants.{Passed, Faulty}
+use Rattle.checker.specs.declared.checking.Fault.TheVariants.{Faulty}
 use Rattle.asking.specs.Asking.{ask_of}
 use Rattle.runner.specs.Examples.{lending}
 use Rattle.runner.specs.Run.{Ran, enter, running, answer_of, space_after, run_of}
+use Rattle.loader.specs.declared.refusals.Refusal.{Refusal}
 use Rattle.asking.specs.declared.questions.Asked.{Asked}
 use Rattle.asking.specs.declared.questions.Asked.TheVariants.{Whole, Text}
 use Rattle.runner.specs.declared.running.Outcome.{Outcome}
@@ -42,9 +43,9 @@ pub record Seen : Type 0 where
   pub outcome : Outcome
   pub output : List ℕ
   pub steps : ℕ
-  pub asked : Asked
+  pub asked : Result Asked Refusal
   pub space : List ℕ
-  pub verdict : Verdict
+  pub verdict : Result (Unit {0}) Fault
 
 -- a recipe, the bytes of its string space, its budget, the variable that is asked for after it, and what must be seen
 pub record Example : Type 0 where
@@ -62,7 +63,7 @@ abbrev lot : String
 lot = "10 A$=\"LOT \"\n20 FOR I=1 TO 2\n30 PRINT A$;I\n40 NEXT I"
 
 -- a recipe that the check passes, with 100 steps; one variable of it
-abbrev passes : String → ℕ → Outcome → String → ℕ → String → Asked → String → Example
+abbrev passes : String → ℕ → Outcome → String → ℕ → String → Result Asked Refusal → String → Example
 passes recipe space outcome output steps variable asked front =
     record {
       recipe = recipe;
@@ -75,29 +76,29 @@ passes recipe space outcome output steps variable asked front =
         steps = steps;
         asked = asked;
         space = zeroed front space;
-        verdict = Passed;
+        verdict = Ok tt;
       };
     }
 
 pub starred : List Example
 starred =
     -- space 16: 18 bytes of output, 6 steps, I is 3; 8 suffices; 7 gives 14 in 30 with no output
-    passes lot 16 Ended "LOT  1 \r\nLOT  2 \r\n" 6 "I" (Whole 3) "LOT "
-    ∷ passes lot 8 Ended "LOT  1 \r\nLOT  2 \r\n" 6 "I" (Whole 3) "LOT "
-    ∷ passes lot 7 (Failed OutOfStringSpace (line_number 30)) "" 3 "I" (Whole 1) "LOT "
+    passes lot 16 Ended "LOT  1 \r\nLOT  2 \r\n" 6 "I" (Ok (Whole 3)) "LOT "
+    ∷ passes lot 8 Ended "LOT  1 \r\nLOT  2 \r\n" 6 "I" (Ok (Whole 3)) "LOT "
+    ∷ passes lot 7 (Failed OutOfStringSpace (line_number 30)) "" 3 "I" (Ok (Whole 1)) "LOT "
     -- A$ of 4 bytes: 20 bytes are needed
-    ∷ passes "10 A$=\"LOT \"\n20 A$=A$+A$" 20 Ended "" 2 "A$" (Text (record { 0 = 0 }) 8) "LOT LOT "
-    ∷ passes "10 A$=\"LOT \"\n20 A$=A$+A$" 19 (Failed OutOfStringSpace (line_number 20)) "" 2 "A$" (Text (record { 0 = 0 }) 4) "LOT "
+    ∷ passes "10 A$=\"LOT \"\n20 A$=A$+A$" 20 Ended "" 2 "A$" (Ok (Text (record { 0 = 0 }) 8)) "LOT LOT "
+    ∷ passes "10 A$=\"LOT \"\n20 A$=A$+A$" 19 (Failed OutOfStringSpace (line_number 20)) "" 2 "A$" (Ok (Text (record { 0 = 0 }) 4)) "LOT "
     -- a negative number is asked for as its word
-    ∷ passes "10 A=-7\\2:PRINT A" 0 Ended "-3 \r\n" 2 "A" (Whole 65533) ""
-    ∷ passes "10 A=-7 MOD 2:PRINT A" 0 Ended "-1 \r\n" 2 "A" (Whole 65535) ""
-    ∷ passes "10 A=7 MOD -2:PRINT A" 0 Ended " 1 \r\n" 2 "A" (Whole 1) ""
-    ∷ passes "10 A=32767+1" 0 (Failed Overflow (line_number 10)) "" 1 "A" (Whole 0) ""
-    ∷ passes "10 A=&H8000\\-1" 0 (Failed Overflow (line_number 10)) "" 1 "A" (Whole 0) ""
-    ∷ passes "10 A=&H8000 MOD -1:PRINT A" 0 Ended " 0 \r\n" 2 "A" (Whole 0) ""
-    ∷ passes "10 A=INSTR(4,\"ABCDEB\",\"B\"):PRINT A" 7 Ended " 6 \r\n" 2 "A" (Whole 6) ""
-    ∷ passes "10 A=INSTR(\"\",\"\"):PRINT A" 0 Ended " 0 \r\n" 2 "A" (Whole 0) ""
-    ∷ passes "10 A=-1 AND 8:PRINT A" 0 Ended " 8 \r\n" 2 "A" (Whole 8) ""
+    ∷ passes "10 A=-7\\2:PRINT A" 0 Ended "-3 \r\n" 2 "A" (Ok (Whole 65533)) ""
+    ∷ passes "10 A=-7 MOD 2:PRINT A" 0 Ended "-1 \r\n" 2 "A" (Ok (Whole 65535)) ""
+    ∷ passes "10 A=7 MOD -2:PRINT A" 0 Ended " 1 \r\n" 2 "A" (Ok (Whole 1)) ""
+    ∷ passes "10 A=32767+1" 0 (Failed Overflow (line_number 10)) "" 1 "A" (Ok (Whole 0)) ""
+    ∷ passes "10 A=&H8000\\-1" 0 (Failed Overflow (line_number 10)) "" 1 "A" (Ok (Whole 0)) ""
+    ∷ passes "10 A=&H8000 MOD -1:PRINT A" 0 Ended " 0 \r\n" 2 "A" (Ok (Whole 0)) ""
+    ∷ passes "10 A=INSTR(4,\"ABCDEB\",\"B\"):PRINT A" 7 Ended " 6 \r\n" 2 "A" (Ok (Whole 6)) ""
+    ∷ passes "10 A=INSTR(\"\",\"\"):PRINT A" 0 Ended " 0 \r\n" 2 "A" (Ok (Whole 0)) ""
+    ∷ passes "10 A=-1 AND 8:PRINT A" 0 Ended " 8 \r\n" 2 "A" (Ok (Whole 8)) ""
     -- the check says 13, the run ends
     ∷ record {
       recipe = "10 IF 0 THEN A$=5";
@@ -108,9 +109,9 @@ starred =
         outcome = Ended;
         output = [];
         steps = 1;
-        asked = Text (record { 0 = 0 }) 0;
+        asked = Ok (Text (record { 0 = 0 }) 0);
         space = [];
-        verdict = Faulty TypeMismatch (line_number 10);
+        verdict = Err (Faulty TypeMismatch (line_number 10));
       };
     }
     -- the empty text, with no step to spare
@@ -119,7 +120,7 @@ starred =
       space = 0;
       budget = 0;
       variable = "A";
-      seen = record { outcome = Ended; output = []; steps = 0; asked = Whole 0; space = []; verdict = Passed };
+      seen = record { outcome = Ended; output = []; steps = 0; asked = Ok (Whole 0); space = []; verdict = Ok tt };
     }
     ∷ []
 

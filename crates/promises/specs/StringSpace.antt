@@ -1,5 +1,5 @@
 -- When the string space is asked for bytes, and which strings are live then.
-use Rattle.std.specs.Prelude.{◌≡◌, true, List, [], ◌∷◌, ◌++◌, ℕ, suc, ◌+◌, ◌≤◌, ◌<◌, length}
+use Rattle.std.specs.Prelude.{◌≡◌, true, List, [], ◌∷◌, ◌++◌, ℕ, suc, ◌+◌, ◌≤◌, ◌<◌, length, Ok}
 use Rattle.whole.specs.declared.arithmetic.Operator.{Operator}
 use Rattle.whole.specs.declared.arithmetic.Operator.TheVariants.{Add}
 use Rattle.whole.specs.Texts.{longest_string}
@@ -9,7 +9,6 @@ use Rattle.words.specs.declared.places.LineNumber.{LineNumber}
 use Rattle.words.specs.declared.symbols.Function.{Function}
 use Rattle.loader.specs.Lines.{Line, lines_of}
 use Rattle.loader.specs.Loading.{load_of}
-use Rattle.loader.specs.declared.loading.Loaded.TheVariants.{Fine}
 use Rattle.grammar.specs.Trees as tree
 use Rattle.grammar.specs.Trees.{Formula, Arguments, Variable, Item, Statement, Part}
 use Rattle.grammar.specs.Functions.{wants}
@@ -152,7 +151,7 @@ pub data Begins (program : List ℕ) : ℕ → Standing → List Line → ℕ �
 pub record AsksTooMuch (program lines : List ℕ) (lent : Lent) (budget : ℕ) (l : LineNumber) : Type 0 where
   pub small : lent.space ≤ longest_space
   pub few : lent.records ≤ most_records
-  pub loads : load_of program ≡ Fine
+  pub loads : load_of program ≡ Ok tt
   pub from : List Line
   pub numbered : line_number_of from ≡ l
   pub place : ℕ

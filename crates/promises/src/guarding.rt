@@ -3,20 +3,14 @@ ghost use Rattle.std.specs.Prelude.{◌≡◌, true};
 ghost use Rattle.machine.specs.Machine.{lent_by};
 ghost use Rattle.promises.specs.Guarded.{guarded_run, guarded_answer, guarded_space, guarded_room, held_as, run_as, ends_checked};
 
-use checker::{Verdict, check_recipe};
+use checker::{Fault, check_recipe};
 use runner::{Outcome, Ran, run_with};
 use variables::Tables;
 
-// The check did not pass it, and nothing was run; or how the run came out.
-#[derive(Clone, Copy)]
-pub enum CheckedOutcome {
-    NotPassed(Verdict),
-    Run(Outcome),
-}
-
+// How the run came out; or why the check did not pass the recipe, and nothing was run.
 #[derive(Clone, Copy)]
 pub struct CheckedRun {
-    pub outcome: CheckedOutcome,
+    pub outcome: Result<Outcome, Fault>,
     pub steps: u32,
     pub written: usize,
     pub taken: usize,
@@ -24,11 +18,11 @@ pub struct CheckedRun {
 }
 
 // What is answered where nothing was run: nothing lent has changed.
-fn held(verdict: Verdict, tables: Tables) -> CheckedRun
-    ensures { result ≡ held_as verdict tables }
+fn held(fault: Fault, tables: Tables) -> CheckedRun
+    ensures { result ≡ held_as fault tables }
 {
     CheckedRun {
-        outcome: CheckedOutcome::NotPassed(verdict),
+        outcome: Err(fault),
         steps: 0,
         written: 0,
         taken: 0,
@@ -36,18 +30,17 @@ fn held(verdict: Verdict, tables: Tables) -> CheckedRun
     }
 }
 
-// What is answered of a run.
-fn let_through(ran: Ran) -> CheckedRun
-    ensures { result ≡ run_as ran }
-{
-    let outcome = ran.outcome;
-    let tables = ran.tables;
-    CheckedRun {
-        outcome: CheckedOutcome::Run(outcome),
-        steps: ran.steps,
-        written: ran.written,
-        taken: ran.taken,
-        tables,
+impl From<Ran> for CheckedRun {
+    ghost from_gives = { λ ran checked. checked ≡ run_as ran };
+
+    fn from(ran: Ran) -> CheckedRun {
+        CheckedRun {
+            outcome: Ok(ran.outcome),
+            steps: ran.steps,
+            written: ran.written,
+            taken: ran.taken,
+            tables: ran.tables,
+        }
     }
 }
 
@@ -67,7 +60,7 @@ pub fn run_checked(
         × (ends_checked result.outcome ≡ true))) }
 {
     match check_recipe(text) {
-        Verdict::Passed => let_through(run_with(
+        Ok(()) => CheckedRun::from(run_with(
             text,
             input,
             space,
@@ -77,7 +70,6 @@ pub fn run_checked(
             budget,
             tables,
         )),
-        Verdict::Refused(refusal, place) => held(Verdict::Refused(refusal, place), tables),
-        Verdict::Faulty(error, line) => held(Verdict::Faulty(error, line), tables),
+        Err(fault) => held(fault, tables),
     }
 }

@@ -5,5 +5,5 @@
 mod guarding;
 mod holding;
 
-pub use guarding::{CheckedOutcome, CheckedRun, run_checked};
+pub use guarding::{CheckedRun, run_checked};
 pub use holding::demands_hold;

@@ -1,4 +1,5 @@
 -- What a walk comes to for who judges a line, and for who looks for the ELSE of an IF.
+use Rattle.std.specs.Prelude.{None, Option, Some, Result, Err}
 use mathlib.Core.Path.{◌≡◌, refl, sym, ◌∙◌, ap}
 use mathlib.Core.Bool.{Bool, true, false, ◌&&◌, and_assoc, and-true}
 use mathlib.Core.List.{List, [], ◌∷◌, append-nil}
@@ -22,10 +23,8 @@ use Rattle.statements.specs.bridge.Answers.{fits, begun_answer}
 use Rattle.statements.specs.declared.reading.StatementRead.{StatementRead}
 use Rattle.reader.specs.Lines.{too_deep, holds, judged_read, judgement, judged_as, judged_of, else_after, else_of}
 use Rattle.reader.specs.bridge.Walking.{follows_done, follow_of, onward_of, over, stray, Visited, stuck, visited, ahead, rest_at, resume, walk_from, walk_on, verdict_of, tallied_of}
-use Rattle.reader.specs.declared.branches.Start.{Start}
-use Rattle.reader.specs.declared.branches.Start.TheVariants as start
-use Rattle.reader.specs.declared.lines.Judged.{Judged}
-use Rattle.reader.specs.declared.lines.Judged.TheVariants.{Unreadable}
+use Rattle.reader.specs.declared.lines.LineFault.{LineFault}
+use Rattle.reader.specs.declared.lines.LineFault.TheVariants.{Unreadable}
 use Rattle.reader.specs.declared.lines.Tally.{Tally}
 use Rattle.reader.specs.declared.walking.Onward.{Onward}
 use Rattle.reader.proofs.Walks.{Itself, stepped}
@@ -33,11 +32,11 @@ use Rattle.reader.proofs.Walks.{Itself, stepped}
 -- ---- the verdict
 
 -- of the rest of a line, after what was tallied
-abbrev pub verdict_by : Tally → Visited → Judged
-verdict_by t stuck = Unreadable
+abbrev pub verdict_by : Tally → Visited → Result Bool LineFault
+verdict_by t stuck = Err Unreadable
 verdict_by t (visited xs over) =
     verdict_of (record { deepest = max t.deepest (deepest_in (heads xs)); typed = t.typed && all_typed (heads xs) })
-verdict_by t (visited xs (stray q)) = Unreadable
+verdict_by t (visited xs (stray q)) = Err Unreadable
 
 abbrev pub untallied : Tally
 untallied = record { deepest = 0; typed = true }
@@ -108,7 +107,7 @@ module _ (s : List ℕ) (k : ℕ) (t : Tally) (own : Part) where
       verdict_fronts t own (depth_of c) (is_whole (sort_of c)) (walk_from s true (suc k) u.next.0) (ap deepest h.0 ∙ z) h.1.0
 
 -- from a statement that was read and tallied to what follows it
-pub verdict_steps : (s : List ℕ) (first : Bool) (k p : ℕ) (t : Tally) {read : StatementRead} {o : Onward} {t' : Tally} {j : Judged}
+pub verdict_steps : (s : List ℕ) (first : Bool) (k p : ℕ) (t : Tally) {read : Option StatementRead} {o : Option Onward} {t' : Tally} {j : Result Bool LineFault}
     → read ≡ begun_answer (begun_at s first p) → t' ≡ tallied_of t read → o ≡ onward_of k (follow_of read)
     → verdict_by t (walk_from s first k p) ≡ j → verdict_by t' (walk_on s o) ≡ j
 verdict_steps s first k p t e f i h =
@@ -139,10 +138,10 @@ held s e = by_reading (read_line s) e
 
 -- ---- the ELSE of an IF
 
-abbrev pub else_by : Visited → Start
-else_by stuck = start.None
-else_by (visited xs over) = start.None
-else_by (visited xs (stray q)) = start.At q
+abbrev pub else_by : Visited → Option Place
+else_by stuck = None
+else_by (visited xs over) = None
+else_by (visited xs (stray q)) = Some q
 
 else_by_lem : (s : List ℕ) (r : PartReading) → else_by (resume s 0 r) ≡ else_after r
 unfolding rest_at
@@ -159,7 +158,7 @@ else_fronts xs stuck = refl
 else_fronts xs (visited ys over) = refl
 else_fronts xs (visited ys (stray q)) = refl
 
-pub else_steps : (s : List ℕ) (first : Bool) (k p : ℕ) {read : StatementRead} {o : Onward} {b : Start} → read ≡ begun_answer (begun_at s first p)
+pub else_steps : (s : List ℕ) (first : Bool) (k p : ℕ) {read : Option StatementRead} {o : Option Onward} {b : Option Place} → read ≡ begun_answer (begun_at s first p)
     → o ≡ onward_of k (follow_of read) → else_by (walk_from s first k p) ≡ b → else_by (walk_on s o) ≡ b
 else_steps s first k p {o = o} e i h =
     let w = stepped s first k p e i in sym (else_fronts (w.own ∷ []) (walk_on s o)) ∙ ap else_by (sym w.is) ∙ h

@@ -1,4 +1,6 @@
 -- The statements of a line that reads, one after the other in text order.
+use Rattle.std.specs.Prelude.{Option, None, Some}
+use Rattle.words.specs.declared.places.Place.{Place}
 use mathlib.Core.Path.{◌≡◌, refl, sym, ◌∙◌, ap}
 use mathlib.Core.Bool.{true, false, false≢true}
 use mathlib.Core.List.{List, [], ◌∷◌, ◌++◌, append-nil}
@@ -18,7 +20,6 @@ use Rattle.statements.proofs.Firsts.{true_part}
 use Rattle.statements.proofs.Parts.{weight_at}
 use Rattle.statements.proofs.Views.{line_view}
 use Rattle.reader.specs.bridge.Walking.{follow_of, start_of, onward_of, over, Visited, stuck, visited, ahead, rest_at, resume, walk_from, walk_on, Onto, StartsAs, Further}
-use Rattle.reader.specs.declared.branches.Start.{Start}
 use Rattle.reader.specs.declared.walking.Follow.{Follow}
 use Rattle.reader.specs.declared.walking.Follow.TheVariants as follow
 use Rattle.reader.proofs.Walks.{Itself, stepped, Lighter, follow_lighter}
@@ -64,16 +65,16 @@ true_walk : (s : List ℕ) (k q : ℕ) {xs : List Part} (r : PartReading) → pa
 true_walk s k q bad_part e h = never (cc)
 true_walk s k q (good_part p t) e h = record { waiting = k; visits = ap (resume s k) (true_part s q e) ∙ h }
 
-starts_by : (s : List ℕ) (k : ℕ) (f : Follow) {xs : List Part} → walk_on s (onward_of k f) ≡ visited xs over → StartsAs s (start_of f) xs
-starts_by s k (follow.Statement q) e = true_walk s k q.0 (part_of s false q.0) refl e
-starts_by s k (follow.Part q) e = record { waiting = suc k; visits = e }
-starts_by s zero (follow.Else q) e = never (cc)
-starts_by s (suc k) (follow.Else q) e = record { waiting = k; visits = e }
-starts_by s k follow.End e = cc
-starts_by s k follow.Nothing e = never (cc)
+starts_by : (s : List ℕ) (k : ℕ) (f : Option Follow) {xs : List Part} → walk_on s (onward_of k f) ≡ visited xs over → StartsAs s (start_of f) xs
+starts_by s k (Some (follow.Statement q)) e = true_walk s k q.0 (part_of s false q.0) refl e
+starts_by s k (Some (follow.Part q)) e = record { waiting = suc k; visits = e }
+starts_by s zero (Some (follow.Else q)) e = never (cc)
+starts_by s (suc k) (Some (follow.Else q)) e = record { waiting = k; visits = e }
+starts_by s k (Some follow.End) e = cc
+starts_by s k None e = never (cc)
 
 -- the part that the statement at a place begins, and those after it
-pub record Visit (s : List ℕ) (p : ℕ) (next : Start) (xs : List Part) : Type 0 where
+pub record Visit (s : List ℕ) (p : ℕ) (next : Option Place) (xs : List Part) : Type 0 where
   pub own : Part
   pub left : List Part
   pub all : xs ≡ own ∷ left
@@ -110,18 +111,18 @@ module _ (s : List ℕ) (p k : ℕ) {xs : List Part} where
         on = starts_by s k f b.is;
       }
 
-pub visit : (s : List ℕ) (p : ℕ) {xs : List Part} {read : StatementRead} {next : Start} → Onto s p xs → read ≡ begun_answer (begun_at s true p)
+pub visit : (s : List ℕ) (p : ℕ) {xs : List Part} {read : Option StatementRead} {next : Option Place} → Onto s p xs → read ≡ begun_answer (begun_at s true p)
     → next ≡ start_of (follow_of read) → Visit s p next xs
 visit s p o e i = rw (i, e) (visit_by s p o.waiting o.visits)
 
 -- less is left to read
-further_by : (s : List ℕ) (p : ℕ) (f : Follow) → Lighter s (weight_at s p) f → Further s p (start_of f)
-further_by s p (follow.Statement q) h = h
-further_by s p (follow.Part q) h = h
-further_by s p (follow.Else q) h = h
-further_by s p follow.End h = tt
-further_by s p follow.Nothing h = tt
+further_by : (s : List ℕ) (p : ℕ) (f : Option Follow) → Lighter s (weight_at s p) f → Further s p (start_of f)
+further_by s p (Some (follow.Statement q)) h = h
+further_by s p (Some (follow.Part q)) h = h
+further_by s p (Some (follow.Else q)) h = h
+further_by s p (Some follow.End) h = tt
+further_by s p None h = tt
 
-pub further : (s : List ℕ) (p : ℕ) {read : StatementRead} {next : Start} → read ≡ begun_answer (begun_at s true p) → next ≡ start_of (follow_of read)
+pub further : (s : List ℕ) (p : ℕ) {read : Option StatementRead} {next : Option Place} → read ≡ begun_answer (begun_at s true p) → next ≡ start_of (follow_of read)
     → Further s p next
 further s p e i = rw (i, e) (further_by s p (follow_of (begun_answer (begun_at s true p))) (follow_lighter s true p))

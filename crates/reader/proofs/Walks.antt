@@ -1,5 +1,6 @@
 -- The walk over a line, statement by statement in text order, visits just the parts that the statements of the line begin. One law, over
 -- any line, read or not, and whatever IFs wait; who walks asks of each statement what it needs.
+use Rattle.std.specs.Prelude.{None, Option, Some}
 use mathlib.Core.Path.{◌≡◌, refl, sym, ◌∙◌, ap}
 use mathlib.Core.Bool.{Bool, true, false}
 use mathlib.Core.List.{List, [], ◌∷◌, ◌++◌, append_assoc}
@@ -12,7 +13,6 @@ use Rattle.words.specs.declared.symbols.Word.TheVariants.{Else}
 use Rattle.words.proofs.Choices.{by_test}
 use Rattle.grammar.specs.Tests.{is_symbol, is_keyword, ends_line}
 use Rattle.grammar.specs.Trees.{Formula, Statement, empty, if_then, if_else, Part, last, more}
-use Rattle.grammar.specs.declared.tests.NamedLine.TheVariants.{NoLine}
 use Rattle.grammar.proofs.Endings.{statement_ends, else_goes_on}
 use Rattle.expressions.specs.Types.{is_whole, sort_of}
 use Rattle.skimming.specs.bridge.Remaining.{weight}
@@ -37,7 +37,7 @@ ahead_twice xs ys (visited zs e) = ap (λ l. visited l e) (append_assoc xs ys zs
 abbrev pub Itself : Begun → Statement → Type 0
 Itself bad x = Unit {0}
 Itself (done y t) x = x ≡ y
-Itself (choice c t) x = (formulas_of x ≡ c ∷ []) × ((rightly_typed x ≡ is_whole (sort_of c)) × (named_line x ≡ NoLine))
+Itself (choice c t) x = (formulas_of x ≡ c ∷ []) × ((rightly_typed x ≡ is_whole (sort_of c)) × (named_line x ≡ None))
 
 -- a walk over what was read comes to one part, and goes on
 record Fronted (p : ℕ) (b : Begun) (from onto : Visited) : Type 0 where
@@ -47,7 +47,7 @@ record Fronted (p : ℕ) (b : Begun) (from onto : Visited) : Type 0 where
   itself : Itself b (head_of own)
 
 -- the token that ends a part: ELSE, or the line's end
-rest_else : (s : List ℕ) (k : ℕ) (t : Scanned) → is_keyword Else t.token ≡ true → rest_at s k t ≡ walk_on s (onward_of k (follow.Else t.next))
+rest_else : (s : List ℕ) (k : ℕ) (t : Scanned) → is_keyword Else t.token ≡ true → rest_at s k t ≡ walk_on s (onward_of k (Some (follow.Else t.next)))
 unfolding rest_at
 rest_else s zero t e = rw e
 rest_else s (suc k) t e = rw e
@@ -116,13 +116,13 @@ module _ (s : List ℕ) (k : ℕ) where
   fronted_by p (choice c t) a = choice_fronted p c t (part_of s true t.next.0)
 
 -- from a statement that was read to what the walk comes to after it
-pub record Stepped (s : List ℕ) (first : Bool) (k p : ℕ) (o : Onward) : Type 0 where
+pub record Stepped (s : List ℕ) (first : Bool) (k p : ℕ) (o : Option Onward) : Type 0 where
   pub own : Part
   pub is : walk_from s first k p ≡ ahead (own ∷ []) (walk_on s o)
   pub at : place_of own ≡ p
   pub itself : Itself (begun_at s first p) (head_of own)
 
-pub stepped : (s : List ℕ) (first : Bool) (k p : ℕ) {read : StatementRead} {o : Onward} → read ≡ begun_answer (begun_at s first p)
+pub stepped : (s : List ℕ) (first : Bool) (k p : ℕ) {read : Option StatementRead} {o : Option Onward} → read ≡ begun_answer (begun_at s first p)
     → o ≡ onward_of k (follow_of read) → Stepped s first k p o
 stepped s first k p e i =
     let f = fronted_by s k p (begun_at s first p) (begun_alone s first p) in
@@ -131,12 +131,12 @@ stepped s first k p e i =
 -- ---- the walk ends, and few IFs wait
 
 -- what follows weighs less
-abbrev pub Lighter : List ℕ → ℕ → Follow → Type 0
-Lighter s w (follow.Statement q) = weight_at s q.0 + 4 ≤ w
-Lighter s w (follow.Part q) = weight_at s q.0 + 4 ≤ w
-Lighter s w (follow.Else q) = weight_at s q.0 + 4 ≤ w
-Lighter s w follow.End = Unit {0}
-Lighter s w follow.Nothing = Unit {0}
+abbrev pub Lighter : List ℕ → ℕ → Option Follow → Type 0
+Lighter s w (Some (follow.Statement q)) = weight_at s q.0 + 4 ≤ w
+Lighter s w (Some (follow.Part q)) = weight_at s q.0 + 4 ≤ w
+Lighter s w (Some (follow.Else q)) = weight_at s q.0 + 4 ≤ w
+Lighter s w (Some follow.End) = Unit {0}
+Lighter s w None = Unit {0}
 
 done_lighter : (s : List ℕ) (w : ℕ) (t : Scanned) → weight s t ≤ w → Lighter s w (follows_done t)
 done_lighter s w t h =
@@ -153,30 +153,30 @@ pub follow_lighter : (s : List ℕ) (first : Bool) (p : ℕ) → Lighter s (weig
 follow_lighter s first p = lighter_by s (weight_at s p) (begun_at s first p) (begun_within s first p)
 
 -- and with four for each IF that waits it weighs no more
-abbrev pub Fewer : List ℕ → ℕ → ℕ → Onward → Type 0
-Fewer s k w (onward.Statement o) = (weight_at s o.at.0 + 4 ≤ w) × (4 * o.waiting + weight_at s o.at.0 ≤ 4 * k + w)
-Fewer s k w (onward.Else q) = Unit {0}
-Fewer s k w onward.End = Unit {0}
-Fewer s k w onward.Nothing = Unit {0}
+abbrev pub Fewer : List ℕ → ℕ → ℕ → Option Onward → Type 0
+Fewer s k w (Some (onward.Statement o)) = (weight_at s o.at.0 + 4 ≤ w) × (4 * o.waiting + weight_at s o.at.0 ≤ 4 * k + w)
+Fewer s k w (Some (onward.Else q)) = Unit {0}
+Fewer s k w (Some onward.End) = Unit {0}
+Fewer s k w None = Unit {0}
 
-fewer_by : (s : List ℕ) (k w : ℕ) (f : Follow) → Lighter s w f → Fewer s k w (onward_of k f)
-fewer_by s k w (follow.Statement q) h = (h, omega arith)
-fewer_by s k w (follow.Part q) h = (h, omega arith)
-fewer_by s zero w (follow.Else q) h = tt
-fewer_by s (suc k) w (follow.Else q) h = (h, omega arith)
-fewer_by s k w follow.End h = tt
-fewer_by s k w follow.Nothing h = tt
+fewer_by : (s : List ℕ) (k w : ℕ) (f : Option Follow) → Lighter s w f → Fewer s k w (onward_of k f)
+fewer_by s k w (Some (follow.Statement q)) h = (h, omega arith)
+fewer_by s k w (Some (follow.Part q)) h = (h, omega arith)
+fewer_by s zero w (Some (follow.Else q)) h = tt
+fewer_by s (suc k) w (Some (follow.Else q)) h = (h, omega arith)
+fewer_by s k w (Some follow.End) h = tt
+fewer_by s k w None h = tt
 
-pub fewer : (s : List ℕ) (first : Bool) (k p : ℕ) {read : StatementRead} {o : Onward} → read ≡ begun_answer (begun_at s first p)
+pub fewer : (s : List ℕ) (first : Bool) (k p : ℕ) {read : Option StatementRead} {o : Option Onward} → read ≡ begun_answer (begun_at s first p)
     → o ≡ onward_of k (follow_of read) → Fewer s k (weight_at s p) o
 fewer s first k p e i =
     rw (i, e) (fewer_by s k (weight_at s p) (follow_of (begun_answer (begun_at s first p))) (follow_lighter s first p))
 
 -- ---- the code's count of those that wait
 
-pub else_none : (k : ℕ) (q : Place) → k ≡ 0 → onward.Else q ≡ onward_of k (follow.Else q)
+pub else_none : (k : ℕ) (q : Place) → k ≡ 0 → Some (onward.Else q) ≡ onward_of k (Some (follow.Else q))
 else_none k q e = rw e
 
-pub else_some : (k : ℕ) (q : Place) → 1 ≤ k → onward.Statement (record { at = q; first = true; waiting = k - 1 }) ≡ onward_of k (follow.Else q)
+pub else_some : (k : ℕ) (q : Place) → 1 ≤ k → Some (onward.Statement (record { at = q; first = true; waiting = k - 1 })) ≡ onward_of k (Some (follow.Else q))
 else_some zero q h = absurd (omega arith)
 else_some (suc k) q h = let e : suc k - 1 ≡ k = omega arith in rw e

@@ -1,5 +1,5 @@
 -- Worked examples, computed by the checker: how lines are judged, by the bytes after their number.
-use Rattle.std.specs.Prelude.{◌≡◌, refl, true, false, List, [], ◌∷◌, map}
+use Rattle.std.specs.Prelude.{◌≡◌, refl, Bool, true, false, Result, Ok, Err, List, [], ◌∷◌, map}
 use Prim.Native.String.{String}
 use Rattle.whole.specs.Bytes.{bytes, leading}
 use Rattle.whole.specs.Digits.{is_digit, value_from}
@@ -18,64 +18,64 @@ use Rattle.expressions.specs.Types.{all_meet, sort_of, sorts_of, depth_of, deepe
 use Rattle.statements.specs.Statements.{items_at, print_at, for_at, input_at, begun_at, part_at, read_line}
 use Rattle.statements.specs.Parts.{deepest, all_some, parts_of, heads, deepest_in, all_typed}
 use Rattle.reader.specs.Lines.{judged_of}
-use Rattle.reader.specs.declared.lines.Judged.{Judged}
-use Rattle.reader.specs.declared.lines.Judged.TheVariants.{Unreadable, TooDeep, Reads}
+use Rattle.reader.specs.declared.lines.LineFault.{LineFault}
+use Rattle.reader.specs.declared.lines.LineFault.TheVariants.{Unreadable, TooDeep}
 
 pub record Example : Type 0 where
   pub line : String
-  pub judged : Judged
+  pub judged : Result Bool LineFault
 
 infix 3 ◌is◌
-abbrev ◌is◌ : String → Judged → Example
+abbrev ◌is◌ : String → Result Bool LineFault → Example
 l is j = record { line = l; judged = j }
 
 pub lines : List Example
 lines =
     -- an empty statement is allowed
-    ("" is Reads true)
-    ∷ ("::" is Reads true)
-    ∷ (" 'all of it" is Reads true)
+    ("" is Ok true)
+    ∷ ("::" is Ok true)
+    ∷ (" 'all of it" is Ok true)
     -- statements
-    ∷ (" LET A=1:B$=\"x\"" is Reads true)
-    ∷ (" PRINT A;B$,,1;" is Reads true)
-    ∷ (" ? A 1" is Unreadable)
-    ∷ (" FOR I=1 TO 10 STEP -1:NEXT I:NEXT" is Reads true)
-    ∷ (" LINE INPUT \"lot\";A$" is Reads true)
-    ∷ (" GOTO 65529:GOSUB 00010:RETURN" is Reads true)
-    ∷ (" GOTO 65530" is Unreadable)
-    ∷ (" END:STOP:REM (((" is Reads true)
-    ∷ (" 100" is Unreadable)
+    ∷ (" LET A=1:B$=\"x\"" is Ok true)
+    ∷ (" PRINT A;B$,,1;" is Ok true)
+    ∷ (" ? A 1" is Err Unreadable)
+    ∷ (" FOR I=1 TO 10 STEP -1:NEXT I:NEXT" is Ok true)
+    ∷ (" LINE INPUT \"lot\";A$" is Ok true)
+    ∷ (" GOTO 65529:GOSUB 00010:RETURN" is Ok true)
+    ∷ (" GOTO 65530" is Err Unreadable)
+    ∷ (" END:STOP:REM (((" is Ok true)
+    ∷ (" 100" is Err Unreadable)
     -- IF and its parts; ELSE goes with the nearest IF that has none
-    ∷ (" IF A THEN 100 ELSE 200" is Reads true)
-    ∷ (" IF A GOTO 100:END ELSE STOP" is Reads true)
-    ∷ (" IF A GOTO END" is Unreadable)
-    ∷ (" IF A THEN IF B THEN C=1 ELSE C=2 ELSE C=3" is Reads true)
-    ∷ (" IF A THEN C=1 ELSE C=2 ELSE C=3" is Unreadable)
-    ∷ (" IF A THEN PRINT \"ELSE\"" is Reads true)
-    ∷ (" PRINT 1 ELSE PRINT 2" is Unreadable)
+    ∷ (" IF A THEN 100 ELSE 200" is Ok true)
+    ∷ (" IF A GOTO 100:END ELSE STOP" is Ok true)
+    ∷ (" IF A GOTO END" is Err Unreadable)
+    ∷ (" IF A THEN IF B THEN C=1 ELSE C=2 ELSE C=3" is Ok true)
+    ∷ (" IF A THEN C=1 ELSE C=2 ELSE C=3" is Err Unreadable)
+    ∷ (" IF A THEN PRINT \"ELSE\"" is Ok true)
+    ∷ (" PRINT 1 ELSE PRINT 2" is Err Unreadable)
     -- one minus sign; NOT where an operand of AND or a looser operator may stand
-    ∷ (" A=7 MOD -2" is Reads true)
-    ∷ (" A=--1" is Unreadable)
-    ∷ (" A=NOT NOT B AND NOT C" is Reads true)
-    ∷ (" A=B=NOT C" is Unreadable)
+    ∷ (" A=7 MOD -2" is Ok true)
+    ∷ (" A=--1" is Err Unreadable)
+    ∷ (" A=NOT NOT B AND NOT C" is Ok true)
+    ∷ (" A=B=NOT C" is Err Unreadable)
     -- functions by the number of their arguments
-    ∷ (" A=INSTR(2,A$,B$)+INSTR(A$,B$)" is Reads true)
-    ∷ (" A=LEN()" is Unreadable)
-    ∷ (" A$=MID$(A$,1,2,3)" is Unreadable)
+    ∷ (" A=INSTR(2,A$,B$)+INSTR(A$,B$)" is Ok true)
+    ∷ (" A=LEN()" is Err Unreadable)
+    ∷ (" A$=MID$(A$,1,2,3)" is Err Unreadable)
     -- types, in any branch
-    ∷ (" A$=5" is Reads false)
-    ∷ (" IF 0 THEN A$=5" is Reads false)
-    ∷ (" IF 0 THEN A=1 ELSE A=\"x\"" is Reads false)
-    ∷ (" IF A$ THEN 10" is Reads false)
-    ∷ (" A=A$+1" is Reads false)
-    ∷ (" A=A$<B$" is Reads true)
-    ∷ (" NEXT A$" is Reads false)
-    ∷ (" A=INSTR(A$,B$,1)" is Reads false)
+    ∷ (" A$=5" is Ok false)
+    ∷ (" IF 0 THEN A$=5" is Ok false)
+    ∷ (" IF 0 THEN A=1 ELSE A=\"x\"" is Ok false)
+    ∷ (" IF A$ THEN 10" is Ok false)
+    ∷ (" A=A$+1" is Ok false)
+    ∷ (" A=A$<B$" is Ok true)
+    ∷ (" NEXT A$" is Ok false)
+    ∷ (" A=INSTR(A$,B$,1)" is Ok false)
     -- eight pairs of parentheses, a function's own included, and nine; what does not read comes first
-    ∷ (" A=((((((((1))))))))" is Reads true)
-    ∷ (" A=(((((((ABS(1))))))))" is Reads true)
-    ∷ (" A=(((((((((1)))))))))" is TooDeep)
-    ∷ (" A=(((((((((1))))))))):END END" is Unreadable)
+    ∷ (" A=((((((((1))))))))" is Ok true)
+    ∷ (" A=(((((((ABS(1))))))))" is Ok true)
+    ∷ (" A=(((((((((1)))))))))" is Err TooDeep)
+    ∷ (" A=(((((((((1))))))))):END END" is Err Unreadable)
     ∷ []
 
 pub lines_hold : map (λ (e : Example). judged_of (bytes e.line)) lines ≡ map (λ (e : Example). e.judged) lines

@@ -8,28 +8,18 @@ use crate::walking::{Follow, Onward, Walk, follows, walk_on};
 use statements::{StatementRead, statement_at};
 use words::Place;
 
-// Where a statement begins, if there is one.
-#[derive(Clone, Copy)]
-pub enum Start {
-    At(Place),
-    None,
-}
-
-// The statement after one that was read, in text order.
-pub fn next_statement(read: StatementRead) -> Start
+// The statement after one, in text order, if it was read and one follows.
+pub fn next_statement(read: Option<StatementRead>) -> Option<Place>
     ensures { result ≡ start_of (follow_of read) }
 {
-    match follows(read) {
-        Follow::Statement(at) => Start::At(at),
-        Follow::Part(at) => Start::At(at),
-        Follow::Else(at) => Start::At(at),
-        Follow::End => Start::None,
-        Follow::Nothing => Start::None,
+    match follows(read?)? {
+        Follow::Statement(at) | Follow::Part(at) | Follow::Else(at) => Some(at),
+        Follow::End => None,
     }
 }
 
 // The ELSE of the IF whose part begins at a place: nested IFs take theirs first.
-pub fn else_of(line: &[u8], part: Place) -> Start
+pub fn else_of(line: &[u8], part: Place) -> Option<Place>
     ensures { result ≡ else_of line.now part }
 {
     let mut walk = Walk {
@@ -38,12 +28,11 @@ pub fn else_of(line: &[u8], part: Place) -> Start
         waiting: 0,
     };
     loop {
-        let read = statement_at(line, walk.at, walk.first);
-        match walk_on(walk.waiting, read) {
+        let read = statement_at(line, walk.at, walk.first)?;
+        match walk_on(walk.waiting, read)? {
             Onward::Statement(next) => walk = next,
-            Onward::Else(at) => return Start::At(at),
-            Onward::End => return Start::None,
-            Onward::Nothing => return Start::None,
+            Onward::Else(at) => return Some(at),
+            Onward::End => return None,
         }
     }
 }

@@ -5,5 +5,5 @@ mod branches;
 mod lines;
 mod walking;
 
-pub use branches::{Start, else_of, next_statement};
-pub use lines::{Judged, judge};
+pub use branches::{else_of, next_statement};
+pub use lines::{LineFault, judge};

@@ -1,19 +1,30 @@
 // The judgement of a line.
 ghost use Rattle.std.specs.Prelude.{◌≡◌};
 ghost use Rattle.reader.specs.Lines.{judged_of};
-ghost use Rattle.reader.specs.bridge.Walking.{verdict_of, with_own, tallied_of};
+ghost use Rattle.reader.specs.bridge.Walking.{error_of, verdict_of, with_own};
 
 use crate::walking::{Onward, Walk, walk_on};
-use expressions::{FormulaRead, larger};
-use statements::{Own, StatementRead, statement_at};
+use expressions::FormulaRead;
+use statements::{Own, statement_at};
+use whole::Error;
 use words::Place;
 
-// A line does not read, is nested too deep, or reads; then whether all its types are right.
+// Why a line holds no part: it does not read, or it is nested too deep.
 #[derive(Clone, Copy)]
-pub enum Judged {
+pub enum LineFault {
     Unreadable,
     TooDeep,
-    Reads(bool),
+}
+
+impl From<LineFault> for Error {
+    ghost from_gives = { λ fault error. error ≡ error_of fault };
+
+    fn from(fault: LineFault) -> Error {
+        match fault {
+            LineFault::Unreadable => Error::Syntax,
+            LineFault::TooDeep => Error::FormulaTooComplex,
+        }
+    }
 }
 
 // What is known of the statements so far: how deep they nest, and whether their types are right.
@@ -23,37 +34,29 @@ pub struct Tally {
     pub typed: bool,
 }
 
-fn tallied(tally: Tally, read: StatementRead) -> Tally
-    ensures { result ≡ tallied_of tally read }
-{
-    match read {
-        StatementRead::Bad => tally,
-        StatementRead::Done(own) => with_own(tally, own),
-        StatementRead::Choice(own) => with_own(tally, own),
+impl Tally {
+    // One statement more.
+    fn with(self, own: Own) -> Tally
+        ensures { result ≡ with_own self own }
+    {
+        Tally {
+            deepest: self.deepest.max(own.deepest),
+            typed: self.typed && own.typed,
+        }
+    }
+
+    fn verdict(self) -> Result<bool, LineFault>
+        ensures { result ≡ verdict_of self }
+    {
+        if FormulaRead::DEEPEST < self.deepest {
+            return Err(LineFault::TooDeep);
+        }
+        Ok(self.typed)
     }
 }
 
-fn with_own(tally: Tally, own: Own) -> Tally
-    ensures { result ≡ with_own tally own }
-{
-    Tally {
-        deepest: larger(tally.deepest, own.deepest),
-        typed: tally.typed && own.typed,
-    }
-}
-
-fn verdict(tally: Tally) -> Judged
-    ensures { result ≡ verdict_of tally }
-{
-    if FormulaRead::DEEPEST < tally.deepest {
-        Judged::TooDeep
-    } else {
-        Judged::Reads(tally.typed)
-    }
-}
-
-// The bytes of a line after its number, judged whole.
-pub fn judge(line: &[u8]) -> Judged
+// The bytes of a line after its number, judged whole: of a line that reads, whether all its types are right.
+pub fn judge(line: &[u8]) -> Result<bool, LineFault>
     ensures { result ≡ judged_of line.now }
 {
     let mut walk = Walk {
@@ -66,13 +69,12 @@ pub fn judge(line: &[u8]) -> Judged
         typed: true,
     };
     loop {
-        let read = statement_at(line, walk.at, walk.first);
-        tally = tallied(tally, read);
-        match walk_on(walk.waiting, read) {
+        let read = statement_at(line, walk.at, walk.first).ok_or(LineFault::Unreadable)?;
+        tally = tally.with(read.own());
+        match walk_on(walk.waiting, read).ok_or(LineFault::Unreadable)? {
             Onward::Statement(next) => walk = next,
-            Onward::End => return verdict(tally),
-            Onward::Else(_) => return Judged::Unreadable,
-            Onward::Nothing => return Judged::Unreadable,
+            Onward::End => return tally.verdict(),
+            Onward::Else(_) => return Err(LineFault::Unreadable),
         }
     }
 }

@@ -1,4 +1,6 @@
 -- The lines of a file, group by group: the first ones, the next one, and all of them.
+use Rattle.std.specs.Prelude.{Ok}
+use Rattle.loader.specs.Refusals.{refused_at}
 use mathlib.Core.Path.{◌≡◌, refl, sym, ap, ◌∙◌, subst}
 use mathlib.Core.Bool.{Bool, true, false, not, cond}
 use mathlib.Core.List.{List, [], ◌∷◌, ◌++◌, append_assoc, append-nil}
@@ -11,6 +13,8 @@ use lib.Ieee.Bits.{is_true, is_false}
 use lib.Ieee.Fits.{eq→eqb}
 use lib.ListN.{length, take, drop, get_or, length-append, length-drop}
 use lib.Seq.{take_at, drop-cons, drop-append-add, drop-drop}
+use Rattle.std.specs.Simd.{first_chunks}
+use Rattle.loader.proofs.Chunks.{chunk_at}
 use Rattle.words.specs.Places.{place}
 use Rattle.loader.specs.declared.refusals.Refusal.TheVariants.{ShortGroup, NoRoom}
 use Rattle.space.specs.Moves.{overlaid, copied}
@@ -18,9 +22,8 @@ use Rattle.space.proofs.Frames.{copied_lies, copied-length}
 use Rattle.readings.specs.Values.{mantissa_of, is_minus, value_of, reading_of}
 use Rattle.readings.specs.Lines.{lines_of}
 use Rattle.readings.specs.Importing.{imported_of, out_after}
-use Rattle.readings.specs.bridge.Groups.{is_number, line_at, lines_to, lines_of_groups}
+use Rattle.readings.specs.bridge.Groups.{is_number, line_for, line_at, lines_to, lines_of_groups}
 use Rattle.readings.specs.declared.values.Reading.TheVariants.{Single, Double}
-use Rattle.readings.specs.declared.importing.Imported.TheVariants.{Done, Refused}
 use Rattle.readings.proofs.Singles.{no_nan}
 
 -- ---- a reading is a number
@@ -39,6 +42,14 @@ unfolding reading_of
 reading_number l m h e = either_number (fits binary32 (value_of l m h e)) (value_of l m h e) (value_number l m h e)
 
 -- ---- the lines of the first groups
+
+-- a group that the file is cut into is the one with its index
+pub group_line : (file : List ℕ) {groups : List (List ℕ)} {n : ℕ} (k : ℕ) → groups ≡ first_chunks 4 n file → k < n
+    → line_for (get_or groups k []) ≡ line_at file k
+unfolding line_for line_at
+group_line file {n = n} k is h =
+    let z : 4 * k + 0 ≡ 4 * k = omega arith in
+    rw (is, chunk_at 4 n k 0 file h (omega arith), chunk_at 4 n k 1 file h (omega arith), chunk_at 4 n k 2 file h (omega arith), chunk_at 4 n k 3 file h (omega arith), z)
 
 module _ (file : List ℕ) where
   pub lines_none : lines_to file 0 ≡ []
@@ -163,7 +174,7 @@ lines_of_groups_lem file =
 
 module _ (file out : List ℕ) where
   pub short : (length file % 4 ≡ 0 → ⊥)
-      → (Refused ShortGroup (place (length file - length file % 4)) ≡ imported_of file (length out)) × (out ≡ out_after file out)
+      → (refused_at ShortGroup (place (length file - length file % 4)) ≡ imported_of file (length out)) × (out ≡ out_after file out)
   unfolding imported_of out_after
   short h =
       let b : eqb (length file % 4) 0 ≡ false = is_false (eqb (length file % 4) 0)
@@ -171,23 +182,23 @@ module _ (file out : List ℕ) where
       rw b (refl, refl)
 
   pub done : length file % 4 ≡ 0 → leb (length (lines_of file)) (length out) ≡ true
-      → (Done (length (lines_of file)) ≡ imported_of file (length out)) × (lines_of file ++ drop (length (lines_of file)) out ≡ out_after file out)
+      → (Ok (length (lines_of file)) ≡ imported_of file (length out)) × (lines_of file ++ drop (length (lines_of file)) out ≡ out_after file out)
   unfolding imported_of out_after
   done h k = let b : eqb (length file % 4) 0 ≡ true = is_true _ (eq→eqb h) in rw (b, k) (refl, refl)
 
   pub no_room : length file % 4 ≡ 0 → leb (length (lines_of file)) (length out) ≡ false
-      → (Refused NoRoom (place 0) ≡ imported_of file (length out)) × (out ≡ out_after file out)
+      → (refused_at NoRoom (place 0) ≡ imported_of file (length out)) × (out ≡ out_after file out)
   unfolding imported_of out_after
   no_room h k = let b : eqb (length file % 4) 0 ≡ true = is_true _ (eq→eqb h) in rw (b, k) (refl, refl)
 
 -- so many bytes as are said to be written are all lines
 count_of : (whole held : Bool) (at₁ at₂ lines count : ℕ)
-    → Done count ≡ cond whole (cond held (Done lines) (Refused NoRoom (place at₁))) (Refused ShortGroup (place at₂)) → count ≡ lines
+    → Ok count ≡ cond whole (cond held (Ok lines) (refused_at NoRoom (place at₁))) (refused_at ShortGroup (place at₂)) → count ≡ lines
 count_of true true at₁ at₂ lines count e = cc
 count_of true false at₁ at₂ lines count e = let none : suc count ≡ count = cc in omega arith
 count_of false held at₁ at₂ lines count e = let none : suc count ≡ count = cc in omega arith
 
-pub done_whole : (file : List ℕ) (room count : ℕ) → Done count ≡ imported_of file room → count ≡ length (lines_of file)
+pub done_whole : (file : List ℕ) (room count : ℕ) → Ok count ≡ imported_of file room → count ≡ length (lines_of file)
 unfolding imported_of
 done_whole file room count e =
     count_of (eqb (length file % 4) 0) (leb (length (lines_of file)) room) 0 (length file - length file % 4) (length (lines_of file)) count e

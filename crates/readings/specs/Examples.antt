@@ -1,5 +1,6 @@
 -- Worked examples, computed by the checker: the paper's three, one of each kind of exponent, lines, and what is refused.
-use Rattle.std.specs.Prelude.{◌≡◌, refl, Bool, true, false, List, [], ◌∷◌, ◌++◌, map, ℕ, ◌*◌, ◌^◌, pos, negsuc}
+use Rattle.loader.specs.Refusals.{refused_at}
+use Rattle.std.specs.Prelude.{◌≡◌, refl, Bool, true, false, List, [], ◌∷◌, ◌++◌, map, ℕ, ◌*◌, ◌^◌, pos, negsuc, Ok}
 use Rattle.std.specs.Int.Count.{count_trailing_zeros}
 use Rattle.std.specs.Float.{fin}
 use Rattle.std.specs.Float.Ieee.{odd, fits, to_bits, size, span, climb}
@@ -12,7 +13,6 @@ use Rattle.readings.specs.Lines.{hex_digits, line_of, lines_of}
 use Rattle.readings.specs.Importing.{imported_of}
 use Rattle.readings.specs.declared.values.Reading.{Reading}
 use Rattle.readings.specs.declared.values.Reading.TheVariants.{Single, Double}
-use Rattle.readings.specs.declared.importing.Imported.TheVariants.{Done, Refused}
 
 -- ---- the paper's three, as exact numbers
 
@@ -72,12 +72,12 @@ unfolding file lines_of line_of reading_of value_of fits odd count_trailing_zero
 lines_hold = refl
 
 -- room for all of it, and a byte less
-pub answers_hold : map (imported_of file) (72 ∷ 71 ∷ []) ≡ Done 72 ∷ Refused NoRoom (place 0) ∷ []
+pub answers_hold : map (imported_of file) (72 ∷ 71 ∷ []) ≡ Ok 72 ∷ refused_at NoRoom (place 0) ∷ []
 unfolding imported_of file lines_of line_of reading_of value_of fits odd count_trailing_zeros to_bits size span climb hex_digits places digit_byte bytes
 answers_hold = refl
 
 -- a short group is refused first
 pub short_hold : map (λ (more : List ℕ). imported_of (file ++ more) 0) ((0 ∷ []) ∷ (0 ∷ 0 ∷ []) ∷ (0 ∷ 0 ∷ 0 ∷ []) ∷ [])
-    ≡ Refused ShortGroup (place 16) ∷ Refused ShortGroup (place 16) ∷ Refused ShortGroup (place 16) ∷ []
+    ≡ refused_at ShortGroup (place 16) ∷ refused_at ShortGroup (place 16) ∷ refused_at ShortGroup (place 16) ∷ []
 unfolding imported_of file
 short_hold = refl

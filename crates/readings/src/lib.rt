@@ -5,5 +5,5 @@ mod importing;
 mod lines;
 mod values;
 
-pub use importing::{Imported, import_readings};
+pub use importing::import_readings;
 pub use values::{Reading, reading_of};

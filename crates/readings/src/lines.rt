@@ -28,19 +28,11 @@ fn with_digits(line: [u8; Line::LONGEST], bits: u64, count: usize) -> [u8; Line:
 {
     let mut bytes = line;
     let mut left = bits;
-    let mut i = count;
-    while 0 < i {
-        i -= 1;
+    for i in (0..count).rev() {
         bytes[DIGITS + i] = hex_digit(left);
-        left = left / 16;
+        left /= 16;
     }
     bytes
-}
-
-fn wide(bits: u32) -> u64
-    ensures { result ≡ bits }
-{
-    bits as u64
 }
 
 pub(crate) fn line_of(reading: Reading) -> Line
@@ -50,12 +42,12 @@ pub(crate) fn line_of(reading: Reading) -> Line
     match reading {
         Reading::Single(value) => {
             let blank = *b"single\t........\n........";
-            let bytes = with_digits(blank, wide(f32::to_bits(value)), 8);
+            let bytes = with_digits(blank, u64::from(value.to_bits()), 8);
             Line { bytes, len: 16 }
         }
         Reading::Double(value) => {
             let blank = *b"double\t................\n";
-            let bytes = with_digits(blank, f64::to_bits(value), 16);
+            let bytes = with_digits(blank, value.to_bits(), 16);
             Line { bytes, len: 24 }
         }
     }

@@ -15,19 +15,13 @@ pub enum Reading {
 // 2 to the power -152.
 const SMALLEST_POWER: f64 = 1.7516230804060213e-46;
 
-fn wide(byte: u8) -> u32
-    ensures { result ≡ byte }
-{
-    byte as u32
-}
-
 // 8388608 and the 23 bits below it.
 fn mantissa_of(low: u8, middle: u8, high: u8) -> u32
     ensures value { result ≡ mantissa_of low middle high }
     ensures lower_bound { (8388608 ≤ result) × (result < 16777216) }
 {
-    let top = wide(high) % 128;
-    8388608 + (wide(low) + 256 * wide(middle) + 65536 * top)
+    let top = u32::from(high) % 128;
+    8388608 + (u32::from(low) + 256 * u32::from(middle) + 65536 * top)
 }
 
 // The mantissa times 2 to the power e - 152: each product is exact.
@@ -36,14 +30,11 @@ fn scaled(mantissa: u32, exponent: u8) -> f64
     ensures { result ≡ exactly false mantissa exponent }
 {
     let mut value = mantissa as f64 * SMALLEST_POWER;
-    let mut done: u8 = 0;
-    while exponent - done >= 16 {
-        value = value * 65536.0;
-        done += 16;
+    'sixteens: for _ in 0..exponent / 16 {
+        value *= 65536.0;
     }
-    while done < exponent {
-        value = value * 2.0;
-        done += 1;
+    'ones: for _ in 0..exponent % 16 {
+        value *= 2.0;
     }
     value
 }
@@ -53,13 +44,11 @@ fn single_holds(mantissa: u32, exponent: u8) -> bool
     requires { (0 < exponent) × (mantissa < 16777216) }
     ensures { result ≡ fits binary32 (exactly false mantissa exponent) }
 {
-    if exponent >= 3 {
-        return true;
+    match exponent {
+        1 => mantissa % 4 == 0,
+        2 => mantissa % 2 == 0,
+        _ => true,
     }
-    if exponent == 2 {
-        return mantissa % 2 == 0;
-    }
-    mantissa % 4 == 0
 }
 
 // What four bytes of an old machine are: a single where a single holds the value exactly, otherwise a double. Neither is off by a bit.

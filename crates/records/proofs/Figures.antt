@@ -1,14 +1,13 @@
 -- Numbers without leading zeros: what a field tells by its first bytes, and that ten digits are enough.
-use mathlib.Core.Path.{◌≡◌, refl, sym, ap, ◌∙◌}
+use mathlib.Core.Path.{◌≡◌, sym, ap, ◌∙◌}
 use mathlib.Core.Logic.{⊎_elim}
-use mathlib.Core.Bool.{true, false}
 use mathlib.Core.List.{List, [], ◌∷◌}
 use Prim.Native.Nat.{ℕ, suc, ◌+◌, ◌-◌, ◌*◌, ◌^◌, ◌≤◌, ◌<◌}
 use native.Mathlib.Nat.{le_refl, le_trans, mul-le-mul_right, mul-one, one-mul, mul_assoc, pow-zero, pow-succ', pow-le-pow_right}
 use native.Mathlib.Omega.{arith}
 use borrow.Author.Tests.{eqb-false}
 use lib.Dec.{eqb}
-use lib.ListN.{length, get_or}
+use lib.ListN.{length}
 use Rattle.whole.specs.Bytes.{leading}
 use Rattle.whole.specs.Digits.{is_digit, leading_digits, value_from}
 use Rattle.whole.proofs.Numbers.{less}
@@ -16,40 +15,21 @@ use Rattle.whole.proofs.Reading.{digit_from}
 use Rattle.whole.proofs.Never.{never}
 use Rattle.words.proofs.Choices.{by_test}
 use Rattle.console.specs.Arguments.{number_given, Limited}
-use Rattle.console.specs.declared.arguments.Given.{Given}
-use Rattle.console.specs.declared.arguments.Given.TheVariants.{Number, TooLarge, NoNumber}
 use Rattle.console.proofs.Values.{given_limited, no_digit, not_digits_alone, over_limit}
-use Rattle.records.specs.Records.{leads_with_zero, figure_in, figure_of}
-use Rattle.records.specs.declared.reading.Figure.TheVariants.{Is, None}
+use Rattle.records.specs.Records.{leads_with_zero, figure_of}
+use Rattle.std.specs.Prelude.{Some, None, Result, Ok, Err}
+use Rattle.std.specs.Result.{result_ok}
+use Rattle.console.specs.declared.arguments.BadNumber.{BadNumber}
 
--- ---- a leading zero
-
-pub one_digit : (s : List ℕ) → length s ≤ 1 → leads_with_zero s ≡ false
-one_digit [] h = refl
-one_digit (b ∷ []) h = refl
-one_digit (b ∷ c ∷ s) h = absurd (omega arith)
-
-pub more_digits : (s : List ℕ) → 1 < length s → leads_with_zero s ≡ eqb (get_or s 0 0) 48
-more_digits [] h = absurd (omega arith)
-more_digits (b ∷ []) h = absurd (omega arith)
-more_digits (b ∷ c ∷ s) h = refl
+-- ---- within the limit
 
 module _ (most : ℕ) (s : List ℕ) where
-  pub zero_leads : leads_with_zero s ≡ true → figure_of most s ≡ None
-  unfolding figure_of
-  zero_leads t = rw t
-
-  pub given_as : leads_with_zero s ≡ false → (g : Given) → number_given s most ≡ g → figure_of most s ≡ figure_in g
-  unfolding figure_of
-  given_as t g e = rw (t, e)
-
   -- what is given is within its limit
-  within : (g : Given) → Limited g most → (n : ℕ) → figure_in g ≡ Is n → n ≤ most
-  within (Number v) h n e = let f : v ≡ n = cc in omega arith
-  within TooLarge h n e = never (cc)
-  within NoNumber h n e = never (cc)
+  within : (g : Result ℕ BadNumber) → Limited g most → (n : ℕ) → result_ok g ≡ Some n → n ≤ most
+  within (Ok v) h n e = let f : v ≡ n = cc in omega arith
+  within (Err b) h n e = never (cc)
 
-  pub figure_within : (n : ℕ) → figure_of most s ≡ Is n → n ≤ most
+  pub figure_within : (n : ℕ) → figure_of most s ≡ Some n → n ≤ most
   unfolding figure_of
   figure_within n e =
       by_test (leads_with_zero s) (λ t. let f = rw t at e in never (cc))
@@ -75,17 +55,17 @@ value_long d s h k =
 
 module _ (most : ℕ) (small : most < 10000000000) where
   -- digits alone, and too large; or something else
-  given_long : (d : ℕ) (s : List ℕ) → (d ≡ 48 → ⊥) → 10 ≤ length s → figure_in (number_given (d ∷ s) most) ≡ None
+  given_long : (d : ℕ) (s : List ℕ) → (d ≡ 48 → ⊥) → 10 ≤ length s → result_ok (number_given (d ∷ s) most) ≡ None
   unfolding leading
   given_long d s n h =
       let t = d ∷ s in
       by_test (is_digit d)
       (λ is. let some : length (leading_digits t) ≡ 0 → ⊥ = λ e. omega (arith, rw is at e) in
       let low = digit_from d is in
-      ⊎_elim (λ l. ap figure_in (sym (not_digits_alone t most some l)))
-      (λ l. ap figure_in (sym (over_limit t most some l (omega (arith, value_long d s (omega (arith, n)) h)))))
+      ⊎_elim (λ l. ap result_ok (sym (not_digits_alone t most some l)))
+      (λ l. ap result_ok (sym (over_limit t most some l (omega (arith, value_long d s (omega (arith, n)) h)))))
       (less (length (leading_digits t)) (length t)))
-      (λ not. ap figure_in (sym (no_digit t most (rw not))))
+      (λ not. ap result_ok (sym (no_digit t most (rw not))))
 
   pub long_figure : (s : List ℕ) → 11 ≤ length s → figure_of most s ≡ None
   unfolding figure_of

@@ -3,4 +3,4 @@
 
 mod reading;
 
-pub use reading::{Outcome, Recorded, Run, record_of};
+pub use reading::{Outcome, Run, record_of};

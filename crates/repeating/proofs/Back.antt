@@ -1,4 +1,5 @@
 -- WEND: the record of its WHILE, and the run goes on there.
+use Rattle.std.specs.Prelude.{None, Some}
 use mathlib.Core.Path.{◌≡◌, refl, sym, ap, ◌∙◌}
 use mathlib.Core.Bool.{Bool}
 use mathlib.Core.List.{List, ◌∷◌}
@@ -13,7 +14,6 @@ use Rattle.machine.specs.bridge.Holding.{position_of, Positioned, back_of, recor
 use Rattle.machine.specs.bridge.Wanted.{FoundAt, Told}
 use Rattle.machine.specs.declared.positions.Next.TheVariants as next
 use Rattle.machine.specs.declared.records.Record.{Record}
-use Rattle.machine.specs.declared.records.Found.TheVariants as found
 use Rattle.machine.proofs.Stacking.{by_kind, records_top}
 use Rattle.turns.specs.Steps.{goes_on, turned_back, do_statement}
 use Rattle.turns.specs.bridge.Turns.{turned_to, Turns, with_depth}
@@ -39,7 +39,7 @@ same_found {text} {m} {slot = slot} {entry = entry} {rs = rs} t s =
 
 module _ {text : List ℕ} {m : State} {input space room : List ℕ} (entry : Record) (line at : ℕ) (after : spec.Position)
     (starts : start_of after.lines ≡ line) (sound : Sound m input space room) where
-  pub wend_missing : Turns text m input space room (Told text m.tables.numbers.names (is_while_of line at) m.depth found.None entry)
+  pub wend_missing : Turns text m input space room (Told text m.tables.numbers.names (is_while_of line at) m.depth None entry)
       (λ n. do_statement text at tree.wend n after) (turned_to m (next.Fails WendWithoutWhile)) space room
   wend_missing =
       turns_fails (leaves_unprinted sound refl refl refl)
@@ -52,7 +52,7 @@ module _ {text : List ℕ} {m : State} {input space room : List ℕ} (entry : Re
       })
 
   pub wend_found : (slot : ℕ) → slot < m.depth
-      → Turns text m input space room (Told text m.tables.numbers.names (is_while_of line at) m.depth (found.At slot) entry)
+      → Turns text m input space room (Told text m.tables.numbers.names (is_while_of line at) m.depth (Some slot) entry)
       (λ n. do_statement text at tree.wend n after) (turned_to (with_depth m (slot + 1)) (next.On (back_of entry))) space room
   wend_found slot b =
       let d : slot + 1 ≤ m.records = omega (arith, sound.deep) in

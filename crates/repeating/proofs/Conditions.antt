@@ -1,4 +1,5 @@
 -- WHILE: with no record of its own and with one, by its WEND and its condition.
+use Rattle.std.specs.Prelude.{None, Option, Some, ℕ, Result, Ok}
 use mathlib.Core.Path.{◌≡◌, refl, sym, ap, ◌∙◌}
 use mathlib.Core.Logic.{◌⊎◌}
 use mathlib.Core.Bool.{Bool, false≢true}
@@ -17,7 +18,7 @@ use Rattle.statements.specs.Parts.{Rest, nothing, part, place_of}
 use Rattle.variables.specs.bridge.Memory.{mismatch_of}
 use Rattle.variables.specs.declared.values.Worked.{Worked}
 use Rattle.variables.specs.declared.values.Worked.TheVariants.{Whole}
-use Rattle.variables.proofs.Agreements.{worked_tag}
+use Rattle.variables.proofs.Agreements.{NoWhole}
 use Rattle.machine.specs.Machine as spec
 use Rattle.machine.specs.Order.{Stand, past, Partner, none, some, wend_for}
 use Rattle.machine.specs.Repeats.{start_of, is_while, wend_of}
@@ -27,13 +28,10 @@ use Rattle.machine.specs.declared.positions.Position.{Position}
 use Rattle.machine.specs.declared.positions.Next.{Next}
 use Rattle.machine.specs.declared.positions.Next.TheVariants as next
 use Rattle.machine.specs.declared.records.Record.{Record}
-use Rattle.machine.specs.declared.records.Found.{Found}
-use Rattle.machine.specs.declared.records.Found.TheVariants as found
 use Rattle.machine.proofs.Searching.{while_found}
 use Rattle.machine.proofs.Standing.{begins_at}
 use Rattle.order.specs.bridge.Walking.{Ahead, PartnerAs}
 use Rattle.order.specs.declared.texts.Spot.{Spot}
-use Rattle.order.specs.declared.texts.Walk.TheVariants as walk
 use Rattle.order.proofs.Laws.{stand_here}
 use Rattle.turns.specs.Steps as step
 use Rattle.turns.specs.Steps.{goes_on, worked_whole, part_begun, here_of, tested, while_by, do_statement}
@@ -44,6 +42,7 @@ use Rattle.turns.proofs.Pushing.{sound_depth, same_fewer, turns_pushed}
 use Rattle.turns.proofs.Wholes.{turns_as, turns_none, turns_whole}
 use Rattle.repeating.specs.bridge.Repeating.{WhileStands, PastWend}
 use Rattle.repeating.proofs.Back.{same_found}
+use Rattle.whole.specs.declared.errors.Error.{Error}
 
 -- a turn of which what was told of the records can't be
 turns_never : {text : List ℕ} {m : State} {input space room : List ℕ} {ToldHere : List Record → Type 0} {does : spec.Machine → step.Next} {r : Turn} {space' room' : List ℕ}
@@ -62,7 +61,7 @@ not_none e = never (cc)
 -- ---- the WEND that was found
 
 -- none was
-pub over_none : (text : List ℕ) (p : Partner) → PartnerAs text walk.Over p → p ≡ none
+pub over_none : (text : List ℕ) (p : Partner) → PartnerAs text None p → p ≡ none
 over_none text none h = refl
 over_none text (some w) h = absurd h
 
@@ -73,7 +72,7 @@ pub record MetAt (text : List ℕ) (spot : Spot) (p : Partner) : Type 0 where
   pub rest : List Stand
   pub ahead : Ahead text spot (wend ∷ rest)
 
-pub met_at : {text : List ℕ} {spot : Spot} (p : Partner) → PartnerAs text (walk.At spot) p → MetAt text spot p
+pub met_at : {text : List ℕ} {spot : Spot} (p : Partner) → PartnerAs text (Some spot) p → MetAt text spot p
 met_at none h = absurd h
 met_at (some w) h = record { wend = w; is = refl; rest = h.rest; ahead = h.ahead }
 
@@ -96,7 +95,7 @@ module _ {text line : List ℕ} {here at : Place} {first : Scanned} {c : Formula
   abbrev test : spec.Record → Bool
   test = is_while here.0 at.0
 
-  abbrev ToldHere : Found → Record → List Record → Type 0
+  abbrev ToldHere : Option ℕ → Record → List Record → Type 0
   ToldHere f entry = Told text m.tables.numbers.names test m.depth f entry
 
   -- what is done with the condition's value, where it has its WEND
@@ -110,7 +109,7 @@ module _ {text line : List ℕ} {here at : Place} {first : Scanned} {c : Formula
       (begins_at k.own.begins)
 
   -- with no WEND
-  pub no_wend : (f : Found) (entry : Record) → wend_for at.0 lines ≡ none
+  pub no_wend : (f : Option ℕ) (entry : Record) → wend_for at.0 lines ≡ none
       → Turns text m input space room (ToldHere f entry) does (turned_to m (next.Fails WhileWithoutWend)) space room
   no_wend f entry e =
       turns_fails (leaves_unprinted sound refl refl refl)
@@ -119,18 +118,18 @@ module _ {text line : List ℕ} {here at : Place} {first : Scanned} {c : Formula
   -- ---- it has no record
 
   module _ {w : Stand} (e : wend_for at.0 lines ≡ some w) (entry : Record) {space' : List ℕ} where
-    pub first_none : (r : Worked) → (worked_tag r ≡ 1) ⊎ (worked_tag r ≡ 2) → Valued m c u space r space'
-        → Turns text m input space room (ToldHere found.None entry) does (turned_to m (next.Fails (mismatch_of r))) space' room
+    pub first_none : (r : Result Worked Error) → NoWhole r → Valued m c u space r space'
+        → Turns text m input space room (ToldHere None entry) does (turned_to m (next.Fails (mismatch_of r))) space' room
     first_none r h v = turns_as (as_worked w e) (turns_none (goes w) sound r h v)
 
-    module _ {x : ℕ} {y : Scanned} (v : Valued m c u space (Whole x y) space') where
+    module _ {x : ℕ} {y : Scanned} (v : Valued m c u space (Ok (Whole x y)) space') where
       -- the search for it finds none
-      goes-missing : {rs : List Record} {n : spec.Machine} → ToldHere found.None entry rs → Same text rs m input space' room n
+      goes-missing : {rs : List Record} {n : spec.Machine} → ToldHere None entry rs → Same text rs m input space' room n
           → goes w x n ≡ tested n spec.missing x w (here_of at.0 c back) back
       goes-missing {n = n} t s = ap (λ z. tested n z x w (here_of at.0 c back) back) (ap (spec.sought test) s.records ∙ t)
 
       pub first_false : x ≡ 0 → {q : Position} → Positioned text q → position_of text q ≡ past w
-          → Turns text m input space room (ToldHere found.None entry) does (turned_to m (next.On q)) space' room
+          → Turns text m input space room (ToldHere None entry) does (turned_to m (next.On q)) space' room
       first_false z p there =
           turns_as (as_worked w e)
           (turns_whole (goes w) sound v
@@ -159,7 +158,7 @@ module _ {text line : List ℕ} {here at : Place} {first : Scanned} {c : Formula
         held_placed : Placed text m.tables.numbers.count held
         held_placed = record { back = k.own; known = λ f. absurd (false≢true f); paired = λ _. held_paired }
 
-        pub first_true : (x ≡ 0 → ⊥) → Turns text m input space room (ToldHere found.None entry) does (pushed_turn m held (next.On (after_of here y))) space' room
+        pub first_true : (x ≡ 0 → ⊥) → Turns text m input space room (ToldHere None entry) does (pushed_turn m held (next.On (after_of here y))) space' room
         first_true z =
             rw v.goes
             (turns_as (as_worked w e)
@@ -172,7 +171,7 @@ module _ {text line : List ℕ} {here at : Place} {first : Scanned} {c : Formula
 
   module _ {slot : ℕ} (low : slot < m.depth) (entry : Record) where
     -- so it has its WEND
-    has_wend : (rs : List Record) → ToldHere (found.At slot) entry rs → (n : spec.Machine) → Same text rs m input space room n
+    has_wend : (rs : List Record) → ToldHere (Some slot) entry rs → (n : spec.Machine) → Same text rs m input space room n
         → wend_for at.0 lines ≡ none → ⊥
     has_wend rs t n s e =
         let p = rw (← t.at) at (s.placed slot low) in
@@ -180,23 +179,23 @@ module _ {text line : List ℕ} {here at : Place} {first : Scanned} {c : Formula
         not_none (sym h.is ∙ e)
 
     abbrev Found-turns : Turn → List ℕ → Type 0
-    Found-turns r space' = Turns text m input space room (ToldHere (found.At slot) entry) does r space' room
+    Found-turns r space' = Turns text m input space room (ToldHere (Some slot) entry) does r space' room
 
     by_wend : {r : Turn} {space' : List ℕ} → Leaves m input space room r space' room → ((w : Stand) → wend_for at.0 lines ≡ some w → Found-turns r space')
         → Found-turns r space'
     by_wend leaves h = by_partner (wend_for at.0 lines) (λ e. turns_never leaves (λ rs t n s. has_wend rs t n s e)) h
 
-    pub found_none : {space' : List ℕ} (r : Worked) → (worked_tag r ≡ 1) ⊎ (worked_tag r ≡ 2) → Valued m c u space r space'
+    pub found_none : {space' : List ℕ} (r : Result Worked Error) → NoWhole r → Valued m c u space r space'
         → Found-turns (turned_to m (next.Fails (mismatch_of r))) space'
     found_none r h v =
         let long = v.framed.long in
         by_wend (leaves_unprinted (sound_kept long sound) long refl refl) (λ w e. turns_as (as_worked w e) (turns_none (goes w) sound r h v))
 
-    module _ {space' : List ℕ} {x : ℕ} {y : Scanned} (v : Valued m c u space (Whole x y) space') where
+    module _ {space' : List ℕ} {x : ℕ} {y : Scanned} (v : Valued m c u space (Ok (Whole x y)) space') where
       sound_at : (d : ℕ) → d ≤ m.records → Sound (with_depth m d) input space' room
       sound_at d h = sound_depth d h (sound_kept v.framed.long sound)
 
-      goes-found : (w : Stand) {rs : List Record} {n : spec.Machine} → ToldHere (found.At slot) entry rs → Same text rs m input space' room n
+      goes-found : (w : Stand) {rs : List Record} {n : spec.Machine} → ToldHere (Some slot) entry rs → Same text rs m input space' room n
           → goes w x n
           ≡ tested n (spec.found (record_of text m.tables.numbers.names entry) (records_in text m.tables.numbers.names rs slot)) x w (here_of at.0 c back) back
       goes-found w {n = n} t s = ap (λ z. tested n z x w (here_of at.0 c back) back) (ap (spec.sought test) s.records ∙ t.is)

@@ -1,21 +1,20 @@
 // WHILE.
-ghost use Rattle.std.specs.Prelude.{List, ℕ, ◌<◌};
+ghost use Rattle.std.specs.Prelude.{List, ℕ, ◌<◌, None, Some};
 ghost use Rattle.grammar.specs.Trees as tree;
 ghost use Rattle.grammar.specs.Trees.{Formula};
 ghost use Rattle.machine.specs.Order.{wend_for};
 ghost use Rattle.machine.specs.Repeats.{is_while};
 ghost use Rattle.machine.specs.bridge.Holding.{lines_at, position_of, state_of, Settled, Sound};
 ghost use Rattle.machine.specs.bridge.Wanted.{Told};
-ghost use Rattle.machine.specs.declared.records.Found.TheVariants as found;
 ghost use Rattle.order.specs.bridge.Walking.{Lined};
 ghost use Rattle.turns.specs.Steps.{do_statement};
 ghost use Rattle.turns.specs.bridge.Turns.{turn_of, after_of, Turns, Formed, FoundBelow};
 ghost use Rattle.repeating.specs.bridge.Repeating.{PastWend, WhileStands};
 
-use machine::{Found, Machine, Next, Record, Turned};
-use order::{Walk, partner_after, position_past};
+use machine::{Machine, Next, Record, Turned};
+use order::{partner_after, position_past};
 use turns::{after, fails, goes_on, push, turned_to, value};
-use variables::{NameTable, Tables, Worked, mismatch};
+use variables::{Tables, Worked, mismatch};
 use whole::Error;
 use words::{Place, Scanned, Word};
 
@@ -25,8 +24,8 @@ fn past_wend(text: &[u8], line: Place, at: Place) -> Next
     ensures { PastWend text.now result (wend_for at.0 (lines_at text.now line.0)) }
 {
     match partner_after(text, line, at, Word::While, Word::Wend) {
-        Walk::Over => Next::Fails(Error::WhileWithoutWend),
-        Walk::At(spot) => Next::On(position_past(text, spot)),
+        None => Next::Fails(Error::WhileWithoutWend),
+        Some(spot) => Next::On(position_past(text, spot)),
     }
 }
 
@@ -38,25 +37,20 @@ fn first_turn(
     at: Place,
     condition: Scanned,
     machine: Machine,
-    names: &NameTable,
-    words: &[u16; Tables::MOST],
-    labels: &NameTable,
-    lengths: &[u8; Tables::MOST],
+    tables: &Tables,
     space: &mut [u8],
 ) -> Turned
-    requires { Formed line.now condition × (Settled (state_of machine names.now words.now labels.now lengths.now) space.old × Lined text.now here.0) }
-    ensures { (input room : List ℕ) (entry : Record) (c : Formula) (u : Scanned) → Sound (state_of machine names.now words.now labels.now lengths.now) input space.old room
+    requires { Formed line.now condition × (Settled (state_of machine tables.now) space.old × Lined text.now here.0) }
+    ensures { (input room : List ℕ) (entry : Record) (c : Formula) (u : Scanned) → Sound (state_of machine tables.now) input space.old room
         → WhileStands text.now line.now here at condition c u
-        → Turns text.now (state_of machine names.now words.now labels.now lengths.now) input space.old room (Told text.now names.now (is_while here.0 at.0) machine.depth found.None entry)
-        (λ n. do_statement text.now at.0 (tree.while c) n (position_of text.now (after_of here u))) (turn_of result names.now words.now labels.now lengths.now) space.new room }
+        → Turns text.now (state_of machine tables.now) input space.old room (Told text.now tables.now.numbers.names (is_while here.0 at.0) machine.depth None entry)
+        (λ n. do_statement text.now at.0 (tree.while c) n (position_of text.now (after_of here u))) (turn_of result tables.now) space.new room }
 {
-    let Walk::At(spot) = partner_after(text, here, at, Word::While, Word::Wend) else {
+    let Some(spot) = partner_after(text, here, at, Word::While, Word::Wend) else {
         return fails(machine, Error::WhileWithoutWend);
     };
-    let worked = value(
-        line, condition, machine, names, words, labels, lengths, space,
-    );
-    let Worked::Whole(word, ahead) = worked else {
+    let worked = value(line, condition, machine, tables, space);
+    let Ok(Worked::Whole(word, ahead)) = worked else {
         return fails(machine, mismatch(worked));
     };
     if word == 0 {
@@ -75,23 +69,18 @@ fn next_turn(
     at: Place,
     condition: Scanned,
     machine: Machine,
-    names: &NameTable,
-    words: &[u16; Tables::MOST],
-    labels: &NameTable,
-    lengths: &[u8; Tables::MOST],
+    tables: &Tables,
     slot: usize,
     space: &mut [u8],
 ) -> Turned
-    requires { Formed line.now condition × (Settled (state_of machine names.now words.now labels.now lengths.now) space.old × ((slot < machine.depth) × Lined text.now here.0)) }
-    ensures { (input room : List ℕ) (entry : Record) (c : Formula) (u : Scanned) → Sound (state_of machine names.now words.now labels.now lengths.now) input space.old room
+    requires { Formed line.now condition × (Settled (state_of machine tables.now) space.old × ((slot < machine.depth) × Lined text.now here.0)) }
+    ensures { (input room : List ℕ) (entry : Record) (c : Formula) (u : Scanned) → Sound (state_of machine tables.now) input space.old room
         → WhileStands text.now line.now here at condition c u
-        → Turns text.now (state_of machine names.now words.now labels.now lengths.now) input space.old room (Told text.now names.now (is_while here.0 at.0) machine.depth (found.At slot) entry)
-        (λ n. do_statement text.now at.0 (tree.while c) n (position_of text.now (after_of here u))) (turn_of result names.now words.now labels.now lengths.now) space.new room }
+        → Turns text.now (state_of machine tables.now) input space.old room (Told text.now tables.now.numbers.names (is_while here.0 at.0) machine.depth (Some slot) entry)
+        (λ n. do_statement text.now at.0 (tree.while c) n (position_of text.now (after_of here u))) (turn_of result tables.now) space.new room }
 {
-    let worked = value(
-        line, condition, machine, names, words, labels, lengths, space,
-    );
-    let Worked::Whole(word, ahead) = worked else {
+    let worked = value(line, condition, machine, tables, space);
+    let Ok(Worked::Whole(word, ahead)) = worked else {
         return fails(machine, mismatch(worked));
     };
     let mut m = machine;
@@ -111,25 +100,20 @@ pub fn repeat(
     at: Place,
     condition: Scanned,
     machine: Machine,
-    names: &NameTable,
-    words: &[u16; Tables::MOST],
-    labels: &NameTable,
-    lengths: &[u8; Tables::MOST],
-    found: Found,
+    tables: &Tables,
+    found: Option<usize>,
     space: &mut [u8],
 ) -> Turned
-    requires { Formed line.now condition × (Settled (state_of machine names.now words.now labels.now lengths.now) space.old × (FoundBelow machine.depth found × Lined text.now here.0)) }
-    ensures { (input room : List ℕ) (entry : Record) (c : Formula) (u : Scanned) → Sound (state_of machine names.now words.now labels.now lengths.now) input space.old room
+    requires { Formed line.now condition × (Settled (state_of machine tables.now) space.old × (FoundBelow machine.depth found × Lined text.now here.0)) }
+    ensures { (input room : List ℕ) (entry : Record) (c : Formula) (u : Scanned) → Sound (state_of machine tables.now) input space.old room
         → WhileStands text.now line.now here at condition c u
-        → Turns text.now (state_of machine names.now words.now labels.now lengths.now) input space.old room (Told text.now names.now (is_while here.0 at.0) machine.depth found entry)
-        (λ n. do_statement text.now at.0 (tree.while c) n (position_of text.now (after_of here u))) (turn_of result names.now words.now labels.now lengths.now) space.new room }
+        → Turns text.now (state_of machine tables.now) input space.old room (Told text.now tables.now.numbers.names (is_while here.0 at.0) machine.depth found entry)
+        (λ n. do_statement text.now at.0 (tree.while c) n (position_of text.now (after_of here u))) (turn_of result tables.now) space.new room }
 {
     match found {
-        Found::None => first_turn(
-            text, line, here, at, condition, machine, names, words, labels, lengths, space,
-        ),
-        Found::At(slot) => next_turn(
-            text, line, here, at, condition, machine, names, words, labels, lengths, slot, space,
+        None => first_turn(text, line, here, at, condition, machine, tables, space),
+        Some(slot) => next_turn(
+            text, line, here, at, condition, machine, tables, slot, space,
         ),
     }
 }

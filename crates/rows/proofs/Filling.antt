@@ -1,4 +1,5 @@
 -- The table while it is made: the rows so far tell the lines so far, and the lines from the one reached on are left.
+use Rattle.std.specs.Prelude.{None, Ok, Some}
 use mathlib.Core.Path.{◌≡◌, refl, sym, ap, ◌∙◌}
 use mathlib.Core.Logic.{⊎_elim}
 use mathlib.Core.List.{List, ◌∷◌}
@@ -12,8 +13,6 @@ use Rattle.words.specs.Places.{place}
 use Rattle.loader.specs.Lines.{lines_of, next_line, first_of, line_at}
 use Rattle.loader.specs.Loading.{load_of}
 use Rattle.loader.specs.declared.lines.LineSpan.{LineSpan}
-use Rattle.loader.specs.declared.lines.LineFound.TheVariants.{Is, None}
-use Rattle.loader.specs.declared.loading.Loaded.TheVariants.{Fine}
 use Rattle.loader.proofs.Extents.{lines_at}
 use Rattle.loader.proofs.Rising.{Rising, recipe, rising_suffix}
 use Rattle.loader.proofs.Spans.{body_at, Spanned, spanned_as, none_left}
@@ -32,7 +31,7 @@ pub record Filled (text rows : List ℕ) (p row : ℕ) : Type 0 where
 pub filled_none : (text rows : List ℕ) → length rows ≡ cells → Filled text rows 0 0
 filled_none text rows h = record { long = h; left = refl; within = omega arith; tells = λ i h. absurd (omega arith) }
 
-module _ {text rows : List ℕ} {p row : ℕ} (loads : load_of text ≡ Fine) (f : Filled text rows p row) where
+module _ {text rows : List ℕ} {p row : ℕ} (loads : load_of text ≡ Ok tt) (f : Filled text rows p row) where
   left_rising : Rising 0 (lines_at text p)
   left_rising = rw f.left (rising_suffix 0 (take row (lines_of text), take-append-drop row (lines_of text)) (recipe text loads).rising)
 
@@ -54,7 +53,7 @@ module _ {text rows : List ℕ} {p row : ℕ} (loads : load_of text ≡ Fine) (f
         tells = λ i b. counted_kept rows row i (drop i (lines_of text)) (f.tells i (rw (counted rows row h) at b));
       }
 
-  module _ {span : LineSpan} (e : line_at text (place p) ≡ Is span) where
+  module _ {span : LineSpan} (e : line_at text (place p) ≡ Some span) where
     -- a line that is found
     pub filled_spanned : Spanned text p span
     filled_spanned = spanned_as text p left_rising e
@@ -95,7 +94,7 @@ module _ {text rows : List ℕ} {p row : ℕ} (loads : load_of text ≡ Fine) (f
               (λ k. let q : i ≡ row = omega arith in
               rw q
               (record {
-                span = sym (ap first_of f.left) ∙ e ∙ ap Is (sym (put_span rows row span verdict h));
+                span = sym (ap first_of f.left) ∙ e ∙ ap Some (sym (put_span rows row span verdict h));
                 verdict = put_verdict rows row span verdict h ∙ v ∙ ap (λ x. verdict_of (judged_of x)) s.bytes ∙ sym (ap verdict_first here);
               }))
               (less i row);

@@ -1,4 +1,5 @@
 -- The rows of a text's lines: each is the span of its line, and numbers and places rise.
+use Rattle.std.specs.Prelude.{Some}
 use mathlib.Core.Path.{◌≡◌, refl, sym, ap, ◌∙◌}
 use mathlib.Core.Logic.{⊎_elim}
 use mathlib.Core.List.{List, [], ◌∷◌, ◌++◌, IsSuffix}
@@ -10,7 +11,6 @@ use Rattle.whole.specs.Digits.{leading_value}
 use Rattle.whole.proofs.Numbers.{less}
 use Rattle.words.specs.Places.{place}
 use Rattle.loader.specs.Lines.{Line, lines_of, next_line, line_at}
-use Rattle.loader.specs.declared.lines.LineFound.TheVariants.{Is}
 use Rattle.loader.proofs.Extents.{lines_at}
 use Rattle.loader.proofs.Found.{suffix_at}
 use Rattle.loader.proofs.Rising.{Rising, recipe, rising_suffix}
@@ -68,7 +68,7 @@ module _ {text rows : List ℕ} (t : Tabled text rows) where
     pub row_spanned : Spanned text (cell rows i 1) (span_in rows i)
     row_spanned = spanned_from (cell rows i 1) row_lines
 
-    pub row_span : line_at text (span_in rows i).place ≡ Is (span_in rows i)
+    pub row_span : line_at text (span_in rows i).place ≡ Some (span_in rows i)
     row_span = rw row_lines (t.tells i h).span
 
     -- and the line is the one that the text has there

@@ -1,9 +1,9 @@
-// The layout of the table: how many rows there are, then six numbers a row.
+// The layout of the table: how many rows there are, then six numbers a row. It is numbers alone, since an index that C lends begins with it.
 ghost use Rattle.std.specs.Prelude.{◌≡◌, ◌<◌};
 ghost use Rattle.loader.specs.Loading.{most_lines};
 ghost use Rattle.rows.specs.bridge.Rows.{width, cell, count_of};
 
-use loader::Loaded;
+use loader::Recipe;
 
 // A row by its number, counted from 0.
 #[derive(Clone, Copy)]
@@ -25,9 +25,9 @@ impl Row {
 
     pub const WIDTH: usize = 6;
 
-    pub const CELLS: usize = 1 + Row::WIDTH * Loaded::MOST_LINES;
+    pub const CELLS: usize = 1 + Row::WIDTH * Recipe::MOST_LINES;
 
-    // The verdicts: a line reads, or it has the number of its error.
+    // The verdicts: a line reads, or it has the number of its error. A table that no text made may hold any number.
     pub const READS: u16 = 0;
 
     pub const UNREADABLE: u16 = 2;
@@ -37,17 +37,11 @@ impl Row {
 
 pub type Rows = [u16; Row::CELLS];
 
-fn wide(word: u16) -> usize
-    ensures { result ≡ word }
-{
-    word as usize
-}
-
 // How many rows there are.
-pub(crate) fn count_of(rows: &Rows) -> usize
+pub fn count_of(rows: &Rows) -> usize
     ensures { result ≡ count_of rows.now }
 {
-    wide(rows[0])
+    usize::from(rows[0])
 }
 
 // What a row has in a column.
@@ -62,5 +56,5 @@ pub(crate) fn cell_in(rows: &Rows, row: usize, column: usize) -> usize
     requires { (row < most_lines) × (column < width) }
     ensures { result ≡ cell rows.now row column }
 {
-    wide(word_in(rows, row, column))
+    usize::from(word_in(rows, row, column))
 }

@@ -1,55 +1,46 @@
-// The row with a number in a column whose numbers rise, by halves; so the line with a number, and the row of the line at a place.
-ghost use Rattle.std.specs.Prelude.{◌≡◌, List, ℕ, ◌<◌, ◌≤◌};
+// The row with a number in a column whose numbers rise; so the line with a number, and the row of the line at a place.
+ghost use Rattle.std.specs.Prelude.{◌≡◌, List, [], ℕ, ◌<◌, ◌≤◌, length, get_or};
 ghost use Rattle.loader.specs.Lines.{find_line};
 ghost use Rattle.loader.specs.Loading.{most_lines};
-ghost use Rattle.rows.specs.bridge.Rows.{width, count_of, Rises, Finds, Ordered, Tabled};
+ghost use Rattle.rows.specs.bridge.Rows.{width, count_of, cell, Rises, Finds, Ordered, Tabled};
 
-use crate::cells::{Row, Rows, cell_in, count_of};
+use crate::cells::{Row, Rows, count_of};
 use crate::telling::span_in;
-use loader::LineFound;
+use loader::LineSpan;
 use words::{LineNumber, Place};
 
-#[derive(Clone, Copy)]
-pub enum RowFound {
-    At(Row),
-    None,
+// The rows, each its numbers.
+fn table_of(rows: &Rows) -> &[[u16; Row::WIDTH]]
+    requires { count_of rows.now ≤ most_lines }
+    ensures counts { length result.now ≡ count_of rows.now }
+    ensures cells { (i k : ℕ) → i < count_of rows.now → k < width → get_or (get_or result.now i []) k 0 ≡ cell rows.now i k }
+{
+    let (table, _) = rows[1..].as_chunks();
+    &table[..count_of(rows)]
 }
 
 // The row that has a number in a column.
-pub(crate) fn row_with(rows: &Rows, column: usize, wanted: usize) -> RowFound
+pub(crate) fn row_with(rows: &Rows, column: usize, wanted: usize) -> Option<Row>
     requires { (column < width) × ((count_of rows.now ≤ most_lines) × Rises rows.now column) }
     ensures { Finds rows.now column wanted result }
 {
-    let mut low = 0;
-    let mut high = count_of(rows);
-    while low < high {
-        let middle = low + (high - low) / 2;
-        let here = cell_in(rows, middle, column);
-        if here == wanted {
-            return RowFound::At(Row(middle));
-        }
-        if here < wanted {
-            low = middle + 1;
-        } else {
-            high = middle;
-        }
+    match table_of(rows).binary_search_by_key(&wanted, |row| usize::from(row[column])) {
+        Ok(row) => Some(Row(row)),
+        Err(_) => None,
     }
-    RowFound::None
 }
 
 // The line with a number.
-pub fn line_numbered(rows: &Rows, number: LineNumber) -> LineFound
+pub fn line_numbered(rows: &Rows, number: LineNumber) -> Option<LineSpan>
     requires { Ordered rows.now }
     ensures { (text : List ℕ) → Tabled text rows.now → result ≡ find_line text number }
 {
-    match row_with(rows, Row::NUMBER, number.0 as usize) {
-        RowFound::None => LineFound::None,
-        RowFound::At(row) => LineFound::Is(span_in(rows, row)),
-    }
+    let row = row_with(rows, Row::NUMBER, usize::from(number.0))?;
+    Some(span_in(rows, row))
 }
 
 // The row of the line that begins at a place.
-pub fn row_at(rows: &Rows, place: Place) -> RowFound
+pub fn row_at(rows: &Rows, place: Place) -> Option<Row>
     requires { Ordered rows.now }
     ensures { Finds rows.now 1 place.0 result }
 {

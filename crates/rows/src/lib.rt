@@ -7,7 +7,7 @@ mod finding;
 mod making;
 mod telling;
 
-pub use cells::{Row, Rows};
-pub use finding::{RowFound, line_numbered, row_at};
+pub use cells::{Row, Rows, count_of};
+pub use finding::{line_numbered, row_at};
 pub use making::make_rows;
 pub use telling::{has_row, number_in, place_in, span_in, verdict_in};

@@ -1,26 +1,25 @@
 // Making the table: every line of a text that loads is found and judged once.
-ghost use Rattle.std.specs.Prelude.{◌≡◌, ◌+◌, ◌*◌, ◌≤◌, length};
+ghost use Rattle.std.specs.Prelude.{◌≡◌, ◌+◌, ◌*◌, ◌≤◌, length, Ok, Some};
 ghost use Rattle.loader.specs.Loading.{load_of};
-ghost use Rattle.loader.specs.declared.loading.Loaded.TheVariants.{Fine};
 ghost use Rattle.rows.specs.bridge.Rows.{width, cells, verdict_of, Small, put, Tabled};
 
 use crate::cells::Row;
-use loader::{LineFound, LineSpan, line_at};
-use reader::{Judged, judge};
+use loader::{LineSpan, line_at};
+use reader::{LineFault, judge};
 use words::Place;
 
 // The number of a judgement in the table.
-fn verdict_of(judged: Judged) -> u16
+fn verdict_of(judged: Result<bool, LineFault>) -> u16
     ensures { result ≡ verdict_of judged }
 {
     match judged {
-        Judged::Unreadable => Row::UNREADABLE,
-        Judged::TooDeep => Row::TOO_DEEP,
-        Judged::Reads(_) => Row::READS,
+        Err(LineFault::Unreadable) => Row::UNREADABLE,
+        Err(LineFault::TooDeep) => Row::TOO_DEEP,
+        Ok(_) => Row::READS,
     }
 }
 
-// A line's row is written.
+// A line's row is written, number by number under the names of the columns.
 fn put_row(rows: &mut [u16], row: usize, span: LineSpan, verdict: u16)
     requires { (1 + width * row + width ≤ length rows.old) × Small span }
     ensures { rows.new ≡ put rows.old row span verdict }
@@ -36,21 +35,16 @@ fn put_row(rows: &mut [u16], row: usize, span: LineSpan, verdict: u16)
 
 // The table of a text that loads.
 pub fn make_rows(text: &[u8], rows: &mut [u16])
-    requires { (load_of text.now ≡ Fine) × (length rows.old ≡ cells) }
+    requires { (load_of text.now ≡ Ok tt) × (length rows.old ≡ cells) }
     ensures { Tabled text.now rows.new }
 {
     let mut at = Place(0);
-    let mut row: usize = 0;
-    loop {
-        let LineFound::Is(span) = line_at(text, at) else {
-            rows[0] = row as u16;
-            return;
-        };
-        let from = span.body.0;
-        let end = span.end.0;
-        let verdict = verdict_of(judge(&text[from..end]));
+    let mut row = 0;
+    while let Some(span) = line_at(text, at) {
+        let verdict = verdict_of(judge(&text[span.body.0..span.end.0]));
         put_row(rows, row, span, verdict);
         row += 1;
         at = span.next;
     }
+    rows[0] = row as u16;
 }

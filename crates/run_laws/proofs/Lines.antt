@@ -1,4 +1,7 @@
 -- All formulas of a text that loads have proper numbers and texts.
+use Rattle.std.specs.Prelude.{Err, None, Ok, Option, Result, Some}
+use Rattle.words.specs.declared.places.LineNumber.{LineNumber}
+use Rattle.loader.specs.declared.refusals.RefusedAt.{RefusedAt}
 use mathlib.Core.Path.{◌≡◌, refl}
 use mathlib.Core.Bool.{Bool}
 use mathlib.Core.List.{List, [], ◌∷◌}
@@ -17,15 +20,11 @@ use Rattle.words.proofs.Choices.{by_test}
 use Rattle.scanner.specs.Tokens.{token_at}
 use Rattle.loader.specs.Lines.{Line, lines_of, after_number}
 use Rattle.loader.specs.Loading.{judged, load_lines, load_of, longest_text}
-use Rattle.loader.specs.declared.loading.Judged.{Judged}
-use Rattle.loader.specs.declared.loading.Judged.TheVariants.{Good, Bad}
-use Rattle.loader.specs.declared.loading.Loaded.TheVariants.{Fine}
 use Rattle.loader.proofs.Rising as rising
 use Rattle.loader.proofs.Rising.{judged_good}
 use Rattle.items.specs.Items as item
 use Rattle.items.specs.Items.{DataItems}
-use Rattle.items.specs.declared.reading.ItemRead.{ItemRead}
-use Rattle.items.specs.declared.reading.ItemRead.TheVariants as itemRead
+use Rattle.items.specs.declared.reading.Item.{Item as ReadItem}
 use Rattle.grammar.specs.Tests.{is_symbol, is_keyword, ends_statement}
 use Rattle.grammar.specs.Trees.{Formula, number, Item, comma, semicolon, shown, Statement, empty, assign, print, if_then, if_else, goto, gosub, return, for, next, next_of, while, wend, line_input, data_of, read, restore, restore_to, end, stop, remark, Part}
 use Rattle.grammar.specs.Formulas as formulas
@@ -134,9 +133,9 @@ module _ (s : List ℕ) (short : length s ≤ longest_string) (plain : Bytes s) 
   item_read b item.bad h k = tt
   item_read b (item.items l p) h k = (h, k)
 
-  more_read : (r : ItemRead) (go : ℕ → DataItems) → ((p : ℕ) → ProperData (go p)) → ProperData (item.and_more s r go)
-  more_read itemRead.Bad go h = tt
-  more_read (itemRead.Good i) go h =
+  more_read : (r : Option ReadItem) (go : ℕ → DataItems) → ((p : ℕ) → ProperData (go p)) → ProperData (item.and_more s r go)
+  more_read None go h = tt
+  more_read (Some i) go h =
       item_read (item.item_bytes s i) (item.if_more i.more i.end.0 go) (part_read i.len i.from.0)
       (by_test i.more (λ e. rw e (h (i.end.0 + 1))) (λ e. rw e tt))
 
@@ -187,17 +186,17 @@ sound_throughout l h =
     line_throughout ProperStatement (after_number l)
     (line_read (after_number l) (omega (arith, h.short, length-drop n l.bytes)) (drop_bytes n l.bytes (each_byte l.bytes (λ i k. omega (arith, (h.plain i k).1)))))
 
-lines_proper : (before floor : ℕ) (ls : List Line) → load_lines before floor ls ≡ Fine → LinesThroughout ProperStatement ls
+lines_proper : (before floor : ℕ) (ls : List Line) → load_lines before floor ls ≡ Ok tt → LinesThroughout ProperStatement ls
 unfolding load_lines
 lines_proper before floor [] e = tt
 lines_proper before floor (l ∷ ls) e = by_judged (judged l.bytes before floor) refl (λ above h. lines_proper (before + 1) above ls h)
   where
-    by_judged : (j : Judged) → judged l.bytes before floor ≡ j
-        → ((above : ℕ) → load_lines (before + 1) above ls ≡ Fine → LinesThroughout ProperStatement ls) → LinesThroughout ProperStatement (l ∷ ls)
-    by_judged (Good n) f onward = (sound_throughout l (judged_good before floor l.bytes f).sound, onward (n.0 + 1) (rw f at e))
-    by_judged (Bad r p) f onward = let g = rw f at e in never (cc)
+    by_judged : (j : Result LineNumber RefusedAt) → judged l.bytes before floor ≡ j
+        → ((above : ℕ) → load_lines (before + 1) above ls ≡ Ok tt → LinesThroughout ProperStatement ls) → LinesThroughout ProperStatement (l ∷ ls)
+    by_judged (Ok n) f onward = (sound_throughout l (judged_good before floor l.bytes f).sound, onward (n.0 + 1) (rw f at e))
+    by_judged (Err x) f onward = let g = rw f at e in never (cc)
 
-pub loaded_proper : (text : List ℕ) → load_of text ≡ Fine → LinesThroughout ProperStatement (lines_of text)
+pub loaded_proper : (text : List ℕ) → load_of text ≡ Ok tt → LinesThroughout ProperStatement (lines_of text)
 unfolding load_of
 loaded_proper text e =
     by_test (ltb longest_text (length text)) (λ t. let g = rw t at e in never (cc)) (λ t. lines_proper 0 0 (lines_of text) (rw t at e))

@@ -1,4 +1,6 @@
 -- What a formula gives is a whole number of 16 bits, or a string of at most 255 bytes, where its own numbers and texts and the variables are.
+use Rattle.std.specs.Prelude.{Err, Ok, Result, ℕ}
+use Rattle.whole.specs.declared.errors.Error.{Error}
 use mathlib.Core.Path.{◌≡◌}
 use mathlib.Core.Bool.{Bool, true, false, cond, not, ◌&&◌, ◌||◌}
 use mathlib.Core.List.{List, [], ◌∷◌, ◌++◌, map}
@@ -14,8 +16,6 @@ use Rattle.whole.specs.Bytes.{is, blank}
 use Rattle.whole.specs.Digits.{leading_value, signed_value, val_of, sign_length, digits_only, number_item}
 use Rattle.whole.specs.Texts.{places, trimmed, digit_byte, numeral, sign_byte, signed_numeral, hexadecimal, longest_string}
 use Rattle.whole.specs.Whole.{num, word, fit, say, applied, negated, flipped, magnitude, sign_of, signum}
-use Rattle.whole.specs.declared.arithmetic.Answer.{Answer}
-use Rattle.whole.specs.declared.arithmetic.Answer.TheVariants.{Whole, Fault}
 use Rattle.whole.specs.declared.arithmetic.Operator.{Operator}
 use Rattle.whole.specs.declared.arithmetic.Operator.TheVariants as operator
 use Rattle.whole.specs.declared.errors.Error.TheVariants.{IllegalFunctionCall, DivisionByZero}
@@ -47,9 +47,9 @@ abbrev pub Proper : Value → Type 0
 Proper (whole w) = w < words
 Proper (text b) = (length b ≤ longest_string) × Bytes b
 
-abbrev pub ProperAnswer : Answer → Type 0
-ProperAnswer (Whole w) = w < words
-ProperAnswer (Fault e) = Unit {0}
+abbrev pub ProperAnswer : Result ℕ Error → Type 0
+ProperAnswer (Ok w) = w < words
+ProperAnswer (Err e) = Unit {0}
 
 abbrev pub ProperOutcome : Outcome → Type 0
 ProperOutcome (value v room) = Proper v
@@ -71,7 +71,7 @@ fit_proper z =
     by_test (lt_z (pos 32767) z) (λ e. rw e tt)
     (λ e. by_test (lt_z z (negsuc 32767)) (λ f. rw (e, f) tt) (λ f. rw (e, f) (word_proper z e)))
 
-cond_proper : (t : Bool) (a b : Answer) → ProperAnswer a → ProperAnswer b → ProperAnswer (cond t a b)
+cond_proper : (t : Bool) (a b : Result ℕ Error) → ProperAnswer a → ProperAnswer b → ProperAnswer (cond t a b)
 cond_proper true a b h k = h
 cond_proper false a b h k = k
 
@@ -81,8 +81,8 @@ say_proper false = omega arith
 
 pub applied_proper : (op : Operator) (a b : ℕ) → a < words → b < words → ProperAnswer (applied op a b)
 applied_proper operator.Multiply a b ha hb = fit_proper (num a *ℤ num b)
-applied_proper operator.Divide a b ha hb = cond_proper (eqb b 0) (Fault DivisionByZero) _ tt (fit_proper (quot_z (num a) (num b)))
-applied_proper operator.Modulo a b ha hb = cond_proper (eqb b 0) (Fault DivisionByZero) _ tt (fit_proper (rem_z (num a) (num b)))
+applied_proper operator.Divide a b ha hb = cond_proper (eqb b 0) (Err DivisionByZero) _ tt (fit_proper (quot_z (num a) (num b)))
+applied_proper operator.Modulo a b ha hb = cond_proper (eqb b 0) (Err DivisionByZero) _ tt (fit_proper (rem_z (num a) (num b)))
 applied_proper operator.Add a b ha hb = fit_proper (num a +ℤ num b)
 applied_proper operator.Subtract a b ha hb = fit_proper (num a -ℤ num b)
 applied_proper operator.Equal a b ha hb = say_proper (eqb a b)
@@ -112,7 +112,7 @@ val_proper (b ∷ s) =
 -- an item read as a number
 pub item_proper : (s : List ℕ) → ProperAnswer (number_item s)
 unfolding number_item
-item_proper s = cond_proper (digits_only (drop (sign_length s) s)) (signed_value s) (Fault IllegalFunctionCall) (val_proper s) tt
+item_proper s = cond_proper (digits_only (drop (sign_length s) s)) (signed_value s) (Err IllegalFunctionCall) (val_proper s) tt
 
 found_within : (p : ℕ) (s y : List ℕ) → found p s y ≤ p + length s
 unfolding found
@@ -190,9 +190,9 @@ pub make_proper : (b : List ℕ) (room : Room) → length b ≤ longest_string �
 unfolding make
 make_proper b room h k = by_test (ltb room.limit (room.live + length b)) (λ e. rw e tt) (λ e. rw e (h, k))
 
-answered_proper : (a : Answer) (vs : List Value) (room : Room) → ProperAnswer a → ProperOutcome (answered a vs room)
-answered_proper (Whole w) vs room h = h
-answered_proper (Fault e) vs room h = tt
+answered_proper : (a : Result ℕ Error) (vs : List Value) (room : Room) → ProperAnswer a → ProperOutcome (answered a vs room)
+answered_proper (Ok w) vs room h = h
+answered_proper (Err e) vs room h = tt
 
 freed_proper : (o : Outcome) (vs : List Value) → ProperOutcome o → ProperOutcome (then o (λ v after. value v (let_all_go vs after)))
 freed_proper (value v room) vs h = h
@@ -236,10 +236,10 @@ module _ (vs : List Value) (room : Room) (h : Every Proper vs) where
   ranged_proper t o k = by_test t (λ e. rw e (k e)) (λ e. rw e tt)
 
   called_proper : (f : Function) → ProperOutcome (called f vs room)
-  called_proper function.Len = answered_proper (Whole (length (bytes vs 0))) vs room (omega (arith, short_at 0))
+  called_proper function.Len = answered_proper (Ok (length (bytes vs 0))) vs room (omega (arith, short_at 0))
   called_proper function.Asc =
       ranged_proper (leb 1 (length (bytes vs 0))) _ (λ e.
-      answered_proper (Whole (get_or (bytes vs 0) 0 0)) vs room (omega (arith, first_byte (bytes vs 0) (bytes_at 0))))
+      answered_proper (Ok (get_or (bytes vs 0) 0 0)) vs room (omega (arith, first_byte (bytes vs 0) (bytes_at 0))))
   called_proper function.Chr =
       ranged_proper (within 0 (functions.word vs 0)) _ (λ e.
       let t = both (leb 0 (functions.word vs 0)) (leb (functions.word vs 0) 255) e in
@@ -268,13 +268,13 @@ module _ (vs : List Value) (room : Room) (h : Every Proper vs) where
       let n = instr_texts vs in
       ranged_proper (within 1 i) _ (λ e.
       let t = both (leb 1 i) (leb i 255) e in
-      answered_proper (Whole (place_of i (bytes vs n) (bytes vs (suc n)))) vs room
+      answered_proper (Ok (place_of i (bytes vs n) (bytes vs (suc n)))) vs room
       (place_proper i (bytes vs n) (bytes vs (suc n)) (leb-true i 255 t.1) (short_at n)))
   called_proper function.Str = produced_proper (signed_numeral (functions.word vs 0)) vs room (signed_bytes (functions.word vs 0))
   called_proper function.Hex = produced_proper (hexadecimal (functions.word vs 0)) vs room (numeral_bytes 16 4 (functions.word vs 0) (λ m. omega arith))
   called_proper function.Val = answered_proper (val_of (bytes vs 0)) vs room (val_proper _)
   called_proper function.Abs = answered_proper (magnitude (functions.word vs 0)) vs room (fit_proper (pos (nat_abs (num (functions.word vs 0)))))
-  called_proper function.Sgn = answered_proper (Whole (signum (functions.word vs 0))) vs room (signum_proper (num (functions.word vs 0)))
+  called_proper function.Sgn = answered_proper (Ok (signum (functions.word vs 0))) vs room (signum_proper (num (functions.word vs 0)))
   called_proper function.Fre = answered_proper (fit (pos (room.limit - (let_all_go vs room).live))) vs room (fit_proper (pos (room.limit - (let_all_go vs room).live)))
 
 -- ---- operators

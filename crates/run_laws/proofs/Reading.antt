@@ -1,4 +1,5 @@
 -- The numbers and texts of a formula that reads are whole numbers of 16 bits and strings of at most 255 bytes.
+use Rattle.std.specs.Prelude.{None, Option, Some}
 use mathlib.Core.Path.{◌≡◌, refl}
 use mathlib.Core.Bool.{Bool, true, false, ◌&&◌, false≢true}
 use mathlib.Core.List.{List, [], ◌∷◌, map}
@@ -18,8 +19,6 @@ use Rattle.words.specs.Places.{largest_line_number, furthest}
 use Rattle.words.specs.Vocabulary.{reserved, word_of}
 use Rattle.words.specs.declared.classes.ByteClass.{ByteClass}
 use Rattle.words.specs.declared.classes.ByteClass.TheVariants.{Letter, Digit, Blank, Sign, Quote, Other}
-use Rattle.words.specs.declared.classes.SignFound.{SignFound}
-use Rattle.words.specs.declared.classes.SignFound.TheVariants.{Is, None}
 use Rattle.words.specs.declared.places.Place.{Place}
 use Rattle.words.specs.declared.symbols.Function.{Function}
 use Rattle.words.specs.declared.symbols.Scanned.{Scanned}
@@ -97,8 +96,8 @@ no_number_word Remark = true
 no_number_word Items = true
 no_number_word Free = true
 
-abbrev no_number_sign : SignFound → Bool
-no_number_sign (Is t) = no_number t
+abbrev no_number_sign : Option Token → Bool
+no_number_sign (Some t) = no_number t
 no_number_sign None = true
 
 marked_proper : (f : WordFound) (m : Mark) (i n end : ℕ) → no_number_word f ≡ true → ProperToken (marked f m i n end).token
@@ -118,9 +117,9 @@ word_proper end i s =
     let w = leading (passes run.Word) s in
     marked_proper (word_of w) (mark_of (drop (length w) s)) i (length w) end (meaning_passes no_number_word reserved Free (map capital_of w) refl refl)
 
-paired_proper : (p one : SignFound) (i : ℕ) → no_number_sign p ≡ true → no_number_sign one ≡ true → ProperToken (paired p one i).token
-paired_proper (Is t) one i e f = table_proper t e
-paired_proper None (Is t) i e f = table_proper t f
+paired_proper : (p one : Option Token) (i : ℕ) → no_number_sign p ≡ true → no_number_sign one ≡ true → ProperToken (paired p one i).token
+paired_proper (Some t) one i e f = table_proper t e
+paired_proper None (Some t) i e f = table_proper t f
 paired_proper None None i e f = tt
 
 sign_proper : (i : ℕ) (s : List ℕ) → ProperToken (sign_token i s).token

@@ -1,4 +1,6 @@
 -- Each statement of a text whose formulas are proper keeps the machine's variables and input proper, and goes on where such statements stand.
+use Rattle.std.specs.Prelude.{Err, Ok, Result, ℕ}
+use Rattle.whole.specs.declared.errors.Error.{Error}
 use mathlib.Core.Path.{◌≡◌, refl}
 use mathlib.Core.Bool.{Bool, true, false, cond}
 use mathlib.Core.List.{List, [], ◌∷◌}
@@ -11,8 +13,6 @@ use lib.ListN.{length}
 use Rattle.whole.specs.Digits.{number_item}
 use Rattle.whole.specs.Texts.{longest_string}
 use Rattle.whole.specs.Whole.{num, applied}
-use Rattle.whole.specs.declared.arithmetic.Answer.{Answer}
-use Rattle.whole.specs.declared.arithmetic.Answer.TheVariants.{Whole, Fault}
 use Rattle.whole.specs.declared.arithmetic.Operator.TheVariants.{Add}
 use Rattle.words.specs.declared.names.Kind.{Kind}
 use Rattle.words.specs.declared.names.Kind.TheVariants as kind
@@ -160,14 +160,14 @@ returned_sound : {m : Machine} (x : Search) → Sound m → records.Found Proper
 returned_sound missing s h = s
 returned_sound (found r under) s h = (records_sound under s h.1, h.0)
 
-turned_sound : {m : Machine} (v : Telling) (limit step : ℕ) (back : Position) (under : List Record) (after : Position) (x : Answer)
+turned_sound : {m : Machine} (v : Telling) (limit step : ℕ) (back : Position) (under : List Record) (after : Position) (x : Result ℕ Error)
     → ProperAnswer x → Sound m → ProperPosition back → records.Each ProperRecord under → ProperPosition after
     → ProperNext (turned m v limit step back under after x)
-turned_sound {m} v limit step back under after (Whole w) h s b u a =
+turned_sound {m} v limit step back under after (Ok w) h s b u a =
     let n = number_sound v w h s in
     either_proper (numbers_full m.variables.numbers v) _ _ s
     (either_proper (passed w limit step) _ _ (records_sound under n u, a) (records_sound (loop v limit step back ∷ under) n (b, u), b))
-turned_sound v limit step back under after (Fault e) h s b u a = s
+turned_sound v limit step back under after (Err e) h s b u a = s
 
 next_sound : {m : Machine} (x : Search) (after : Position) → Sound m → records.Found ProperRecord x → ProperPosition after
     → ProperNext (next_on m x after)
@@ -264,9 +264,9 @@ given_sound : (k : Kind) (name : Telling) (b : List ℕ) (m : Machine) (go : Mac
     → ((n : Machine) → Sound n → ProperNext (go n)) → ProperNext (given k name b m go)
 given_sound kind.Whole name b m go h s next = by_number (number_item b) (item_proper b)
   where
-    by_number : (x : Answer) → ProperAnswer x → ProperNext (given_number x name m go)
-    by_number (Whole w) p = either_proper (numbers_full m.variables.numbers name) _ _ s (next (with_number m name w) (number_sound name w p s))
-    by_number (Fault e) p = s
+    by_number : (x : Result ℕ Error) → ProperAnswer x → ProperNext (given_number x name m go)
+    by_number (Ok w) p = either_proper (numbers_full m.variables.numbers name) _ _ s (next (with_number m name w) (number_sound name w p s))
+    by_number (Err e) p = s
 given_sound kind.Text name b m go h s next =
     worked_sound (make b (room_of m)) _ s (make_proper b (room_of m) h.0 h.1)
     (λ x o p u. either_proper (strings_full o.variables.strings name) _ _ u (next (with_string o name b) (string_sound name b h u)))

@@ -2,11 +2,10 @@
 -- statement comes to there, on that machine, is what the assignment of the other side would come to there. It is not said of two texts of
 -- which one has the one side and one the other: places, and so what a line holds and how long it is, would differ, and with them what else the two
 -- runs do. A statement has the proof of its name, in snake case, in `proofs/Runs.antt`.
-use Rattle.std.specs.Prelude.{◌≡◌, false, List, ◌++◌, ℕ, ◌≤◌, ◌<◌, length, get_or}
+use Rattle.std.specs.Prelude.{◌≡◌, false, List, ◌++◌, ℕ, ◌≤◌, ◌<◌, length, get_or, Ok}
 use Rattle.whole.specs.Texts.{longest_string}
 use Rattle.loader.specs.Lines.{Line, lines_of}
 use Rattle.loader.specs.Loading.{load_of}
-use Rattle.loader.specs.declared.loading.Loaded.TheVariants.{Fine}
 use Rattle.grammar.specs.Trees.{Formula, Variable, assign}
 use Rattle.variables.specs.Strings.{Value, whole, text, longest_space}
 use Rattle.machine.specs.Items.{fresh}
@@ -26,7 +25,7 @@ pub record Assigns (c : RunCall) (v : Variable) (f : Formula) : Type 0 where
   pub input : AreBytes (input_of c)
   pub small : (lent_of c).space ≤ longest_space
   pub few : (lent_of c).records ≤ most_records
-  pub loads : load_of (text_of c) ≡ Fine
+  pub loads : load_of (text_of c) ≡ Ok tt
   pub from : List Line
   pub place : ℕ
   pub machine : Machine

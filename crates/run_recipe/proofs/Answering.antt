@@ -1,5 +1,5 @@
 -- What is to be written of a run follows from what the runner answers.
-use mathlib.Core.Path.{◌≡◌, refl, sym, ap, ap₂, ◌∙◌}
+use mathlib.Core.Path.{◌≡◌, ap, ap₂, ◌∙◌}
 use mathlib.Core.List.{List, ◌++◌}
 use Prim.Native.Nat.{ℕ, ◌≤◌}
 use native.Mathlib.Omega.{arith}
@@ -13,15 +13,11 @@ use Rattle.whole.specs.declared.texts.Text.{Text}
 use Rattle.whole.proofs.Numerals.{held_front}
 use Rattle.console.specs.Answers as written
 use Rattle.variables.specs.declared.tables.Tables.{Tables}
-use Rattle.index.specs.Index.{index_words, indexed_of, held_after, index_after}
-use Rattle.index.specs.declared.making.Indexed.{Indexed}
-use Rattle.index.specs.declared.making.Indexed.TheVariants as indexed
-use Rattle.index.proofs.Owning.{made_long}
 use Rattle.runner.specs.Run.{Ran, answer_of, room_after}
 use Rattle.runner.specs.declared.running.Ran as code
 use Rattle.runner.specs.declared.running.Outcome.{Outcome}
 use Rattle.runner.specs.declared.running.Outcome.TheVariants.{Ended, Stopped, Out, Failed, Refused}
-use Rattle.run_recipe.specs.declared.answers.Answer.{Answer}
+use Rattle.console.specs.declared.answers.Answer.{Answer}
 use Rattle.run_recipe.specs.Answers.{word_of, last_line, Tells, told_of}
 
 -- each word is short
@@ -32,14 +28,6 @@ short_word (Stopped l) = omega arith
 short_word (Out l) = omega arith
 short_word (Failed e l) = omega arith
 short_word (Refused r p) = omega arith
-
--- the words that a run is handed are as many as an index has, made or not
-handed_by : (text before : List ℕ) (i : Indexed) → indexed_of text ≡ i → length before ≡ index_words → length (held_after text before i) ≡ index_words
-handed_by text before indexed.Fine e h = ap (λ i. length (held_after text before i)) (sym e) ∙ made_long text before e refl
-handed_by text before (indexed.Refused r p) e h = h
-
-pub handed_long : (text before : List ℕ) {own : List ℕ} → length before ≡ index_words → own ≡ index_after text before → length own ≡ index_words
-handed_long text before h o = ap length o ∙ handed_by text before (indexed_of text) refl h
 
 -- the output stands in front of the room
 front_counts : (l rest : List ℕ) → IsPrefixLen (length l) (l ++ rest)
@@ -59,7 +47,7 @@ tells ran tables room r line room' e f g =
     }
 
 -- the bytes that are written of it
-pub tells_bytes : {ran : Ran} {a : Answer} {room : List ℕ} → Tells ran a room → written.Tells (told_of ran) (record { written = a.written; line = a.line }) room
+pub tells_bytes : {ran : Ran} {a : Answer} {room : List ℕ} → Tells ran a room → written.Tells (told_of ran) a room
 tells_bytes {ran} t =
     record {
       within = t.within;

@@ -8,7 +8,7 @@ use Rattle.console.specs.Lines.{line}
 use Rattle.runner.specs.Run.{Ran, number_in, line_in, place_in, is_refused}
 use Rattle.runner.specs.declared.running.Outcome.{Outcome}
 use Rattle.runner.specs.declared.running.Outcome.TheVariants.{Ended, Stopped, Out, Failed, Refused}
-use Rattle.run_recipe.specs.declared.answers.Answer.{Answer}
+use Rattle.console.specs.declared.answers.Answer.{Answer}
 
 abbrev pub word_of : Outcome → List ℕ
 word_of Ended = bytes "ended"

@@ -5,30 +5,23 @@ ghost use Rattle.machine.specs.Machine.{lent_by};
 ghost use Rattle.runner.specs.Run.{number_in, run_of};
 ghost use Rattle.run_recipe.specs.Answers.{word_of, standing_in, last_line, Tells};
 
-use console::{end_line, put_bytes, put_field};
-use index::{Indexed, index_of};
+use console::{Answer, line};
+use index::{Layout, index_of};
 use loader::refusal_number;
 use runner::{Outcome, run_with};
 use variables::Tables;
 use whole::{Text, number_of};
 
-// How many bytes of the room are what was printed, and the line after them.
-#[derive(Clone, Copy)]
-pub struct Answer {
-    pub written: usize,
-    pub line: Text,
-}
-
-fn word_of(outcome: Outcome) -> Text
-    ensures { result ≡ held (word_of outcome) }
+#[tactic(auto, unfolding(whole::specs::Bytes::bytes))]
+fn word_of(outcome: Outcome) -> &'static [u8]
+    ensures { result.now ≡ word_of outcome }
 {
-    let empty = Text::empty();
     match outcome {
-        Outcome::Ended => put_bytes(empty, b"ended"),
-        Outcome::Stopped(_) => put_bytes(empty, b"stopped"),
-        Outcome::Out(_) => put_bytes(empty, b"out"),
-        Outcome::Failed(_, _) => put_bytes(empty, b"error"),
-        Outcome::Refused(_, _) => put_bytes(empty, b"refused"),
+        Outcome::Ended => b"ended",
+        Outcome::Stopped(_) => b"stopped",
+        Outcome::Out(_) => b"out",
+        Outcome::Failed(_, _) => b"error",
+        Outcome::Refused(_, _) => b"refused",
     }
 }
 
@@ -36,9 +29,7 @@ fn number_in(outcome: Outcome) -> u8
     ensures { result ≡ number_in outcome }
 {
     match outcome {
-        Outcome::Ended => 0,
-        Outcome::Stopped(_) => 0,
-        Outcome::Out(_) => 0,
+        Outcome::Ended | Outcome::Stopped(_) | Outcome::Out(_) => 0,
         Outcome::Failed(error, _) => number_of(error),
         Outcome::Refused(refusal, _) => refusal_number(refusal),
     }
@@ -50,9 +41,9 @@ fn standing_in(outcome: Outcome) -> u64
 {
     match outcome {
         Outcome::Ended => 0,
-        Outcome::Stopped(line) => line.0 as u64,
-        Outcome::Out(line) => line.0 as u64,
-        Outcome::Failed(_, line) => line.0 as u64,
+        Outcome::Stopped(line) | Outcome::Out(line) | Outcome::Failed(_, line) => {
+            u64::from(line.0)
+        }
         Outcome::Refused(_, place) => place.0 as u64,
     }
 }
@@ -61,11 +52,14 @@ fn standing_in(outcome: Outcome) -> u64
 fn line_of(outcome: Outcome, steps: u32) -> Text
     ensures { result ≡ held (last_line outcome steps) }
 {
-    let word = word_of(outcome);
-    let numbered = put_field(word, number_in(outcome) as u64);
-    let placed = put_field(numbered, standing_in(outcome));
-    let counted = put_field(placed, steps as u64);
-    end_line(counted)
+    line(
+        word_of(outcome),
+        &[
+            u64::from(number_in(outcome)),
+            standing_in(outcome),
+            u64::from(steps),
+        ],
+    )
 }
 
 // Runs the recipe over the space and the room. The run is handed the recipe's index; where there is none, words that are not taken for one.
@@ -80,8 +74,8 @@ pub(crate) fn answer_of(
     ensures { Tells (run_of text.now input.now (lent_by space.old room.old records) budget)
         result room.new }
 {
-    let mut index = [0; Indexed::WORDS];
-    index_of(text, &mut index);
+    let mut index = [0; Layout::WORDS];
+    let _ = index_of(text, &mut index);
     let ran = run_with(
         text,
         input,
@@ -92,10 +86,8 @@ pub(crate) fn answer_of(
         budget,
         Tables::empty(),
     );
-    let outcome = ran.outcome;
-    let line = line_of(outcome, ran.steps);
     Answer {
         written: ran.written,
-        line,
+        line: line_of(ran.outcome, ran.steps),
     }
 }

@@ -4,7 +4,7 @@
 
 mod answers;
 
-ghost use Rattle.std.specs.Prelude.{◌≡◌, ◌≤◌, length};
+ghost use Rattle.std.specs.Prelude.{◌≤◌};
 ghost use Rattle.std.specs.Bool.{OnTrue};
 ghost use Rattle.std.specs.Io.KnownBytes.{Appends};
 ghost use Rattle.machine.specs.Machine.{lent_by};
@@ -13,10 +13,11 @@ ghost use Rattle.run_recipe.specs.Answers.{told_of};
 
 use answers::answer_of;
 use console::{
-    Answer, Setting, Taken, argument_count, complain, complain_of, number_argument, recipe_room,
-    take_file, take_front, write_answer,
+    NumberArgument, Untaken, argument_count, complain, complain_of, recipe_room, room, take_file,
+    take_front, write_answer,
 };
 use machine::Machine;
+use std::env::Env;
 use std::io::Write;
 
 // Places among the arguments, of which the program's own name is the first.
@@ -24,31 +25,34 @@ const RECIPE: usize = 1;
 
 const INPUT: usize = 2;
 
-const SPACE: usize = 3;
+// Over the usual space the runner refuses (106), and so it does over 256 records (107).
+const SPACE: NumberArgument<'static> = NumberArgument {
+    name: b"SPACE",
+    place: 3,
+    usual: Machine::LONGEST_SPACE as u32,
+    most: 32768,
+};
 
-const ROOM: usize = 4;
+const ROOM: NumberArgument<'static> = NumberArgument {
+    name: b"ROOM",
+    place: 4,
+    usual: 65536,
+    most: 1048576,
+};
 
-const BUDGET: usize = 5;
+const BUDGET: NumberArgument<'static> = NumberArgument {
+    name: b"BUDGET",
+    place: 5,
+    usual: 1000000,
+    most: 4294967295,
+};
 
-const RECORDS: usize = 6;
-
-// What is lent where an argument is left out, and the most that can be asked for. Over the usual space the runner refuses (106),
-// and so it does over 256 records (107).
-const USUAL_SPACE: u32 = Machine::LONGEST_SPACE as u32;
-
-const MOST_SPACE: u32 = 32768;
-
-const USUAL_ROOM: u32 = 65536;
-
-const MOST_ROOM: u32 = 1048576;
-
-const USUAL_BUDGET: u32 = 1000000;
-
-const MOST_BUDGET: u32 = 4294967295;
-
-const USUAL_RECORDS: u32 = 32;
-
-const MOST_RECORDS: u32 = 257;
+const RECORDS: NumberArgument<'static> = NumberArgument {
+    name: b"RECORDS",
+    place: 6,
+    usual: 32,
+    most: 257,
+};
 
 // How many bytes of string space and of room for output are lent, the budget, and how many records there are.
 #[derive(Clone, Copy)]
@@ -57,19 +61,21 @@ struct Limits {
     room: usize,
     budget: u32,
     records: usize,
+    ghost within: { (space ≤ 32768) × (room ≤ 1048576) },
 }
 
-// For the input, and for the output.
-fn large_room() -> [u8; 1048576]
-    ensures { 1048576 ≡ length result }
-{
-    [0; 1048576]
-}
-
-fn string_space() -> [u8; 32768]
-    ensures { 32768 ≡ length result }
-{
-    [0; 32768]
+// The limits that the arguments give; none where one is bad, of which it is said why.
+fn limits_given<R: Env, W: Write>(rt: &R, err: &mut W) -> Option<Limits> {
+    let space = SPACE.given(rt, err)?;
+    let room = ROOM.given(rt, err)?;
+    let budget = BUDGET.given(rt, err)?;
+    let records = RECORDS.given(rt, err)?;
+    Some(Limits {
+        space: space as usize,
+        room: room as usize,
+        budget,
+        records: records as usize,
+    })
 }
 
 // Writes what a run prints and its line, or says on standard error why it can't; whether they were written.
@@ -87,95 +93,51 @@ fn run_and_tell<W: Write, E: Write>(
         (told_of (run_of text.now input.now (lent_by space.old room.old records) budget))) }
 {
     let answer = answer_of(text, input, space, room, budget, records);
-    let told = Answer {
-        written: answer.written,
-        line: answer.line,
-    };
-    write_answer(out, err, told, room)
+    write_answer(out, err, answer, room)
 }
 
-fn run_within(rt: &HostRuntime, text: &[u8], input: &[u8], limits: Limits)
-    requires { (limits.space ≤ 32768) × (limits.room ≤ 1048576) }
-{
-    let mut strings = string_space();
-    let mut output = large_room();
-    let lent = limits.space;
-    let most = limits.room;
+fn run_within(rt: &HostRuntime, text: &[u8], input: &[u8], limits: Limits) {
+    let mut strings = room::<32768>();
+    let mut output = room::<1048576>();
     run_and_tell(
         &mut rt.stdout(),
         &mut rt.stderr(),
         text,
         input,
-        &mut strings[..lent],
-        &mut output[..most],
+        &mut strings[..limits.space],
+        &mut output[..limits.room],
         limits.budget,
         limits.records,
     );
 }
 
-fn run_on_input(rt: &HostRuntime, text: &[u8], limits: Limits)
-    requires { (limits.space ≤ 32768) × (limits.room ≤ 1048576) }
-{
+fn run_recipe(rt: &HostRuntime, limits: Limits) {
     let mut err = rt.stderr();
-    let mut input = large_room();
-    match take_file(rt, &mut err, INPUT, &mut input) {
-        Taken::All(len) => run_within(rt, text, &input[..len], limits),
-        Taken::Front => complain_of(rt, &mut err, b"INPUT is longer than 1048576 bytes", INPUT),
-        Taken::Nothing => {}
-    }
-}
-
-fn run_recipe(rt: &HostRuntime, limits: Limits)
-    requires { (limits.space ≤ 32768) × (limits.room ≤ 1048576) }
-{
     let mut text = recipe_room();
-    let taken = take_front(rt, &mut rt.stderr(), RECIPE, &mut text);
-    let Taken::All(len) = taken else {
+    let Some(len) = take_front(rt, &mut err, RECIPE, &mut text) else {
         return;
     };
-    run_on_input(rt, &text[..len], limits);
+    let mut input = room::<1048576>();
+    match take_file(rt, &mut err, INPUT, &mut input) {
+        Ok(count) => run_within(rt, &text[..len], &input[..count], limits),
+        Err(Untaken::Longer) => {
+            complain_of(rt, &mut err, b"INPUT is longer than 1048576 bytes", INPUT);
+        }
+        Err(Untaken::Unread) => {}
+    }
 }
 
 fn main(rt: HostRuntime) {
     let mut err = rt.stderr();
     let count = argument_count(&rt);
-    if count <= INPUT || RECORDS < count - 1 {
+    if count <= INPUT || RECORDS.place + 1 < count {
         complain(
             &mut err,
             b"usage: run_recipe RECIPE INPUT [SPACE [ROOM [BUDGET [RECORDS]]]]",
         );
         return;
     }
-    let space = number_argument(&rt, &mut err, b"SPACE", SPACE, USUAL_SPACE, MOST_SPACE);
-    let Setting::Is(lent) = space else {
-        return;
-    };
-    let room = number_argument(&rt, &mut err, b"ROOM", ROOM, USUAL_ROOM, MOST_ROOM);
-    let Setting::Is(most) = room else {
-        return;
-    };
-    let steps = number_argument(&rt, &mut err, b"BUDGET", BUDGET, USUAL_BUDGET, MOST_BUDGET);
-    let Setting::Is(budget) = steps else {
-        return;
-    };
-    let stack = number_argument(
-        &rt,
-        &mut err,
-        b"RECORDS",
-        RECORDS,
-        USUAL_RECORDS,
-        MOST_RECORDS,
-    );
-    let Setting::Is(records) = stack else {
-        return;
-    };
-    run_recipe(
-        &rt,
-        Limits {
-            space: lent as usize,
-            room: most as usize,
-            budget,
-            records: records as usize,
-        },
-    );
+    if let Some(limits) = limits_given(&rt, &mut err) {
+        run_recipe(&rt, limits);
+    }
 }

@@ -1,4 +1,6 @@
 -- A line entered from its start, and what is left of one: the code's standing, by a row of the table, beside the definition's.
+use Rattle.std.specs.Prelude.{None, Option, Some}
+use Rattle.std.specs.Option.{unwrap_or}
 use mathlib.Core.Path.{◌≡◌, refl, sym, ap, ◌∙◌}
 use mathlib.Core.Bool.{true, false}
 use mathlib.Core.List.{List, ◌∷◌, ◌++◌}
@@ -19,7 +21,6 @@ use Rattle.reader.specs.Lines.{Judgement, unreadable, too_deep, holds, judgement
 use Rattle.reader.proofs.Judging.{held, holds_shallow}
 use Rattle.rows.specs.bridge.Rows.{count_of, cell, span_in, verdict_in, verdict_of, Finds, Tabled}
 use Rattle.rows.specs.declared.cells.Row.{Row}
-use Rattle.rows.specs.declared.finding.RowFound.TheVariants as found
 use Rattle.rows.proofs.Ordering.{no_line, next_drop, row_some, row_lines, row_span, row_number, row_inside, row_there}
 use Rattle.machine.specs.Machine.{Machine}
 use Rattle.machine.specs.bridge.Holding.{Shallow, lines_at, body_of, position_of, Begins, Positioned}
@@ -120,11 +121,11 @@ module _ {text rows : List ℕ} (t : Tabled text rows) (i : ℕ) where
 -- ---- the row of a line's place
 
 -- that was found,
-pub row_found : {rows : List ℕ} (line : Place) {row : Row} → row.0 < count_of rows → cell rows row.0 1 ≡ line.0 → RowOf rows line row
+row_found : {rows : List ℕ} (line : Place) {row : Row} → row.0 < count_of rows → cell rows row.0 1 ≡ line.0 → RowOf rows line row
 row_found line h e = record { inside = h; is = λ text t b. ap place e }
 
 -- and there is one
-pub row_missing : {rows : List ℕ} (line : Place) (row : Row) → row.0 < count_of rows → Finds rows 1 line.0 found.None → RowOf rows line row
+row_missing : {rows : List ℕ} (line : Place) (row : Row) → row.0 < count_of rows → Finds rows 1 line.0 None → RowOf rows line row
 row_missing line row h f =
     record {
       inside = h;
@@ -136,6 +137,11 @@ row_missing line row h f =
 pub row_of_lines : {text rows : List ℕ} {line : Place} {row : Row} → RowOf rows line row → Tabled text rows → Begins text line.0
     → lines_at text line.0 ≡ drop row.0 (lines_of text)
 row_of_lines {text} {row = row} w t b = ap (λ x. lines_at text x.0) (sym (w.is text t b)) ∙ row_lines t row.0 w.inside
+
+-- the one that was found, or another where none was
+pub row_given : {rows : List ℕ} (line : Place) (row : Row) → row.0 < count_of rows → (found : Option Row) → Finds rows 1 line.0 found → RowOf rows line (unwrap_or found row)
+row_given line row h (Some other) f = row_found line f.0 f.1
+row_given line row h None f = row_missing line row h f
 
 -- ---- what is left of a line
 

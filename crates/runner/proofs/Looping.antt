@@ -10,9 +10,9 @@ use lib.Seq.{drop-drop}
 use Rattle.loader.specs.Lines.{Line, lines_of}
 use Rattle.grammar.specs.Trees.{Part}
 use Rattle.space.specs.Moves.{cleared}
+use Rattle.variables.specs.Tables.{empty_tables}
 use Rattle.variables.specs.Strings.{longest_space}
-use Rattle.variables.specs.Tables.{names_long}
-use Rattle.variables.specs.Variables.{most_variables}
+use Rattle.variables.specs.Tables.{names_long, empty_tables}
 use Rattle.variables.proofs.Holding.{empty_numbers, empty_strings, empty_numbers_held, empty_strings_held, empty_sum}
 use Rattle.rows.specs.bridge.Rows.{span_in, Tabled}
 use Rattle.rows.proofs.Ordering.{row_lines}
@@ -27,7 +27,7 @@ use Rattle.runner.specs.Run as run
 use Rattle.runner.specs.Run.{finished, ends_with, running, entering, line_number_of, is_refused}
 use Rattle.runner.specs.bridge.Standings.{AtAs, StandsAs, Rowed, StandsIn}
 use Rattle.runner.specs.bridge.Acting.{goes_of, StandsAt, Acts}
-use Rattle.runner.specs.bridge.Endings.{run_in, outcome_of, ended_as, RanAs, Blank}
+use Rattle.runner.specs.bridge.Endings.{run_in, outcome_of, ended_as, RanAs}
 use Rattle.runner.specs.bridge.Lending.{Awaits, StepsAs}
 use Rattle.runner.specs.declared.going.Acted.{Acted}
 use Rattle.runner.specs.declared.going.Going.{Going}
@@ -37,6 +37,7 @@ use Rattle.runner.specs.declared.standing.Standing.{Standing}
 use Rattle.runner.specs.declared.standing.Standing.TheVariants as standing
 use Rattle.runner.proofs.Entering.{row_numbered}
 use Rattle.runner.proofs.Finishing.{ran_as}
+use Rattle.variables.specs.declared.tables.Tables.{Tables}
 
 -- ---- the definition's run
 
@@ -79,8 +80,7 @@ pub record Kept (text rows input space₀ room₀ : List ℕ) (rs₀ : List Reco
 -- it holds at the start
 module _ (text input space room : List ℕ) (rs : List Record) (small : length space ≤ longest_space) (few : length rs ≤ most_records) where
   abbrev fresh : State
-  fresh =
-      state_of (fresh_machine (length rs)) (replicate names_long 0) (replicate most_variables 0) (replicate names_long 0) (replicate most_variables 0)
+  fresh = state_of (fresh_machine (length rs)) empty_tables
 
   fresh_sound : Sound fresh input space room
   fresh_sound =
@@ -113,12 +113,12 @@ module _ (text input space room : List ℕ) (rs : List Record) (small : length s
         placed = λ i h. absurd (omega arith);
       }
 
-  pub kept_fresh : (budget : ℕ) {rows names words labels lengths : List ℕ} {machine : Machine} {s : Standing} → Tabled text rows
-      → Blank names words labels lengths
+  pub kept_fresh : (budget : ℕ) {rows : List ℕ} {tables : Tables} {machine : Machine} {s : Standing} → Tabled text rows
+      → tables ≡ empty_tables
       → (machine ≡ fresh_machine (length rs)) × StandsIn rows s (λ x. Unit {0}) (λ x n. entering n (lines_of x))
-      → Kept text rows input space room rs budget space room (state_of machine names words labels lengths) s rs
+      → Kept text rows input space room rs budget space room (state_of machine tables) s rs
   kept_fresh budget {rows} {machine = machine} {s = s} t blank e =
-      rw (e.0, blank.no_names, blank.no_words, blank.no_labels, blank.no_lengths)
+      rw (e.0, blank)
       (record {
         sound = fresh_sound;
         space_long = refl;

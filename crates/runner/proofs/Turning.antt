@@ -1,33 +1,29 @@
 -- One turn: the machine that a statement begins with, the record that it asked for, the statement that is done, and where it leads.
+use Rattle.std.specs.Prelude.{ℕ}
 use mathlib.Core.Path.{◌≡◌, refl, ap, sym, subst, ◌∙◌}
 use mathlib.Core.Bool.{true}
 use mathlib.Core.List.{List}
 use Prim.Native.Nat.{ℕ}
 use native.Mathlib.Omega.{arith}
-use lib.ListN.{get_or}
-use Rattle.whole.proofs.Never.{never}
 use Rattle.words.specs.declared.places.Place.{Place}
 use Rattle.words.specs.declared.symbols.Scanned.{Scanned}
 use Rattle.scanner.specs.Tokens.{token_at}
 use Rattle.loader.specs.declared.lines.LineSpan.{LineSpan}
 use Rattle.grammar.specs.Trees.{Part}
-use Rattle.statements.specs.Statements.{lead_of, begun_by, good_part, part_of}
-use Rattle.statements.specs.declared.leading.Lead.{Lead}
+use Rattle.statements.specs.Statements.{lead_of, good_part, part_of}
 use Rattle.statements.specs.Parts.{head_of, tail_of, place_of}
 use Rattle.rows.specs.bridge.Rows.{span_in, Tabled}
 use Rattle.rows.specs.declared.cells.Row.{Row}
 use Rattle.rows.proofs.Ordering.{row_lines}
 use Rattle.machine.specs.Machine as spec
-use Rattle.machine.specs.bridge.Holding.{lines_at, blank_record, Parted, Fed, State, state_of, Sound, Same}
+use Rattle.machine.specs.bridge.Holding.{lines_at, Parted, Fed, State, state_of, Sound, Same}
 use Rattle.machine.specs.bridge.Wanted.{found_in, entry_at, Told}
-use Rattle.machine.specs.bridge.Seeking.{Wish, wish_of, test_of, Seeks}
+use Rattle.machine.specs.bridge.Seeking.{Wish, wish_of, test_of}
 use Rattle.machine.specs.declared.positions.Next.{Next}
 use Rattle.machine.specs.declared.positions.Turned.{Turned}
 use Rattle.machine.specs.declared.positions.Next.TheVariants as next
 use Rattle.turns.specs.bridge.Turns.{Turn, turned_to, Comes, Leaves, Turns, FoundBelow, Standing, turn_of}
 use Rattle.machine.specs.declared.records.Record.{Record}
-use Rattle.machine.specs.declared.records.Found.{Found}
-use Rattle.machine.specs.declared.records.Found.TheVariants as found
 use Rattle.machine.specs.declared.records.Sought.{Sought}
 use Rattle.machine.proofs.Searching as search_laws
 use Rattle.machine.proofs.Seeking.{part_seeks}
@@ -38,15 +34,14 @@ use Rattle.turns.specs.Steps.{do_statement}
 use Rattle.control.proofs.Jumps.{found_low}
 use Rattle.runner.specs.Run as run
 use Rattle.runner.specs.bridge.Standings.{line_in, Stood, StandsAs, StandsIn, GoesTo, next_of}
-use Rattle.runner.specs.bridge.Acting.{At, StandsAt, Asks, AsksAt, slot_of, LooksUp, stepped, Ready, Acts, ActsAt}
-use Rattle.runner.specs.bridge.Lending.{lookup_of}
+use Rattle.runner.specs.bridge.Acting.{At, StandsAt, Asks, LooksUp, stepped, Ready, Acts, ActsAt}
 use Rattle.runner.specs.declared.going.Acted.{Acted}
 use Rattle.runner.specs.declared.going.Asked.{Asked}
 use Rattle.runner.specs.declared.going.Lookup.{Lookup}
-use Rattle.runner.specs.declared.running.Outcome.{Outcome}
 use Rattle.runner.specs.declared.standing.Standing as code
 use Rattle.runner.specs.declared.standing.Standing.TheVariants as standing
 use Rattle.runner.proofs.Entering.{row_numbered}
+use Rattle.variables.specs.declared.tables.Tables.{Tables}
 
 -- ---- one step more changes nothing else
 
@@ -150,36 +145,14 @@ came text (next.Fails e) (step.fails f m) P h = record { machine = m; holds = h.
 pub looked_below : {k : Sought} {d : ℕ} {rs : List Record} {l : Lookup} → LooksUp k d rs l → FoundBelow d l.found
 looked_below {k} {d} {rs} w = rw w.found (found_low k rs d)
 
--- what stands at the slot that was found is what was found
-looked_by : (k : Sought) (d : ℕ) (rs : List Record) (f : Found) {slot : ℕ} {e : Record} → f ≡ found_in k rs d → slot ≡ slot_of f → e ≡ get_or rs slot blank_record
-    → LooksUp k d rs (lookup_of f e)
-looked_by k d rs (found.At i) found slot entry = record { found = found; entry = entry ∙ ap (λ x. get_or rs x blank_record) slot }
-looked_by k d rs found.None found slot entry = record { found = found; entry = refl }
-
-pub looked_up : (k : Sought) (d : ℕ) (rs : List Record) {f : Found} {slot : ℕ} {e : Record} {l : Lookup} → f ≡ found_in k rs d → slot ≡ slot_of f
-    → e ≡ get_or rs slot blank_record → l ≡ lookup_of f e → LooksUp k d rs l
-looked_up k d rs {f} found slot entry is = rw is (looked_by k d rs f found slot entry)
-
 -- ---- a turn
-
--- one that is over stands at none
-pub not_over : {P : Type 0} {s : code.Standing} {o : Outcome} {row : Row} {at : Place} → s ≡ standing.Over o → s ≡ standing.At row at → P
-not_over e f = never (cc)
 
 -- the statement that a run stands at
 pub stands_here : {text rows : List ℕ} {s : code.Standing} {row : Row} {at : Place} → StandsAt text rows s → s ≡ standing.At row at → At text rows row.0 at
 stands_here {row = row} {at = at} w e =
     let a : w.row ≡ row = cc w.is in let b : w.at ≡ at = cc w.is in rw (a, b) at w.here
 
--- asks as it is led,
-pub asks_made : {text rows names : List ℕ} {numbers : ℕ} {s : code.Standing} {row : Row} {at : Place} {span : LineSpan} {lead : Lead} {sought : Sought}
-    → s ≡ standing.At row at → span ≡ span_in rows row.0 → lead ≡ lead_of (line_in text span) true (token_at (line_in text span) at)
-    → Seeks names numbers span.place at sought (begun_by (line_in text span) lead) → AsksAt text rows names numbers s (record { lead = lead; sought = sought })
-asks_made {text} {names = names} {numbers = numbers} {row = row} {at = at} {span = span} {lead = lead} {sought = sought} e f led seeks =
-    let r : Asks names numbers (line_in text span) span.place at (record { lead = lead; sought = sought }) = record { led = led; seeks = seeks } in
-    record { asks = λ row' at' e'. let a : row ≡ row' = cc in let b : at ≡ at' = cc in rw (f, a, b) at r }
-
--- and acts
+-- acts
 pub acts_at : {text rows : List ℕ} {s : code.Standing} {m : State} {asked : Asked} {lookup : Lookup} {input space room : List ℕ} {r : Acted} {m' : State} {space' room' : List ℕ}
     {row : Row} {at : Place} → s ≡ standing.At row at → Acts text rows row.0 at m asked lookup input space room r m' space' room'
     → ActsAt text rows s m asked lookup input space room r m' space' room'
@@ -187,7 +160,7 @@ acts_at {row = row} {at = at} e a =
     record { acts = λ row' at' e'. let x : row ≡ row' = cc in let y : at ≡ at' = cc in rw (x, y) at a }
 
 module _ {text rows : List ℕ} {row : ℕ} {at : Place} {m : State} {asked : Asked} {lookup : Lookup} {input space room : List ℕ}
-    (here : At text rows row at) (asks : Asks m.tables.numbers.names m.tables.numbers.count (line_in text (span_in rows row)) (span_in rows row).place at asked)
+    (here : At text rows row at) (asks : Asks m.tables.numbers (line_in text (span_in rows row)) (span_in rows row).place at asked)
     (ready : Ready text m lookup input space room) where
   -- what the statement asks of the caller
   pub acts_begins : Standing text (line_in text (span_in rows row)) (span_in rows row).place
@@ -199,15 +172,15 @@ module _ {text rows : List ℕ} {row : ℕ} {at : Place} {m : State} {asked : As
       (stood_line here.stood, (stood_parted here.stood, (sound_stepped ready.sound, (ready.below, (asks.led, (here.tabled, ready.fed))))))
 
   -- and what it does
-  pub acts_made : {turned : Turned} (names words labels lengths : List ℕ) {s : code.Standing} {space' room' : List ℕ}
+  pub acts_made : {turned : Turned} (tables : Tables) {s : code.Standing} {space' room' : List ℕ}
       → ((p : Part) (end : Scanned) → part_of (line_in text (span_in rows row)) true at.0 ≡ good_part p end
       → Turns text (stepped m) input space room (Told text m.tables.numbers.names (test_of (wish_of (span_in rows row).place.0 (place_of p) (head_of p))) m.depth lookup.found lookup.entry)
-      (λ n. do_statement text (place_of p) (head_of p) n (record { lines = lines_at text (span_in rows row).place.0; rest = tail_of p })) (turn_of turned names words labels lengths) space' room')
+      (λ n. do_statement text (place_of p) (head_of p) n (record { lines = lines_at text (span_in rows row).place.0; rest = tail_of p })) (turn_of turned tables) space' room')
       → StandsIn rows s (λ x. GoesTo x turned.next) (λ x n. run.following (span_in rows row).number (next_of x turned.next n))
       → Acts text rows row at m asked lookup input space room
       (record { going = record { machine = turned.machine; standing = s }; slot = turned.slot; held = turned.held })
-      (state_of turned.machine names words labels lengths) space' room'
-  acts_made {turned} names words labels lengths {s} does follows =
+      (state_of turned.machine tables) space' room'
+  acts_made {turned} tables {s} does follows =
       record {
         leaves = leaves_as (does _ _ (stood_reads here.stood)).leaves;
         rowed = follows.rowed;

@@ -1,5 +1,6 @@
 -- A run: line by line, statement by statement, within the budget.
-use Rattle.std.specs.Prelude.{Bool, true, false, cond, List, [], ◌∷◌, ◌++◌, ℕ, zero, suc, ◌-◌, ltb, length, drop, replicate}
+use Rattle.loader.specs.declared.refusals.RefusedAt.{RefusedAt}
+use Rattle.std.specs.Prelude.{Bool, true, false, cond, List, [], ◌∷◌, ◌++◌, ℕ, zero, suc, ◌-◌, ltb, length, drop, replicate, Err, Ok, Result}
 use Rattle.whole.specs.Digits.{leading_value}
 use Rattle.whole.specs.Errors.{error_number}
 use Rattle.whole.specs.declared.errors.Error.{Error}
@@ -7,8 +8,6 @@ use Rattle.whole.specs.declared.errors.Error.TheVariants.{Syntax, FormulaTooComp
 use Rattle.loader.specs.Lines.{Line, lines_of, after_number, next_line}
 use Rattle.loader.specs.Loading.{load_of}
 use Rattle.loader.specs.Refusals.{refusal_number}
-use Rattle.loader.specs.declared.loading.Loaded.{Loaded}
-use Rattle.loader.specs.declared.loading.Loaded.TheVariants as loaded
 use Rattle.loader.specs.declared.refusals.Refusal.TheVariants.{SpaceTooLong, StackTooLong}
 use Rattle.words.specs.Places.{place, line_number}
 use Rattle.words.specs.declared.places.LineNumber.{LineNumber}
@@ -98,9 +97,9 @@ unfoldable pub running : ℕ → List ℕ → Standing → Ran
 running zero program standing = by_standing standing (λ m lines p. ends_with (Out (line_number_of lines)) m)
 running (suc n) program standing = by_standing standing (λ m lines p. running n program (turn program m lines p))
 
-abbrev pub if_loaded : Loaded → Machine → (Unit {0} → Ran) → Ran
-if_loaded loaded.Fine m go = go tt
-if_loaded (loaded.Refused refusal p) m go = ends_with (Refused refusal p) m
+abbrev pub if_loaded : Result (Unit {0}) RefusedAt → Machine → (Unit {0} → Ran) → Ran
+if_loaded (Ok _) m go = go tt
+if_loaded (Err e) m go = ends_with (Refused e.refusal e.place) m
 
 -- a run of a text on an input, with what it is lent and a budget of steps; a string space over 16,384 bytes is refused (106), then a stack
 -- of over 256 records (107), before the text is loaded
@@ -171,21 +170,12 @@ room_after r room = r.machine.output ++ drop (length r.machine.output) room
 abbrev pub stack_after : Ran → List Record → List Record
 stack_after r stack = cond (is_refused r.ending) stack (replicate (length stack) blank_record)
 
--- tables in four arrays, of which so many entries count
-abbrev pub tables_by : List ℕ → List ℕ → ℕ → List ℕ → List ℕ → ℕ → Tables
-tables_by names words numbers labels lengths strings =
-    record { numbers = record { names = names; words = words; count = numbers }; strings = record { names = labels; lengths = lengths; count = strings } }
-
 -- an answer with the tables that are lent beside it
-abbrev pub ran_of : Done → List ℕ → List ℕ → List ℕ → List ℕ → code.Ran
-ran_of d names words labels lengths = record {
+abbrev pub ran_of : Done → Tables → code.Ran
+ran_of d tables = record {
   outcome = d.outcome;
   steps = d.steps;
   written = d.written;
   taken = d.taken;
-  tables = tables_by names words d.numbers labels lengths d.strings;
+  tables = tables;
 }
-
--- those that are lent, of which none counts as yet
-abbrev pub lent_tables : List ℕ → List ℕ → List ℕ → List ℕ → Tables
-lent_tables names words labels lengths = tables_by names words 0 labels lengths 0

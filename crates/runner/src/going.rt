@@ -1,4 +1,4 @@
-// A run on its way. What sees the records only calls these, and tests what they answer.
+// A run on its way, beside the lent stack of records.
 ghost use Rattle.std.specs.Prelude.{◌≡◌};
 ghost use Rattle.space.specs.Moves.{cleared};
 ghost use Rattle.loader.specs.Lines.{lines_of};
@@ -6,16 +6,16 @@ ghost use Rattle.rows.specs.bridge.Rows.{Ordered};
 ghost use Rattle.machine.specs.bridge.Holding.{fresh_machine, state_of};
 ghost use Rattle.runner.specs.Run as run;
 ghost use Rattle.runner.specs.bridge.Standings.{Rowed, StandsIn};
-ghost use Rattle.runner.specs.bridge.Acting.{goes_of, StandsAt, AsksAt, slot_of, no_lookup, Ready, ActsAt};
+ghost use Rattle.runner.specs.bridge.Acting.{goes_of, StandsAt, AsksAt, Ready, ActsAt};
 ghost use Rattle.runner.specs.bridge.Endings.{outcome_of, done_as};
 
 use crate::running::{Done, Outcome};
 use crate::standing::{Standing, entered, following};
-use machine::{Found, Machine, Record, Sought, sought_record};
+use machine::{Machine, Record, Sought, sought_record};
 use rows::{Row, Rows, number_in, span_in};
 use statements::{Lead, lead_at};
 use steps::do_statement;
-use variables::{NameTable, Tables, clean_up};
+use variables::{Numbers, Tables, clean_up};
 
 #[derive(Clone, Copy)]
 pub struct Going {
@@ -26,14 +26,14 @@ pub struct Going {
 // How a statement is led, and the record that it asks for.
 #[derive(Clone, Copy)]
 pub struct Asked {
-    pub lead: Lead,
+    pub lead: Option<Lead>,
     pub sought: Sought,
 }
 
 // The record that was found, or a blank one.
 #[derive(Clone, Copy)]
 pub struct Lookup {
-    pub found: Found,
+    pub found: Option<usize>,
     pub entry: Record,
 }
 
@@ -60,56 +60,25 @@ pub(crate) fn begins(rows: &Rows, records: usize) -> Going
 pub(crate) fn goes(going: Going, budget: u32) -> bool
     ensures { result ≡ goes_of going.standing going.machine.steps budget }
 {
-    let machine = going.machine;
-    let standing = going.standing;
-    match standing {
-        Standing::Over(_) => false,
-        Standing::At(_, _) => machine.steps < budget,
-    }
+    matches!(going.standing, Standing::At(_, _)) && going.machine.steps < budget
 }
 
 // What the statement asks for.
-pub(crate) fn asks(text: &[u8], rows: &Rows, going: Going, names: &NameTable) -> Asked
+pub(crate) fn asks(text: &[u8], rows: &Rows, going: Going, numbers: &Numbers) -> Asked
     requires { StandsAt text.now rows.now going.standing }
-    ensures { AsksAt text.now rows.now names.now going.machine.numbers going.standing result }
+    ensures { AsksAt text.now rows.now numbers.now going.standing result }
 {
-    let machine = going.machine;
-    let standing = going.standing;
-    match standing {
-        Standing::Over(_) => Asked {
-            lead: Lead::Nothing,
+    let Standing::At(row, at) = going.standing else {
+        return Asked {
+            lead: None,
             sought: Sought::NOTHING,
-        },
-        Standing::At(row, at) => {
-            let span = span_in(rows, row);
-            let from = span.body.0;
-            let end = span.end.0;
-            let line = &text[from..end];
-            let lead = lead_at(line, at, true);
-            let sought = sought_record(line, span.place, at, lead, names, machine.numbers);
-            Asked { lead, sought }
-        }
-    }
-}
-
-// The slot that was found; past the last of any stack where none was.
-pub(crate) fn slot_of(found: Found) -> usize
-    ensures { result ≡ slot_of found }
-{
-    match found {
-        Found::At(slot) => slot,
-        Found::None => Machine::RECORDS,
-    }
-}
-
-pub(crate) fn no_lookup() -> Lookup
-    ensures { result ≡ no_lookup }
-{
-    let entry = Record::blank();
-    Lookup {
-        found: Found::None,
-        entry,
-    }
+        };
+    };
+    let span = span_in(rows, row);
+    let line = &text[span.body.0..span.end.0];
+    let lead = lead_at(line, at, true);
+    let sought = sought_record(line, span.place, at, lead, numbers);
+    Asked { lead, sought }
 }
 
 // The statement is done, and counts one step when begun.
@@ -117,10 +86,7 @@ pub(crate) fn act(
     text: &[u8],
     rows: &Rows,
     going: Going,
-    names: &mut NameTable,
-    words: &mut [u16; Tables::MOST],
-    labels: &mut NameTable,
-    lengths: &mut [u8; Tables::MOST],
+    tables: &mut Tables,
     asked: Asked,
     lookup: Lookup,
     input: &[u8],
@@ -128,13 +94,12 @@ pub(crate) fn act(
     room: &mut [u8],
 ) -> Acted
     requires { StandsAt text.now rows.now going.standing
-        × (AsksAt text.now rows.now names.old going.machine.numbers going.standing asked
-        × Ready text.now (state_of going.machine names.old words.old labels.old lengths.old) lookup input.now space.old room.old) }
-    ensures { ActsAt text.now rows.now going.standing (state_of going.machine names.old words.old labels.old lengths.old) asked lookup input.now space.old room.old result
-        (state_of result.going.machine names.new words.new labels.new lengths.new) space.new room.new }
+        × (AsksAt text.now rows.now tables.old.numbers going.standing asked
+        × Ready text.now (state_of going.machine tables.old) lookup input.now space.old room.old) }
+    ensures { ActsAt text.now rows.now going.standing (state_of going.machine tables.old) asked lookup input.now space.old room.old result
+        (state_of result.going.machine tables.new) space.new room.new }
 {
-    let standing = going.standing;
-    let Standing::At(row, at) = standing else {
+    let Standing::At(row, at) = going.standing else {
         return Acted {
             going,
             slot: Machine::RECORDS,
@@ -142,41 +107,31 @@ pub(crate) fn act(
         };
     };
     let span = span_in(rows, row);
-    let here = span.place;
-    let from = span.body.0;
-    let end = span.end.0;
-    let lead = asked.lead;
-    let found = lookup.found;
-    let entry = lookup.entry;
     let mut begun = going.machine;
-    begun.steps = begun.steps + 1;
+    begun.steps += 1;
     let turned = do_statement(
         text,
         rows,
-        &text[from..end],
-        here,
+        &text[span.body.0..span.end.0],
+        span.place,
         at,
-        lead,
+        asked.lead,
         begun,
-        names,
-        words,
-        labels,
-        lengths,
-        found,
-        entry,
+        tables,
+        lookup.found,
+        lookup.entry,
         input,
         space,
         room,
     );
-    let next = turned.next;
-    let slot = turned.slot;
-    let held = turned.held;
-    let machine = turned.machine;
-    let standing = following(rows, row, next);
+    let standing = following(rows, row, turned.next);
     Acted {
-        going: Going { machine, standing },
-        slot,
-        held,
+        going: Going {
+            machine: turned.machine,
+            standing,
+        },
+        slot: turned.slot,
+        held: turned.held,
     }
 }
 
@@ -198,18 +153,12 @@ pub(crate) fn told(rows: &Rows, going: Going, space: &mut [u8]) -> Done
         × (space.new ≡ cleared space.old going.machine.used.0) }
 {
     let machine = going.machine;
-    let standing = going.standing;
-    let outcome = outcome_of(rows, standing);
-    let used = machine.used;
-    clean_up(space, used);
-    let printer = machine.printer;
-    let taken = machine.taken;
+    let outcome = outcome_of(rows, going.standing);
+    clean_up(space, machine.used);
     Done {
         outcome,
         steps: machine.steps,
-        written: printer.written,
-        taken: taken.0,
-        numbers: machine.numbers,
-        strings: machine.strings,
+        written: machine.printer.written,
+        taken: machine.taken.0,
     }
 }

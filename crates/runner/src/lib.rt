@@ -3,8 +3,6 @@
 
 mod going;
 mod lending;
-mod owning;
-mod parts;
 mod running;
 mod standing;
 

@@ -8,7 +8,7 @@ ghost use Rattle.runner.specs.bridge.Standings.{StandsIn, RowOf, GoesTo, next_of
 
 use crate::running::Outcome;
 use machine::{Next, Position};
-use rows::{Row, RowFound, Rows, has_row, number_in, place_in, row_at, verdict_in};
+use rows::{Row, Rows, has_row, number_in, place_in, row_at, verdict_in};
 use whole::Error;
 use words::Place;
 
@@ -42,14 +42,10 @@ fn row_of(rows: &Rows, row: Row, line: Place) -> Row
     requires { Ordered rows.now × (row.0 < count_of rows.now) }
     ensures { RowOf rows.now line result }
 {
-    let here = place_in(rows, row);
-    if here.0 == line.0 {
+    if place_in(rows, row) == line {
         return row;
     }
-    match row_at(rows, line) {
-        RowFound::At(other) => other,
-        RowFound::None => row,
-    }
+    row_at(rows, line).unwrap_or(row)
 }
 
 // What is left of a line, or the next line.
@@ -58,14 +54,11 @@ fn onward(rows: &Rows, row: Row, position: Position) -> Standing
     ensures { StandsIn rows.now result (λ text. Positioned text position)
         (λ text m. run.onward m (position_of text position).lines (position_of text position).rest) }
 {
-    let line = position.line;
-    let at = position.at;
-    let here = row_of(rows, row, line);
+    let here = row_of(rows, row, position.line);
     if position.over {
-        let next = here.0 + 1;
-        return entered(rows, Row(next));
+        return entered(rows, Row(here.0 + 1));
     }
-    Standing::At(here, at)
+    Standing::At(here, position.at)
 }
 
 // Where a run stands after a statement of the line of a row.

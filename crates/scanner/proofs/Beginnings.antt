@@ -13,6 +13,7 @@ use Rattle.whole.proofs.Reading.{drop_next}
 use Rattle.words.specs.Classes.{class_of}
 use Rattle.words.specs.Vocabulary.{word_of}
 use Rattle.words.specs.declared.places.Place.{Place}
+use Rattle.words.specs.declared.classes.ByteClass.{ByteClass}
 use Rattle.words.specs.declared.vocabulary.WordFound.{WordFound}
 use Rattle.words.specs.declared.vocabulary.WordFound.TheVariants.{Free}
 use Rattle.words.specs.declared.symbols.Token.TheVariants.{EndOfLine}
@@ -54,3 +55,7 @@ module _ (line : List ℕ) (at : Place) (i : ℕ) (first : i ≡ at.0 + blanks_o
   pub begins_here : i < length line → token_at line at ≡ begun (class_of (get_or line i 0)) (length line) i (drop i line)
   unfolding token_at
   begins_here h = rw (← first, drop_next line i h)
+
+  -- which a look into the table tells
+  pub begun_here : (k : ByteClass) → i < length line → k ≡ class_of (get_or line i 0) → token_at line at ≡ begun k (length line) i (drop i line)
+  begun_here k h e = rw e (begins_here h)

@@ -1,4 +1,5 @@
 -- Where tokens end: never past the line's end, and past their beginning where they read.
+use Rattle.std.specs.Prelude.{None, Option, Some}
 use mathlib.Core.Path.{◌≡◌, refl, ◌∙◌}
 use mathlib.Core.Logic.{⊎_elim}
 use mathlib.Core.Bool.{Bool, true, false, cond, ◌&&◌, and-false, false≢true}
@@ -20,8 +21,6 @@ use Rattle.words.specs.Vocabulary.{reserved, word_of}
 use Rattle.words.specs.declared.places.Place.{Place}
 use Rattle.words.specs.declared.classes.ByteClass.{ByteClass}
 use Rattle.words.specs.declared.classes.ByteClass.TheVariants.{Letter, Digit, Blank, Sign, Quote, Other}
-use Rattle.words.specs.declared.classes.SignFound.{SignFound}
-use Rattle.words.specs.declared.classes.SignFound.TheVariants.{Is, None}
 use Rattle.words.specs.declared.vocabulary.WordFound.{WordFound}
 use Rattle.words.specs.declared.vocabulary.WordFound.TheVariants.{Plain, Dollared, Remark, Items, Free}
 use Rattle.words.specs.declared.names.Name.{Name}
@@ -128,8 +127,8 @@ bare_word Remark = true
 bare_word Items = true
 bare_word Free = true
 
-abbrev bare_sign : SignFound → Bool
-bare_sign (Is t) = bare t
+abbrev bare_sign : Option Token → Bool
+bare_sign (Some t) = bare t
 bare_sign None = true
 
 word_bare : (w : List ℕ) → bare_word (word_of w) ≡ true
@@ -176,21 +175,21 @@ pair_none : (a : ℕ) → pair_of a 0 ≡ None
 unfolding bytes same_bytes meaning pairs
 pair_none a = simp and-false
 
-paired_stays : (p one : SignFound) (i end : ℕ) → bare_sign p ≡ true → bare_sign one ≡ true → i + 1 ≤ end
+paired_stays : (p one : Option Token) (i end : ℕ) → bare_sign p ≡ true → bare_sign one ≡ true → i + 1 ≤ end
     → ((p ≡ None → ⊥) → i + 2 ≤ end) → Stays end i (paired p one i)
-paired_stays (Is t) one i end b c h k =
+paired_stays (Some t) one i end b c h k =
     let l = k (λ z. never (cc)) in
     (omega arith, omega arith, kept_bare end i (i + 2) t b (omega arith))
-paired_stays None (Is t) i end b c h k = (omega arith, omega arith, kept_bare end i (i + 1) t c (omega arith))
+paired_stays None (Some t) i end b c h k = (omega arith, omega arith, kept_bare end i (i + 1) t c (omega arith))
 paired_stays None None i end b c h k = omega arith
 
 -- what is no digit has another class
-no_digit : (letter blank quote : Bool) (f : SignFound)
+no_digit : (letter blank quote : Bool) (f : Option Token)
     → cond letter Letter (cond blank Blank (cond quote Quote (of_sign f))) ≡ Digit → ◌≡◌ {A = ℕ} 0 1
 no_digit true blank quote f e = cc
 no_digit false true quote f e = cc
 no_digit false false true f e = cc
-no_digit false false false (Is s) e = cc
+no_digit false false false (Some s) e = cc
 no_digit false false false None e = cc
 
 digit_class : (b : ℕ) → class_of b ≡ Digit → is_digit b ≡ true

@@ -1,4 +1,3 @@
-pub mod Marks
 pub mod Hexadecimals
 pub mod Beginnings
 pub mod Ends

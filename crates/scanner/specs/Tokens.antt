@@ -1,5 +1,5 @@
 -- What stands at a place of a line, blanks skipped: the token there, and the place after it.
-use Rattle.std.specs.Prelude.{Bool, true, false, cond, ◌&&◌, List, [], ◌∷◌, ℕ, ◌+◌, ◌*◌, leb, ltb, length, get_or, drop}
+use Rattle.std.specs.Prelude.{Bool, true, false, cond, ◌&&◌, List, [], ◌∷◌, ℕ, ◌+◌, ◌*◌, leb, ltb, length, get_or, drop, None, Option, Some}
 use Rattle.whole.specs.Bytes.{is, leading}
 use Rattle.whole.specs.Digits.{leading_digits, leading_value, blanks_of}
 use Rattle.words.specs.Classes.{capital_of, is_hex, hex_digit, sign_of, pair_of, class_of}
@@ -9,8 +9,6 @@ use Rattle.words.specs.Vocabulary.{word_of}
 use Rattle.words.specs.declared.places.Place.{Place}
 use Rattle.words.specs.declared.classes.ByteClass.{ByteClass}
 use Rattle.words.specs.declared.classes.ByteClass.TheVariants.{Letter, Digit, Blank, Sign, Quote, Other}
-use Rattle.words.specs.declared.classes.SignFound.{SignFound}
-use Rattle.words.specs.declared.classes.SignFound.TheVariants.{Is, None}
 use Rattle.words.specs.declared.vocabulary.WordFound.{WordFound}
 use Rattle.words.specs.declared.vocabulary.WordFound.TheVariants.{Plain, Dollared, Remark, Items, Free}
 use Rattle.words.specs.declared.symbols.Word.TheVariants.{Rem, Data}
@@ -124,13 +122,13 @@ text_token i s =
     (unreadable i)
 
 -- a sign alone
-abbrev pub alone : SignFound → ℕ → Scanned
-alone (Is t) i = t upto (i + 1)
+abbrev pub alone : Option Token → ℕ → Scanned
+alone (Some t) i = t upto (i + 1)
 alone None i = unreadable i
 
 -- two signs that are one comparison, or else the first alone
-abbrev pub paired : SignFound → SignFound → ℕ → Scanned
-paired (Is t) one i = t upto (i + 2)
+abbrev pub paired : Option Token → Option Token → ℕ → Scanned
+paired (Some t) one i = t upto (i + 2)
 paired None one i = alone one i
 
 unfoldable pub sign_token : ℕ → List ℕ → Scanned

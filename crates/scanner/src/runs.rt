@@ -5,10 +5,10 @@ ghost use Rattle.words.specs.Classes.{is_hex};
 ghost use Rattle.scanner.specs.Runs.{in_item, passes};
 
 use whole::is_digit;
-use words::{Place, capital, is_letter};
+use words::{Place, is_letter};
 
 // The runs of bytes that a token or a bare item of DATA is made of, and the blanks before it.
-#[derive(Clone, Copy)]
+#[derive(Clone, Copy, PartialEq, Eq)]
 pub enum Run {
     Blank,
     Word,
@@ -17,27 +17,18 @@ pub enum Run {
     Item,
 }
 
+#[tactic(auto, unfolding(whole::specs::Digits::is_digit, words::specs::Classes::capital_of, words::specs::Classes::is_hex))]
 fn is_hex(byte: u8) -> bool
     ensures { result ≡ is_hex byte }
 {
-    if is_digit(byte) {
-        return true;
-    }
-    let letter = capital(byte);
-    b'A' <= letter && letter <= b'F'
+    byte.is_ascii_hexdigit()
 }
 
 // A comma, a colon or an apostrophe ends a bare item of DATA, and no quote stands in one.
 fn in_item(byte: u8) -> bool
     ensures { result ≡ in_item byte }
 {
-    match byte {
-        b',' => false,
-        b':' => false,
-        b'\'' => false,
-        b'"' => false,
-        _ => true,
-    }
+    !matches!(byte, b',' | b':' | b'\'' | b'"')
 }
 
 // Whether a byte belongs to a run.
@@ -57,12 +48,7 @@ fn in_run(run: Run, byte: u8) -> bool
 pub fn run_end(line: &[u8], at: Place, run: Run) -> Place
     ensures { result.0 ≡ at.0 + length (leading (passes run) (drop at.0 line.now)) }
 {
-    let mut end = at.0;
-    while end < line.len() {
-        if !in_run(run, line[end]) {
-            return Place(end);
-        }
-        end += 1;
-    }
-    Place(end)
+    let rest = line.get(at.0..).unwrap_or(&[]);
+    let count = rest.iter().take_while(|byte| in_run(run, **byte)).count();
+    Place(at.0 + count)
 }

@@ -1,4 +1,6 @@
 -- However a text is cut, the parts taken are the text, or too much; and the end is that of loading the whole.
+use Rattle.std.specs.Prelude.{None, Some}
+use Rattle.loader.specs.Refusals.{refused_at}
 use mathlib.Core.Path.{◌≡◌, refl, sym, ap, ◌∙◌}
 use mathlib.Core.Bool.{true, false}
 use mathlib.Core.List.{List, [], ◌∷◌, ◌++◌, append-nil, append_assoc}
@@ -12,9 +14,7 @@ use Rattle.space.proofs.Overlaid.{overlaid_front}
 use Rattle.space.proofs.Frames.{copied_lies, copied-length}
 use Rattle.loader.specs.Loading.{longest_text, load_of}
 use Rattle.loader.specs.declared.refusals.Refusal.TheVariants.{TextTooLong}
-use Rattle.loader.specs.declared.loading.Loaded.TheVariants.{Refused}
 use Rattle.words.specs.Places.{place}
-use Rattle.serial.specs.declared.receiving.Receipt.TheVariants.{Holds, TooMuch}
 use Rattle.serial.specs.Receiving.{Held, held, too_short, taken, settled, finished}
 use Rattle.serial.specs.Received.{joined, all_taken, since_begun, received_of, ReceivedIsLoaded, ShortIsNeverTouched}
 use Rattle.serial.proofs.Steps.{begun_short, begun_ready, placed_past, placed_lies, taken_short, taken_much, taken-placed, loaded_as, finished_short, finished_much, finished_loaded}
@@ -24,13 +24,13 @@ record Carries (room : ℕ) (text : List ℕ) (h : Held) : Type 0 where
   -- the buffer is as long as it was
   long : length h.buffer ≡ room
   -- the receipt says how long the text is, and the buffer begins with it
-  counted : length text ≤ longest_text → h.receipt ≡ Holds (length text)
+  counted : length text ≤ longest_text → h.receipt ≡ Some (length text)
   front : length text ≤ longest_text → take (length text) h.buffer ≡ text
   -- or more came than a text may have
-  much : longest_text < length text → h.receipt ≡ TooMuch
+  much : longest_text < length text → h.receipt ≡ None
 
 -- more than a text may have is refused first
-long_refused : (text : List ℕ) → longest_text < length text → load_of text ≡ Refused TextTooLong (place 0)
+long_refused : (text : List ℕ) → longest_text < length text → load_of text ≡ refused_at TextTooLong (place 0)
 unfolding load_of
 long_refused text h = rw (lt-ltb _ _ h)
 
@@ -42,7 +42,7 @@ module _ (room : ℕ) (wide : longest_text ≤ room) where
   module _ (text : List ℕ) (h : Held) (c : Carries room text h) (part : List ℕ) where
     -- a part for which a text has room
     part_fits : length (text ++ part) ≤ longest_text
-        → taken h part ≡ held (Holds (length text + length part)) (copied h.buffer (length text) part)
+        → taken h part ≡ held (Some (length text + length part)) (copied h.buffer (length text) part)
     part_fits u =
         let l = length-append text part in
         let v : length text ≤ longest_text = omega arith in
@@ -52,7 +52,7 @@ module _ (room : ℕ) (wide : longest_text ≤ room) where
         ∙ placed_lies (length text) h.buffer part w k
 
     -- and one for which it has none
-    part_past : longest_text < length (text ++ part) → taken h part ≡ held TooMuch h.buffer
+    part_past : longest_text < length (text ++ part) → taken h part ≡ held None h.buffer
     part_past u =
         let l = length-append text part in
         let s = not_short h.buffer c.long in
@@ -71,7 +71,7 @@ module _ (room : ℕ) (wide : longest_text ≤ room) where
         rw (part_fits u)
         (record {
           long = copied-length h.buffer (length text) part ∙ c.long;
-          counted = λ _. ap Holds (sym l);
+          counted = λ _. ap Some (sym l);
           front = λ _. ap (λ n. take n (copied h.buffer (length text) part)) l
               ∙ ap (take (length text + length part)) (copied_lies h.buffer (length text) part w)
               ∙ overlaid_front h.buffer (length text) part b
@@ -107,7 +107,7 @@ module _ (room : ℕ) (wide : longest_text ≤ room) where
       (λ v. finished_much h.receipt h.buffer s (c.much v) ∙ rw (long_refused text v, c.long))
 
 -- before the first part nothing is held
-carries_none : (buffer : List ℕ) → Carries (length buffer) [] (held (Holds 0) buffer)
+carries_none : (buffer : List ℕ) → Carries (length buffer) [] (held (Some 0) buffer)
 carries_none buffer =
     record { long = refl; counted = λ _. refl; front = λ _. refl; much = λ x. absurd (omega arith) }
 

@@ -1,4 +1,7 @@
 -- What each call answers and leaves, case by case.
+use Rattle.std.specs.Prelude.{Err, Ok, Result, None, Option, Some}
+use Rattle.loader.specs.declared.refusals.RefusedAt.{RefusedAt}
+use Rattle.loader.specs.Refusals.{refused_at}
 use mathlib.Core.Path.{◌≡◌, sym, ap, ◌∙◌}
 use mathlib.Core.Bool.{true, false}
 use mathlib.Core.List.{List}
@@ -13,22 +16,17 @@ use Rattle.space.specs.Moves.{copied, cleared}
 use Rattle.space.proofs.Frames.{copied_lies}
 use Rattle.loader.specs.Loading.{longest_text, load_of}
 use Rattle.loader.specs.declared.refusals.Refusal.TheVariants.{NoRoom}
-use Rattle.loader.specs.declared.loading.Loaded.{Loaded}
-use Rattle.loader.specs.declared.loading.Loaded.TheVariants.{Fine, Refused}
-use Rattle.serial.specs.declared.receiving.Receipt.{Receipt}
-use Rattle.serial.specs.declared.receiving.Receipt.TheVariants.{Holds, TooMuch}
-use Rattle.serial.specs.declared.receiving.Begun.TheVariants as begun
 use Rattle.serial.specs.Receiving.{held, ended, too_short, begun_of, placed, with_part, taken, zeros, too_long, settled, loaded_at, at_end, untouched, finished}
 use Rattle.serial.specs.bridge.Clearing.{zeros_from}
 
 -- ---- to begin
 
 module _ (buffer : List ℕ) where
-  pub begun_short : too_short buffer ≡ true → begun_of buffer ≡ begun.Refused NoRoom (place 0)
+  pub begun_short : too_short buffer ≡ true → begun_of buffer ≡ refused_at NoRoom (place 0)
   unfolding begun_of
   begun_short e = rw e
 
-  pub begun_ready : too_short buffer ≡ false → begun_of buffer ≡ begun.Ready (Holds 0)
+  pub begun_ready : too_short buffer ≡ false → begun_of buffer ≡ Ok (Some 0)
   unfolding begun_of
   begun_ready e = rw e
 
@@ -36,19 +34,19 @@ module _ (buffer : List ℕ) where
 
 module _ (n : ℕ) (buffer part : List ℕ) where
   -- more than a text may have: nothing is written
-  pub placed_past : longest_text < n + length part → placed n buffer part ≡ held TooMuch buffer
+  pub placed_past : longest_text < n + length part → placed n buffer part ≡ held None buffer
   unfolding placed
   placed_past h = rw (lt-leb _ _ h)
 
   -- what a text may have lies in the buffer
   pub placed_lies : n + length part ≤ longest_text → longest_text ≤ length buffer
-      → placed n buffer part ≡ held (Holds (n + length part)) (copied buffer n part)
+      → placed n buffer part ≡ held (Some (n + length part)) (copied buffer n part)
   unfolding placed
   placed_lies h k =
       let l : n + length part ≤ length buffer = omega arith in
       rw (le-leb _ _ h, copied_lies buffer n part l)
 
-module _ (receipt : Receipt) (buffer part : List ℕ) where
+module _ (receipt : Option ℕ) (buffer part : List ℕ) where
   pub taken_short : too_short buffer ≡ true → taken (held receipt buffer) part ≡ held receipt buffer
   unfolding taken
   taken_short e = rw e
@@ -57,10 +55,10 @@ module _ (receipt : Receipt) (buffer part : List ℕ) where
   unfolding taken
   taken_more e = rw e
 
-  pub taken_much : too_short buffer ≡ false → receipt ≡ TooMuch → taken (held receipt buffer) part ≡ held TooMuch buffer
+  pub taken_much : too_short buffer ≡ false → receipt ≡ None → taken (held receipt buffer) part ≡ held None buffer
   taken_much e is = taken_more e ∙ ap (λ r. with_part r buffer part) is
 
-  pub taken-placed : too_short buffer ≡ false → (n : ℕ) → receipt ≡ Holds n → taken (held receipt buffer) part ≡ placed n buffer part
+  pub taken-placed : too_short buffer ≡ false → (n : ℕ) → receipt ≡ Some n → taken (held receipt buffer) part ≡ placed n buffer part
   taken-placed e n is = taken_more e ∙ ap (λ r. with_part r buffer part) is
 
 -- ---- the end
@@ -76,24 +74,24 @@ module _ (n : ℕ) (buffer : List ℕ) where
   loaded_long h = rw (lt-ltb _ _ h)
 
   -- what a buffer is left with is what clearing leaves, from where the answer says
-  settled-cleared : (answer : Loaded) → n ≤ length buffer
+  settled-cleared : (answer : Result (Unit {0}) RefusedAt) → n ≤ length buffer
       → settled answer (take n buffer) (length buffer) ≡ ended answer (cleared buffer (zeros_from answer n))
   unfolding cleared
-  settled-cleared Fine l = rw (length-take-le n buffer l)
-  settled-cleared (Refused refusal at) l = ap (ended (Refused refusal at)) (sym (cleared_whole buffer))
+  settled-cleared (Ok _) l = rw (length-take-le n buffer l)
+  settled-cleared (Err e) l = ap (ended (refused_at e.refusal e.place)) (sym (cleared_whole buffer))
 
   module _ (h : n ≤ longest_text) where
-    pub loaded_as : (answer : Loaded) → load_of (take n buffer) ≡ answer → loaded_at n buffer ≡ settled answer (take n buffer) (length buffer)
+    pub loaded_as : (answer : Result (Unit {0}) RefusedAt) → load_of (take n buffer) ≡ answer → loaded_at n buffer ≡ settled answer (take n buffer) (length buffer)
     unfolding loaded_at
     loaded_as answer e = rw (le-ltb _ _ h, e)
 
-    pub loaded_cleared : longest_text ≤ length buffer → (answer : Loaded) → load_of (take n buffer) ≡ answer
+    pub loaded_cleared : longest_text ≤ length buffer → (answer : Result (Unit {0}) RefusedAt) → load_of (take n buffer) ≡ answer
         → loaded_at n buffer ≡ ended answer (cleared buffer (zeros_from answer n))
     loaded_cleared k answer e =
         let l : n ≤ length buffer = omega arith in
         loaded_as answer e ∙ settled-cleared answer l
 
-module _ (receipt : Receipt) (buffer : List ℕ) where
+module _ (receipt : Option ℕ) (buffer : List ℕ) where
   pub finished_short : too_short buffer ≡ true → finished (held receipt buffer) ≡ untouched buffer
   unfolding finished
   finished_short e = rw e
@@ -102,9 +100,9 @@ module _ (receipt : Receipt) (buffer : List ℕ) where
   unfolding finished
   finished_more e = rw e
 
-  pub finished_much : too_short buffer ≡ false → receipt ≡ TooMuch
+  pub finished_much : too_short buffer ≡ false → receipt ≡ None
       → finished (held receipt buffer) ≡ too_long (length buffer)
   finished_much e is = finished_more e ∙ ap (λ r. at_end r buffer) is
 
-  pub finished_loaded : too_short buffer ≡ false → (n : ℕ) → receipt ≡ Holds n → finished (held receipt buffer) ≡ loaded_at n buffer
+  pub finished_loaded : too_short buffer ≡ false → (n : ℕ) → receipt ≡ Some n → finished (held receipt buffer) ≡ loaded_at n buffer
   finished_loaded e n is = finished_more e ∙ ap (λ r. at_end r buffer) is

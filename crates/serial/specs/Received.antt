@@ -1,9 +1,8 @@
 -- The promise of the serial line: however a text is cut, it is received as loading the whole answers.
-use Rattle.std.specs.Prelude.{◌≡◌, cond, List, [], ◌∷◌, ◌++◌, ℕ, ◌<◌, length}
+use Rattle.loader.specs.declared.refusals.RefusedAt.{RefusedAt}
+use Rattle.loader.specs.Refusals.{refused_at}
+use Rattle.std.specs.Prelude.{◌≡◌, cond, List, [], ◌∷◌, ◌++◌, ℕ, ◌<◌, length, Err, Ok, Result, Option}
 use Rattle.loader.specs.Loading.{longest_text, load_of}
-use Rattle.loader.specs.declared.loading.Loaded.TheVariants.{Refused}
-use Rattle.serial.specs.declared.receiving.Begun.{Begun}
-use Rattle.serial.specs.declared.receiving.Begun.TheVariants as begun
 use Rattle.serial.specs.Receiving.{Held, held, Ended, ended, too_short, begun_of, taken, settled, untouched, finished}
 
 -- the whole of a text that comes in parts
@@ -17,9 +16,9 @@ all_taken h [] = h
 all_taken h (part ∷ parts) = all_taken (taken h part) parts
 
 -- to begin, to take each part, and to finish; a refusal to begin is the answer, and the buffer is as it was
-abbrev pub since_begun : Begun → List ℕ → List (List ℕ) → Ended
-since_begun (begun.Ready receipt) buffer parts = finished (all_taken (held receipt buffer) parts)
-since_begun (begun.Refused refusal at) buffer parts = ended (Refused refusal at) buffer
+abbrev pub since_begun : Result (Option ℕ) RefusedAt → List ℕ → List (List ℕ) → Ended
+since_begun (Ok receipt) buffer parts = finished (all_taken (held receipt buffer) parts)
+since_begun (Err e) buffer parts = ended (refused_at e.refusal e.place) buffer
 
 abbrev pub fed : List ℕ → List (List ℕ) → Ended
 fed buffer parts = since_begun (begun_of buffer) buffer parts

@@ -3,4 +3,4 @@
 
 mod receiving;
 
-pub use receiving::{Begun, Receipt, begin, finish, take};
+pub use receiving::{Receipt, begin, finish, take};

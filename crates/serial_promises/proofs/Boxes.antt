@@ -1,4 +1,6 @@
 -- What a box keeps means what is held, so what is proved of the calls beneath holds of a box's.
+use Rattle.std.specs.Prelude.{Err, Ok, Result, Option}
+use Rattle.loader.specs.declared.refusals.RefusedAt.{RefusedAt}
 use mathlib.Core.Path.{◌≡◌, refl, sym, ap, ap₂, subst, ◌∙◌}
 use mathlib.Core.List.{List, [], map}
 use Prim.Native.Nat.{ℕ, ◌<◌}
@@ -10,9 +12,7 @@ use Rattle.words.specs.Places.{place}
 use Rattle.space.proofs.Bounds.{by_bound}
 use Rattle.loader.specs.Loading.{longest_text}
 use Rattle.loader.specs.declared.refusals.Refusal.TheVariants.{NoRoom}
-use Rattle.checker.specs.declared.checking.Verdict.TheVariants as verdict
-use Rattle.serial.specs.declared.receiving.Begun.{Begun}
-use Rattle.serial.specs.declared.receiving.Begun.TheVariants as begun
+use Rattle.checker.specs.declared.checking.Fault.TheVariants as verdict
 use Rattle.serial.specs.Receiving.{Held, held, Ended, begun_of, taken, finished}
 use Rattle.serial.specs.Received.{all_taken}
 use Rattle.serial.proofs.Steps.{begun_short, begun_ready}
@@ -44,9 +44,9 @@ told_end f end e = subst (ToldEnd f) e (record { verdict = f.allowed.judged; buf
 
 -- ---- to begin
 
-ready_of : (b : Begun) → get_or (verdict_in (begun_as b)) 0 0 ≡ 0 → b ≡ begun.Ready (first_receipt b)
-ready_of (begun.Ready receipt) e = refl
-ready_of (begun.Refused refusal at) e = absurd (omega arith)
+ready_of : (b : Result (Option ℕ) RefusedAt) → get_or (verdict_in (begun_as b)) 0 0 ≡ 0 → b ≡ Ok (first_receipt b)
+ready_of (Ok receipt) e = refl
+ready_of (Err x) e = absurd (omega arith)
 
 module _ (b : BeginBox) where
   begun_told : (i : ℕ) → begun_word b i ≡ get_or (verdict_in (begun_as (begun_of (buffer_in b)))) i 0
@@ -63,7 +63,7 @@ module _ (b : BeginBox) where
       never (sym e ∙ r))
       (λ h. h)
 
-  short_told : (i : ℕ) → length (buffer_in b) < longest_text → begun_word b i ≡ get_or (verdict_in (verdict.Refused NoRoom (place 0))) i 0
+  short_told : (i : ℕ) → length (buffer_in b) < longest_text → begun_word b i ≡ get_or (verdict_in (Err (verdict.Refused NoRoom (place 0)))) i 0
   short_told i h = begun_told i ∙ ap (λ x. get_or (verdict_in (begun_as x)) i 0) (begun_short (buffer_in b) (lt-ltb _ _ h))
 
 -- ---- what is promised

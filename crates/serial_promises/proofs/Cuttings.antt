@@ -1,4 +1,6 @@
 -- What the contracts of the three calls say, one after the other, is what `serial` proves of its definitions.
+use Rattle.std.specs.Prelude.{Err, Ok, Result, Option}
+use Rattle.loader.specs.declared.refusals.RefusedAt.{RefusedAt}
 use mathlib.Core.Path.{◌≡◌, refl, sym, ap, ◌∙◌}
 use mathlib.Core.List.{List, map}
 use Prim.Native.Nat.{ℕ, ◌≤◌, ◌<◌}
@@ -7,9 +9,6 @@ use lib.ListN.{length}
 use Rattle.whole.proofs.Never.{never}
 use Rattle.space.proofs.Bounds.{by_bound}
 use Rattle.loader.specs.Loading.{longest_text, load_of}
-use Rattle.serial.specs.declared.receiving.Begun.{Begun}
-use Rattle.serial.specs.declared.receiving.Begun.TheVariants as begun
-use Rattle.serial.specs.declared.receiving.Receipt.{Receipt}
 use Rattle.serial.specs.Receiving.{Held, held, begun_of, settled, untouched, finished}
 use Rattle.serial.specs.Received.{joined, all_taken, since_begun, received_of}
 use Rattle.serial.proofs.Steps.{begun_short, begun_ready}
@@ -20,19 +19,19 @@ use Rattle.serial_promises.proofs.Following.{follow_taken}
 
 -- ---- of the definitions
 
-refused_word : Begun → ℕ
-refused_word (begun.Ready receipt) = 0
-refused_word (begun.Refused refusal at) = 1
+refused_word : Result (Option ℕ) RefusedAt → ℕ
+refused_word (Ok receipt) = 0
+refused_word (Err e) = 1
 
 -- what is not refused is long enough
-pub ready_wide : (buffer : List ℕ) (receipt : Receipt) → begun_of buffer ≡ begun.Ready receipt → longest_text ≤ length buffer
+pub ready_wide : (buffer : List ℕ) (receipt : Option ℕ) → begun_of buffer ≡ Ok receipt → longest_text ≤ length buffer
 unfolding refused_word
 ready_wide buffer receipt e =
     by_bound longest_text (length buffer) (λ h. h)
     (λ h. never (ap refused_word (sym e ∙ begun_short buffer (lt-ltb _ _ h))))
 
 -- and what is long enough is not refused
-wide_not_refused : (buffer : List ℕ) (b : Begun) → refused_word b ≡ 1 → begun_of buffer ≡ b → length buffer < longest_text
+wide_not_refused : (buffer : List ℕ) (b : Result (Option ℕ) RefusedAt) → refused_word b ≡ 1 → begun_of buffer ≡ b → length buffer < longest_text
 unfolding refused_word
 wide_not_refused buffer b r e =
     by_bound longest_text (length buffer)
@@ -45,7 +44,7 @@ unfolding received_of
 wide_received buffer text h = rw (le-ltb _ _ h)
 
 -- the parts that are taken from the receipt to begin with, and the end
-pub ready_received : (buffer : List ℕ) (receipt : Receipt) (parts : List (List ℕ)) → begun_of buffer ≡ begun.Ready receipt
+pub ready_received : (buffer : List ℕ) (receipt : Option ℕ) (parts : List (List ℕ)) → begun_of buffer ≡ Ok receipt
     → finished (all_taken (held receipt buffer) parts) ≡ settled (load_of (joined parts)) (joined parts) (length buffer)
 ready_received buffer receipt parts e =
     ap (λ x. since_begun x buffer parts) (sym e)

@@ -1,11 +1,10 @@
 -- A recipe over the serial line, as statements about every call of the code. A statement has the proof of its name, in snake case, in
 -- `proofs/Cuttings.antt`.
-use Rattle.std.specs.Prelude.{◌≡◌, List, [], ◌∷◌, map, ◌↔◌, ℕ, ◌<◌, length}
+use Rattle.loader.specs.Refusals.{refused_at}
+use Rattle.std.specs.Prelude.{◌≡◌, List, [], ◌∷◌, map, ◌↔◌, ℕ, ◌<◌, length, Ok, Option}
 use Rattle.words.specs.Places.{place}
 use Rattle.loader.specs.Loading.{longest_text, load_of}
 use Rattle.loader.specs.declared.refusals.Refusal.TheVariants.{NoRoom}
-use Rattle.serial.specs.declared.receiving.Receipt.{Receipt}
-use Rattle.serial.specs.declared.receiving.Begun.TheVariants as begun
 use Rattle.serial.specs.Receiving.{Held, held, settled, untouched}
 use Rattle.serial.specs.Received.{joined}
 use Rattle.serial_promises.specs.Calls.{
@@ -46,13 +45,13 @@ ReceivesAlways = ReceivesAlwaysFacts
 -- that stay behind.
 abbrev pub CallsReceive : Type 0
 CallsReceive =
-    (b : BeginCall) (cs : List TakeCall) (f : FinishCall) (receipt : Receipt)
-    → b.answer ≡ begun.Ready receipt → Follow held_before held_after (held receipt (buffer_begun b)) cs (held_at_end f)
+    (b : BeginCall) (cs : List TakeCall) (f : FinishCall) (receipt : Option ℕ)
+    → b.answer ≡ Ok receipt → Follow held_before held_after (held receipt (buffer_begun b)) cs (held_at_end f)
     → end_of f ≡ settled (load_of (text_of cs)) (text_of cs) (length (buffer_begun b))
 
 -- A buffer is refused at once, with 110 and place 0, if and only if it is under 16,384 bytes.
 abbrev pub ShortRefused : Type 0
-ShortRefused = (b : BeginCall) → (b.answer ≡ begun.Refused NoRoom (place 0)) ↔ (length (buffer_begun b) < longest_text)
+ShortRefused = (b : BeginCall) → (b.answer ≡ refused_at NoRoom (place 0)) ↔ (length (buffer_begun b) < longest_text)
 
 -- Such a buffer is never touched, whatever is handed on after that, and the end answers 110.
 abbrev pub ShortUntouched : Type 0

@@ -14,8 +14,7 @@ use Rattle.loader.specs.Lines.{ends_line}
 use Rattle.records.specs.Records.{record_of}
 use Rattle.records.specs.declared.reading.Run.{Run}
 use Rattle.tallies.specs.Totals.{totals_of}
-use Rattle.tallies.specs.bridge.Counting.{good, with_record}
-use Rattle.tallies.specs.declared.counting.Standing.TheVariants.{Refused}
+use Rattle.tallies.specs.bridge.Counting.{refused, good, with_record}
 use Rattle.tallies.specs.declared.counting.Count.{Count}
 use Rattle.tallies.proofs.Totals.{Few, few_none, totals_none}
 use Rattle.sheet.specs.Printed.{printed_of}
@@ -36,16 +35,16 @@ module _ (line : Text) (count : Count) (b : ℕ) where
 
 -- ---- behind a record that is refused
 
-refused_ended : (count : Count) (line : Text) (n : ℕ) → count.standing ≡ Refused n → ended_line count line ≡ count
+refused_ended : (count : Count) (line : Text) (n : ℕ) → count.standing ≡ refused n → ended_line count line ≡ count
 unfolding ended_line
 refused_ended count line n e = refused_stays count n e (record_of (kept (contents line)))
 
-refused_last : (s : Sheet) (n : ℕ) → s.count.standing ≡ Refused n → last_counted s ≡ s.count
+refused_last : (s : Sheet) (n : ℕ) → s.count.standing ≡ refused n → last_counted s ≡ s.count
 unfolding last_counted
 refused_last s n e =
     by_test (eqb s.line.len 0) (λ t. rw t) (λ t. rw t (refused_stays s.count n e (record_of (contents s.line))))
 
-refused_told : (t : List ℕ) (line : Text) (count : Count) (n : ℕ) → count.standing ≡ Refused n
+refused_told : (t : List ℕ) (line : Text) (count : Count) (n : ℕ) → count.standing ≡ refused n
     → finished (taken (sheet line count) t) ≡ refused_line n
 unfolding taken finished
 refused_told [] line count n e = ap (λ (c : Count). lines c.standing c.tally) (refused_last (sheet line count) n e) ∙ rw e

@@ -5,8 +5,8 @@ use mathlib.Core.List.{List, [], ◌∷◌, ◌++◌, map}
 use Prim.Native.Nat.{ℕ, ◌+◌}
 use lib.Dec.{eqb}
 use Rattle.words.proofs.Choices.{by_test}
-use Rattle.records.specs.Records.{in_first}
-use Rattle.records.proofs.Words.{and_false}
+use Rattle.std.specs.List.{onto_first}
+use Rattle.std.proofs.Math.Bool.{and-false}
 use Rattle.loader.specs.Lines.{Line, ends_line, dropped, in_front, started_at, with_byte, lines_from}
 use Rattle.sheet.specs.bridge.Taking.{kept}
 
@@ -17,7 +17,7 @@ bytes_in ls = map (λ (l : Line). l.bytes) ls
 
 -- a byte, whether it is a byte 13 to drop, and the lines that follow
 abbrev front : ℕ → Bool → List (List ℕ) → List (List ℕ)
-front b drops ls = cond (ends_line b) ([] ∷ ls) (cond drops ls (in_first b ls))
+front b drops ls = cond (ends_line b) ([] ∷ ls) (cond drops ls (onto_first b ls))
 
 unfoldable pub line_bytes : List ℕ → List (List ℕ)
 line_bytes [] = []
@@ -28,7 +28,7 @@ module _ (p b : ℕ) where
   started [] = refl
   started (l ∷ ls) = refl
 
-  begins : (ls : List Line) → bytes_in (in_front p b ls) ≡ in_first b (bytes_in ls)
+  begins : (ls : List Line) → bytes_in (in_front p b ls) ≡ onto_first b (bytes_in ls)
   begins [] = refl
   begins (l ∷ ls) = refl
 
@@ -55,7 +55,7 @@ no_end_more (c ∷ l) b h e = (h.0, no_end_more l b h.1 e)
 
 -- a byte 13 that no byte 10 follows is not dropped
 stays : (b c : ℕ) (t : List ℕ) → ends_line c ≡ false → dropped b (c ∷ t) ≡ false
-stays b c t e = rw e (and_false (eqb b 13))
+stays b c t e = rw e (and-false (eqb b 13))
 
 -- byte 10 ends it
 pub line_ended : (l t : List ℕ) → NoEnd l → line_bytes (l ++ (10 ∷ t)) ≡ kept l ∷ line_bytes t

@@ -12,13 +12,11 @@ use Rattle.whole.proofs.Numbers.{less}
 use Rattle.whole.proofs.Numerals.{held_put}
 use Rattle.records.specs.Records.{record_of}
 use Rattle.records.specs.declared.reading.Run.{Run}
-use Rattle.records.specs.declared.reading.Recorded.{Recorded}
-use Rattle.records.specs.declared.reading.Recorded.TheVariants.{Is, Bad}
+use Rattle.std.specs.Prelude.{Option, Some, None, IfSome}
 use Rattle.records.proofs.Sound.{Within, record_within}
 use Rattle.records.proofs.Long.{long_bad}
 use Rattle.tallies.specs.Totals.{most_records, totals_of}
-use Rattle.tallies.specs.bridge.Counting.{good, with_next, with_record}
-use Rattle.tallies.specs.declared.counting.Standing.TheVariants.{Refused}
+use Rattle.tallies.specs.bridge.Counting.{refused as refused_standing, good, with_next, with_record}
 use Rattle.tallies.specs.declared.counting.Count.{Count}
 use Rattle.tallies.proofs.Totals.{Few, few_more, totals_more}
 use Rattle.sheet.specs.Sheet.{Reading, runs, refused, and_run, read_from}
@@ -42,7 +40,7 @@ after_none (refused n) = refl
 
 -- behind the runs rs, a line x that is counted to c: it is refused, whatever follows, or is one run more
 pub data Next (rs : List Run) (x : List ℕ) (c : Count) : Type 0 where
-  stops : (n : ℕ) → c.standing ≡ Refused n → ((ls : List (List ℕ)) → after rs (read_from (length rs) (x ∷ ls)) ≡ refused n) → Next rs x c
+  stops : (n : ℕ) → c.standing ≡ refused_standing n → ((ls : List (List ℕ)) → after rs (read_from (length rs) (x ∷ ls)) ≡ refused n) → Next rs x c
   goes : (run : Run) → c ≡ good (totals_of (rs ++ (run ∷ []))) → Few (rs ++ (run ∷ []))
       → ((ls : List (List ℕ)) → after rs (read_from (length rs) (x ∷ ls)) ≡ after (rs ++ (run ∷ [])) (read_from (length (rs ++ (run ∷ []))) ls))
       → Next rs x c
@@ -56,7 +54,7 @@ module _ (rs : List Run) (x : List ℕ) (f : Few rs) where
       stops (most_records + 1) (rw (le-leb most_records (length rs) h)) (λ ls. rw (le-leb most_records (length rs) h, e))
 
   module _ (h : length rs < most_records) where
-    next_bad : record_of x ≡ Bad → Next rs x (with_next (totals_of rs) (record_of x))
+    next_bad : record_of x ≡ None → Next rs x (with_next (totals_of rs) (record_of x))
     unfolding with_next totals_of read_from
     next_bad e =
         stops (length rs + 1) (rw (lt-leb most_records (length rs) h, e)) (λ ls. rw (lt-leb most_records (length rs) h, e))
@@ -65,7 +63,7 @@ module _ (rs : List Run) (x : List ℕ) (f : Few rs) where
     unfolding totals_of
     runs_few = h
 
-    next_good : (run : Run) → record_of x ≡ Is run → Within (Is run) → Next rs x (with_next (totals_of rs) (record_of x))
+    next_good : (run : Run) → record_of x ≡ Some run → Within run → Next rs x (with_next (totals_of rs) (record_of x))
     unfolding with_next read_from
     next_good run e w =
         let l : length rs + 1 ≡ length (rs ++ (run ∷ [])) = sym (length-append rs (run ∷ [])) in
@@ -74,15 +72,15 @@ module _ (rs : List Run) (x : List ℕ) (f : Few rs) where
         (few_more rs run h w.0 f)
         (λ ls. rw (lt-leb most_records (length rs) h, e) (after_run rs run (read_from (length rs + 1) ls) ∙ ap (λ n. after (rs ++ (run ∷ [])) (read_from n ls)) l))
 
-    next_under : (r : Recorded) → record_of x ≡ r → Within r → Next rs x (with_next (totals_of rs) (record_of x))
-    next_under (Is run) e w = next_good run e w
-    next_under Bad e w = next_bad e
+    next_under : (r : Option Run) → record_of x ≡ r → IfSome r Within → Next rs x (with_next (totals_of rs) (record_of x))
+    next_under (Some run) e w = next_good run e w
+    next_under None e w = next_bad e
 
   pub next : Next rs x (with_record (good (totals_of rs)) (record_of x))
   next = ⊎_elim (λ h. next_under h (record_of x) refl (record_within x)) next_over (less (length rs) most_records)
 
 -- behind a record that is refused none counts
-pub refused_stays : (c : Count) (n : ℕ) → c.standing ≡ Refused n → (r : Recorded) → with_record c r ≡ c
+pub refused_stays : (c : Count) (n : ℕ) → c.standing ≡ refused_standing n → (r : Option Run) → with_record c r ≡ c
 refused_stays c n e r = rw e
 
 -- ---- a text holds enough of a line

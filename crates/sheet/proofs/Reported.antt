@@ -1,12 +1,14 @@
 -- A report that grows line by line in its buffer, and how long its lines can be.
 use mathlib.Core.Path.{◌≡◌, refl, sym, ap, ap₂, ◌∙◌}
+use mathlib.Core.Bool.{true}
 use mathlib.Core.List.{List, [], ◌∷◌, ◌++◌, append_assoc, append-nil}
-use Prim.Native.Nat.{ℕ, zero, suc, ◌+◌, ◌-◌, ◌*◌, ◌≤◌, ◌<◌, zero-le}
-use native.Mathlib.Nat.{sub-zero}
+use Prim.Native.Nat.{ℕ, ◌+◌, ◌-◌, ◌*◌, ◌≤◌, ◌<◌, zero-le}
 use native.Mathlib.Omega.{arith}
-use lib.Dec.{eqb}
+use borrow.Author.Tests.{le-leb}
+use lib.Dec.{eqb, leb}
 use lib.ListN.{length, get_or, take, drop, replicate, length-append, length-replicate, drop_of_length-le}
 use lib.Seq.{take-append_seam, drop-append-add}
+use Rattle.std.proofs.lemmas.List.{drop-replicate}
 use Rattle.whole.specs.Bytes.{bytes}
 use Rattle.whole.specs.Texts.{held}
 use Rattle.whole.specs.declared.texts.Text.{Text}
@@ -15,23 +17,18 @@ use Rattle.whole.proofs.Reading.{drop_next}
 use Rattle.words.proofs.Choices.{by_test}
 use Rattle.space.specs.Moves.{overlaid, copied}
 use Rattle.space.proofs.Frames.{copied_lies}
-use Rattle.console.specs.Lines.{line}
+use Rattle.console.specs.Lines.{field, fields, line}
 use Rattle.tallies.specs.declared.counting.Tally.{Tally}
 use Rattle.sheet.specs.Printed.{code_line, code_lines, outcome_lines}
-use Rattle.sheet.specs.Reports.{room, report}
+use Rattle.sheet.specs.Reports.{room, report, Lengthens}
 use Rattle.sheet.specs.declared.reports.Report.{Report}
 
 -- ---- a line more
 
-drop_zeros : (n k : ℕ) → drop n (replicate {A = ℕ} k 0) ≡ replicate (k - n) 0
-drop_zeros zero k = ap (λ m. replicate m 0) (sym (sub-zero k))
-drop_zeros (suc n) zero = let e : 0 - suc n ≡ 0 = omega arith in rw e
-drop_zeros (suc n) (suc k) = let e : suc k - suc n ≡ k - n = omega arith in drop_zeros n k ∙ ap (λ m. replicate m 0) (sym e)
-
 laid : (l m : List ℕ) (k : ℕ) → overlaid (l ++ replicate k 0) (length l) m ≡ (l ++ m) ++ replicate (k - length m) 0
 unfolding overlaid
 laid l m k =
-    ap₂ (λ x y. x ++ (m ++ y)) (take-append_seam l (replicate k 0)) (drop-append-add l (replicate k 0) (length m) ∙ drop_zeros (length m) k)
+    ap₂ (λ x y. x ++ (m ++ y)) (take-append_seam l (replicate k 0)) (drop-append-add l (replicate k 0) (length m) ∙ drop-replicate (length m) k 0)
     ∙ sym (append_assoc l m (replicate (k - length m) 0))
 
 report_alike : {b b' : List ℕ} {n n' : ℕ} → b ≡ b' → n ≡ n' → ◌≡◌ {A = Report} (record { bytes = b; len = n }) (record { bytes = b'; len = n' })
@@ -42,7 +39,7 @@ module _ (l m : List ℕ) (fits : length l + length m ≤ room) where
   lined_held : ◌≡◌ {A = Report}
       (record {
         bytes = copied (report l).bytes (report l).len (take (held m).len (held m).bytes);
-        len = (report l).len + (held m).len;
+        len = (report l).len + length (take (held m).len (held m).bytes);
       })
       (report (l ++ m))
   unfolding report held
@@ -55,44 +52,48 @@ module _ (l m : List ℕ) (fits : length l + length m ≤ room) where
       ∙ copied_lies (l ++ replicate k 0) (length l) m w
       ∙ laid l m k
       ∙ ap (λ n. (l ++ m) ++ replicate n 0) z)
-      (sym (length-append l m))
+      (ap (λ x. length l + length x) (take-append_seam m _) ∙ sym (length-append l m))
 
   pub lined : {lines : Report} {text : Text} → lines ≡ report l → text ≡ held m
       → ◌≡◌ {A = Report}
-      (record { bytes = copied lines.bytes lines.len (take text.len text.bytes); len = lines.len + text.len })
+      (record { bytes = copied lines.bytes lines.len (take text.len text.bytes); len = lines.len + length (take text.len text.bytes) })
       (report (l ++ m))
   lined e f = rw (e, f) lined_held
 
   -- there is room for it
-  pub has_room : {lines : Report} {text : Text} → lines ≡ report l → text ≡ held m → room - text.len < lines.len → ⊥
+  pub has_room : {lines : Report} {text : Text} → lines ≡ report l → text ≡ held m
+      → leb (lines.len + length (take text.len text.bytes)) room ≡ true
   unfolding report held
-  has_room {lines} {text} e f h =
-      let a : lines.len ≡ length l = ap (λ (r : Report). r.len) e in
-      let b : text.len ≡ length m = ap (λ (t : Text). t.len) f in
-      omega arith
+  has_room e f = rw (e, f) (le-leb _ _ (rw (take-append_seam m (replicate (255 - length m) 0)) fits))
 
 -- ---- how long lines are
 
-module _ (word : List ℕ) where
-  pub count_length : (n : ℕ) → length (line word (n ∷ [])) ≤ length word + 22
-  count_length n = simp length-append (omega (arith, numeral-length 10 20 n))
+fields_length : (numbers : List ℕ) → length (fields numbers) ≤ 21 * length numbers
+fields_length [] = zero-le
+fields_length (n ∷ ns) = omega (arith, numeral-length 10 20 n, length-append (field n) (fields ns), fields_length ns)
 
-  pub pair_length : (n k : ℕ) → length (line word (n ∷ k ∷ [])) ≤ length word + 43
-  pair_length n k = simp length-append (omega (arith, numeral-length 10 20 n, numeral-length 10 20 k))
+-- most bytes of a line of a word and so many numbers
+abbrev pub line_most : ℕ → ℕ → ℕ
+line_most word numbers = word + 21 * numbers + 1
+
+pub line_length : (word numbers : List ℕ) → length (line word numbers) ≤ line_most (length word) (length numbers)
+line_length word numbers =
+    omega (arith, length-append word (fields numbers ++ (10 ∷ [])), length-append (fields numbers) (10 ∷ []), fields_length numbers)
 
 -- a report of some lines, and that they have at most so many bytes
 pub record Filled (r : Report) (l : List ℕ) (n : ℕ) : Type 0 where
   pub is : r ≡ report l
   pub most : length l ≤ n
 
--- a line more of a word and a number, as `with_count` puts it
-pub counted : {r lines : Report} {l : List ℕ} {n : ℕ} (word : List ℕ) (number : ℕ)
-    → ((l : List ℕ) → lines ≡ report l → length l + 29 ≤ room → r ≡ report (l ++ line word (number ∷ [])))
-    → Filled lines l n → length word ≤ 7 → n + 29 ≤ room → Filled r (l ++ line word (number ∷ [])) (n + 29)
-counted {l = l} word number put f h w =
+-- a line more, as `put_line` puts it
+pub lengthened : {old new : Report} {l : List ℕ} {n : ℕ} (word numbers : List ℕ)
+    → Lengthens old new (line word numbers) (line_most (length word) (length numbers))
+    → Filled old l n → n + line_most (length word) (length numbers) ≤ room
+    → Filled new (l ++ line word numbers) (n + line_most (length word) (length numbers))
+lengthened {l = l} word numbers put f w =
     record {
       is = put l f.is (omega (arith, f.most));
-      most = omega (arith, f.most, length-append l (line word (number ∷ [])), count_length word number);
+      most = omega (arith, f.most, length-append l (line word numbers), line_length word numbers);
     }
 
 -- lines put one after the other
@@ -110,7 +111,7 @@ pub record Lined (l codes : List ℕ) (longer : Report) (code : ℕ) : Type 0 wh
 
 code_length : (c n : ℕ) → length (code_line c n) ≤ 47
 unfolding bytes
-code_length c n = by_test (eqb n 0) (λ t. rw t zero-le) (λ t. rw t (pair_length (bytes "code") c n))
+code_length c n = by_test (eqb n 0) (λ t. rw t zero-le) (λ t. rw t (line_length (bytes "code") (c ∷ n ∷ [])))
 
 module _ (l codes : List ℕ) where
   pub lined_first : {lines : Report} → lines ≡ report l → length l + 47 * 256 ≤ room → Lined l codes lines 0
@@ -142,7 +143,7 @@ unfolding code_lines
 codes_most c [] = zero-le
 codes_most c (n ∷ ns) = omega (arith, length-append (code_line c n) (code_lines (c + 1) ns), code_length c n, codes_most (c + 1) ns)
 
-pub outcomes_most : (t : Tally) → length (outcome_lines t) ≤ 145
+pub outcomes_most : (t : Tally) → length (outcome_lines t) ≤ 134
 unfolding outcome_lines bytes
 outcomes_most t =
     let runs = line (bytes "runs") (t.runs ∷ []) in
@@ -156,9 +157,9 @@ outcomes_most t =
       length-append ended (stopped ++ (out ++ error)),
       length-append stopped (out ++ error),
       length-append out error,
-      count_length (bytes "runs") t.runs,
-      count_length (bytes "ended") t.ended,
-      count_length (bytes "stopped") t.stopped,
-      count_length (bytes "out") t.out,
-      count_length (bytes "error") t.error,
+      line_length (bytes "runs") (t.runs ∷ []),
+      line_length (bytes "ended") (t.ended ∷ []),
+      line_length (bytes "stopped") (t.stopped ∷ []),
+      line_length (bytes "out") (t.out ∷ []),
+      line_length (bytes "error") (t.error ∷ []),
     )

@@ -8,7 +8,7 @@ use Rattle.words.specs.Spellings.{same_bytes, meaning}
 use Rattle.loader.specs.Lines.{lines_from}
 use Rattle.console.specs.Arguments.{number_given}
 use Rattle.means.specs.Means.{common_up_to, mean_of}
-use Rattle.records.specs.Records.{fields_of, figure_of, outcome_words, recorded}
+use Rattle.records.specs.Records.{figure_of, outcome_words, recorded}
 use Rattle.tallies.specs.Totals.{how_many, all_steps, codes_from, totals_of}
 use Rattle.sheet.specs.Printed.{code_lines, outcome_lines, step_lines, printed_of}
 use Rattle.records.specs.declared.reading.Outcome.TheVariants.{Ended}
@@ -48,7 +48,7 @@ sheets =
     ∷ []
 
 pub sheets_hold : map (λ (e : Example). sheet_of (bytes e.sheet)) sheets ≡ map (λ (e : Example). bytes e.lines) sheets
-unfolding sheets bytes leading is_digit value_from places trimmed digit_byte numeral same_bytes meaning lines_from number_given common_up_to mean_of fields_of figure_of outcome_words recorded how_many all_steps codes_from totals_of code_lines outcome_lines step_lines printed_of read_from sheet_of
+unfolding sheets bytes leading is_digit value_from places trimmed digit_byte numeral same_bytes meaning lines_from number_given common_up_to mean_of figure_of outcome_words recorded how_many all_steps codes_from totals_of code_lines outcome_lines step_lines printed_of read_from sheet_of
 sheets_hold = refl
 
 -- ---- the most records
@@ -58,13 +58,13 @@ good_record = bytes "ended\t0\t0\t6"
 
 -- the 65,535th is taken, and the 65,536th refused, be it good or bad
 pub last_taken : read_from 65534 (good_record ∷ []) ≡ runs (record { outcome = Ended; steps = 6 } ∷ [])
-unfolding good_record bytes leading is_digit value_from same_bytes meaning number_given fields_of figure_of outcome_words recorded read_from
+unfolding good_record bytes leading is_digit value_from same_bytes meaning number_given figure_of outcome_words recorded read_from
 last_taken = refl
 
 pub too_many : read_from 65534 (good_record ∷ good_record ∷ []) ≡ refused 65536
-unfolding good_record bytes leading is_digit value_from same_bytes meaning number_given fields_of figure_of outcome_words recorded read_from
+unfolding good_record bytes leading is_digit value_from same_bytes meaning number_given figure_of outcome_words recorded read_from
 too_many = refl
 
 pub bad_before : read_from 65534 ([] ∷ good_record ∷ []) ≡ refused 65535
-unfolding bytes leading is_digit value_from same_bytes meaning number_given fields_of figure_of outcome_words recorded read_from
+unfolding bytes leading is_digit value_from same_bytes meaning number_given figure_of outcome_words recorded read_from
 bad_before = refl

@@ -1,5 +1,5 @@
 -- The month's sheet: records, one a line, read in their order, and what is printed.
-use Rattle.std.specs.Prelude.{cond, List, [], ◌∷◌, ◌++◌, map, ℕ, ◌+◌, leb}
+use Rattle.std.specs.Prelude.{cond, Option, Some, None, List, [], ◌∷◌, ◌++◌, map, ℕ, ◌+◌, leb}
 use Rattle.whole.specs.Bytes.{bytes}
 use Rattle.loader.specs.Lines.{Line, lines_of}
 use Rattle.console.specs.Lines.{line}
@@ -7,8 +7,6 @@ use Rattle.records.specs.Records.{record_of}
 use Rattle.tallies.specs.Totals.{most_records, totals_of}
 use Rattle.sheet.specs.Printed.{printed_of}
 use Rattle.records.specs.declared.reading.Run.{Run}
-use Rattle.records.specs.declared.reading.Recorded.{Recorded}
-use Rattle.records.specs.declared.reading.Recorded.TheVariants.{Is, Bad}
 
 -- the runs that all records tell, or the number of the first record that is refused, counted from 1
 pub data Reading : Type 0 where
@@ -19,9 +17,9 @@ abbrev pub and_run : Run → Reading → Reading
 and_run run (runs rs) = runs (run ∷ rs)
 and_run run (refused n) = refused n
 
-abbrev pub by_record : Recorded → ℕ → Reading → Reading
-by_record (Is run) number rest = and_run run rest
-by_record Bad number rest = refused number
+abbrev pub by_record : Option Run → ℕ → Reading → Reading
+by_record (Some run) number rest = and_run run rest
+by_record None number rest = refused number
 
 -- records with so many before them: each is good, or refused, or the first too many
 unfoldable pub read_from : ℕ → List (List ℕ) → Reading

@@ -1,15 +1,15 @@
-// The lines that are printed, built in a buffer by value.
-ghost use Rattle.std.specs.Prelude.{◌≡◌, List, [], ◌∷◌, ◌++◌, ℕ, ◌+◌, ◌*◌, ◌≤◌, length};
+// The lines that are printed, built in a buffer.
+ghost use Rattle.std.specs.Prelude.{◌≡◌, List, [], ◌∷◌, ℕ, ◌+◌, ◌*◌, ◌<◌, length, take};
 ghost use Rattle.whole.specs.Bytes.{bytes};
 ghost use Rattle.whole.specs.Texts.{held};
 ghost use Rattle.console.specs.Lines.{line};
 ghost use Rattle.sheet.specs.Printed.{code_line, code_lines, outcome_lines, step_lines, printed_of};
-ghost use Rattle.sheet.specs.Reports.{room, report};
+ghost use Rattle.sheet.specs.Reports.{report, Lengthens};
 
-use console::{end_line, put_bytes, put_field};
+use console::line;
 use means::mean_of;
-use space::{Offset, copy_in};
-use tallies::Tally;
+use space::{Offset, copy_in, fits};
+use tallies::{RefusedRecord, Tally};
 use whole::Text;
 
 // Lines: their bytes stand first, zeros after them.
@@ -22,111 +22,99 @@ pub struct Report {
 impl Report {
     // Room for the totals of every tally: seven lines, and one for each of 256 error numbers.
     pub const ROOM: usize = 12288;
-}
 
-fn empty_report() -> Report
-    ensures { result ≡ report [] }
-{
-    Report {
-        bytes: [0; Report::ROOM],
-        len: 0,
+    // The bytes of the lines.
+    pub fn as_bytes(&self) -> &[u8]
+        ensures { result.now ≡ take self.now.len self.now.bytes }
+    {
+        &self.bytes[..self.len.min(Report::ROOM)]
     }
-}
 
-// A line more, where there is room for it.
-fn with_line(lines: Report, line: Text) -> Report
-    ensures { (l m : List ℕ) → lines ≡ report l → line ≡ held m → length m ≤ 255 → length l + length m ≤ room → result ≡ report (l ++ m) }
-{
-    let at = lines.len;
-    let text = line.bytes;
-    let count = line.len as usize;
-    if Report::ROOM - count < at {
-        return lines;
+    #[tactic(auto, unfolding(crate::specs::Reports::report))]
+    fn empty() -> Report
+        ensures { result ≡ report [] }
+    {
+        Report {
+            bytes: [0; Report::ROOM],
+            len: 0,
+        }
     }
-    let mut bytes = lines.bytes;
-    copy_in(&mut bytes, Offset(at), &text[..count]);
-    Report {
-        bytes,
-        len: at + count,
+
+    // A line more, where there is room for it.
+    fn put(&mut self, line: &Text)
+        ensures { (m : List ℕ) → line.now ≡ held m → Lengthens self.old self.new m (length m) }
+    {
+        let at = Offset(self.len);
+        let bytes = &line.bytes[..usize::from(line.len)];
+        if fits(Report::ROOM, at, bytes.len()) {
+            copy_in(&mut self.bytes, at, bytes);
+            self.len += bytes.len();
+        }
     }
-}
 
-// A line more of a word and a number.
-fn with_count(lines: Report, word: &[u8], number: u64) -> Report
-    requires { length word.now ≤ 7 }
-    ensures { (l : List ℕ) → lines ≡ report l → length l + 29 ≤ room → result ≡ report (l ++ line word.now (number ∷ [])) }
-{
-    let begun = put_bytes(Text::empty(), word);
-    let counted = put_field(begun, number);
-    with_line(lines, end_line(counted))
-}
-
-// A line more of a word and two numbers.
-fn with_pair(lines: Report, word: &[u8], first: u64, second: u64) -> Report
-    requires { length word.now ≤ 4 }
-    ensures { (l : List ℕ) → lines ≡ report l → length l + 47 ≤ room → result ≡ report (l ++ line word.now (first ∷ second ∷ [])) }
-{
-    let begun = put_bytes(Text::empty(), word);
-    let half = put_field(begun, first);
-    let paired = put_field(half, second);
-    with_line(lines, end_line(paired))
-}
-
-// Runs, and runs of each outcome.
-fn outcome_lines(tally: Tally) -> Report
-    ensures { result ≡ report (outcome_lines tally) }
-{
-    let runs = with_count(empty_report(), b"runs", tally.runs as u64);
-    let ended = with_count(runs, b"ended", tally.ended as u64);
-    let stopped = with_count(ended, b"stopped", tally.stopped as u64);
-    let out = with_count(stopped, b"out", tally.out as u64);
-    with_count(out, b"error", tally.error as u64)
-}
-
-// A line more for an error number that was met.
-fn with_code(lines: Report, code: u64, count: u32) -> Report
-    ensures { (l : List ℕ) → lines ≡ report l → length l + 47 ≤ room → result ≡ report (l ++ code_line code count) }
-{
-    if count == 0 {
-        return lines;
+    // A line more of a word and its numbers.
+    fn put_line(&mut self, word: &[u8], numbers: &[u64])
+        requires { length word.now + 21 * length numbers.now < 255 }
+        ensures { Lengthens self.old self.new (line word.now numbers.now) (length word.now + 21 * length numbers.now + 1) }
+    {
+        self.put(&line(word, numbers));
     }
-    with_pair(lines, b"code", code, count as u64)
-}
 
-// Runs of each error number met, in rising order.
-fn with_codes(lines: Report, codes: [u32; 256]) -> Report
-    ensures { (l : List ℕ) → lines ≡ report l → length l + 47 * 256 ≤ room → result ≡ report (l ++ code_lines 0 codes) }
-{
-    let mut longer = lines;
-    let mut code = 0;
-    while code < codes.len() {
-        longer = with_code(longer, code as u64, codes[code]);
-        code += 1;
+    // Runs, and runs of each outcome.
+    fn put_outcomes(&mut self, tally: &Tally)
+        ensures { self.old ≡ report [] → self.new ≡ report (outcome_lines tally.now) }
+    {
+        self.put_line(b"runs", &[u64::from(tally.runs)]);
+        self.put_line(b"ended", &[u64::from(tally.ended)]);
+        self.put_line(b"stopped", &[u64::from(tally.stopped)]);
+        self.put_line(b"out", &[u64::from(tally.out)]);
+        self.put_line(b"error", &[u64::from(tally.error)]);
     }
-    longer
-}
 
-// Total steps and mean steps.
-fn with_steps(lines: Report, tally: Tally) -> Report
-    ensures { (l : List ℕ) → lines ≡ report l → length l + 80 ≤ room → result ≡ report (l ++ step_lines tally) }
-{
-    let total = with_count(lines, b"steps", tally.steps);
-    let mean = mean_of(tally.steps, tally.runs as u64);
-    with_pair(total, b"mean", mean.total, mean.count)
+    // A line more for an error number that was met.
+    fn put_code(&mut self, code: u64, count: u32)
+        ensures { Lengthens self.old self.new (code_line code count) 47 }
+    {
+        if count > 0 {
+            self.put_line(b"code", &[code, u64::from(count)]);
+        }
+    }
+
+    // Runs of each error number met, in rising order.
+    fn put_codes(&mut self, codes: &[u32; 256])
+        ensures { Lengthens self.old self.new (code_lines 0 codes.now) (47 * 256) }
+    {
+        for (code, &count) in codes.iter().enumerate() {
+            self.put_code(code as u64, count);
+        }
+    }
+
+    // Total steps and mean steps.
+    fn put_steps(&mut self, tally: &Tally)
+        ensures { Lengthens self.old self.new (step_lines tally.now) 80 }
+    {
+        let mean = mean_of(tally.steps, u64::from(tally.runs));
+        self.put_line(b"steps", &[tally.steps]);
+        self.put_line(b"mean", &[mean.total, mean.count]);
+    }
 }
 
 // The totals.
-pub(crate) fn report_of(tally: Tally) -> Report
-    ensures { result ≡ report (printed_of tally) }
+pub(crate) fn report_of(tally: &Tally) -> Report
+    ensures { result ≡ report (printed_of tally.now) }
 {
-    let codes = tally.codes;
-    let outcomes = outcome_lines(tally);
-    with_steps(with_codes(outcomes, codes), tally)
+    let mut report = Report::empty();
+    report.put_outcomes(tally);
+    report.put_codes(&tally.codes);
+    report.put_steps(tally);
+    report
 }
 
 // Only `refused`, tab and the record's number.
-pub(crate) fn refused_report(number: u32) -> Report
-    ensures { result ≡ report (line (bytes "refused") (number ∷ [])) }
+pub(crate) fn refused_report(refused: RefusedRecord) -> Report
+    ensures { result ≡ report (line (bytes "refused") (refused.number ∷ [])) }
 {
-    with_count(empty_report(), b"refused", number as u64)
+    let mut report = Report::empty();
+    report.put_line(b"refused", &[u64::from(refused.number)]);
+    report
 }

@@ -1,12 +1,11 @@
 // A sheet that comes in parts: begun, taken part by part, and finished.
-ghost use Rattle.std.specs.Prelude.{◌≡◌, ◌≤◌, length, take};
+ghost use Rattle.std.specs.Prelude.{◌≡◌};
 ghost use Rattle.sheet.specs.bridge.Taking.{begun, contents, kept, ended_line, taken, last_counted, finished};
 ghost use Rattle.sheet.specs.Reports.{report};
-ghost use Rattle.records.specs.Records.{record_of};
 
 use crate::reports::{Report, refused_report, report_of};
-use records::{Recorded, record_of};
-use tallies::{Count, Standing, Tally, with_record};
+use records::record_of;
+use tallies::{Count, Tally, with_record};
 use whole::Text;
 
 // What is held between two parts: the line that is not ended yet, as far as a text goes, and the count of those before it.
@@ -18,8 +17,7 @@ pub struct Sheet {
 
 const LINE_FEED: u8 = 10;
 
-const CARRIAGE_RETURN: u8 = 13;
-
+#[tactic(auto, unfolding(crate::specs::bridge::Taking::begun))]
 pub fn begin() -> Sheet
     ensures { result ≡ begun }
 {
@@ -27,86 +25,68 @@ pub fn begin() -> Sheet
         line: Text::empty(),
         count: Count {
             tally: Tally::empty(),
-            standing: Standing::Good,
+            standing: Ok(()),
         },
     }
 }
 
-// How long a line is without a byte 13 at its end.
-fn kept_length(line: Text) -> usize
-    ensures { result ≡ length (kept (contents line)) }
+fn contents(line: &Text) -> &[u8]
+    ensures { result.now ≡ contents line.now }
 {
-    let len = line.len as usize;
-    if len == 0 {
-        return 0;
-    }
-    let last = len - 1;
-    let bytes = line.bytes;
-    if bytes[last] == CARRIAGE_RETURN {
-        last
-    } else {
-        len
-    }
+    &line.bytes[..usize::from(line.len)]
 }
 
-// The record that the first bytes of a line are.
-fn record_held(line: Text, len: usize) -> Recorded
-    requires { len ≤ 255 }
-    ensures { result ≡ record_of (take len line.bytes) }
+// A line without a byte 13 at its end.
+fn kept(line: &[u8]) -> &[u8]
+    ensures { result.now ≡ kept line.now }
 {
-    let bytes = line.bytes;
-    record_of(&bytes[..len])
+    line.strip_suffix(b"\r").unwrap_or(line)
 }
 
 // A line that byte 10 ends is a record; one byte 13 just before it is dropped.
-fn ended_line(count: Count, line: Text) -> Count
-    ensures { result ≡ ended_line count line }
+#[tactic(auto, unfolding(crate::specs::bridge::Taking::ended_line))]
+fn ended_line(count: Count, line: &Text) -> Count
+    ensures { result ≡ ended_line count line.now }
 {
-    let len = kept_length(line);
-    with_record(count, record_held(line, len))
+    with_record(count, record_of(kept(contents(line))))
 }
 
 // A part more of the sheet.
 pub fn take(sheet: Sheet, part: &[u8]) -> Sheet
     ensures { result ≡ taken sheet part.now }
 {
-    let mut line = sheet.line;
-    let mut count = sheet.count;
-    let mut i = 0;
-    while i < part.len() {
-        let byte = part[i];
+    let mut longer = sheet;
+    for &byte in part {
         if byte == LINE_FEED {
-            count = ended_line(count, line);
-            line = Text::empty();
+            longer.count = ended_line(longer.count, &longer.line);
+            longer.line = Text::empty();
         } else {
-            line = line.put(byte);
+            longer.line = longer.line.put(byte);
         }
-        i += 1;
     }
-    Sheet { line, count }
+    longer
 }
 
 // The last line may lack its end; where nothing stands behind the last byte 10 there is no further line.
+#[tactic(auto, unfolding(crate::specs::bridge::Taking::last_counted))]
 fn last_counted(sheet: Sheet) -> Count
     ensures { result ≡ last_counted sheet }
 {
-    let line = sheet.line;
-    let len = line.len as usize;
-    let count = sheet.count;
-    if len == 0 {
-        return count;
+    let line = contents(&sheet.line);
+    if line.is_empty() {
+        return sheet.count;
     }
-    with_record(count, record_held(line, len))
+    with_record(sheet.count, record_of(line))
 }
 
 // The end: the totals as lines, or the record that is refused.
+#[tactic(auto, unfolding(crate::specs::bridge::Taking::finished))]
 pub fn finish(sheet: Sheet) -> Report
     ensures { result ≡ report (finished sheet) }
 {
     let count = last_counted(sheet);
-    let standing = count.standing;
-    match standing {
-        Standing::Refused(number) => refused_report(number),
-        Standing::Good => report_of(count.tally),
+    match count.standing {
+        Ok(()) => report_of(&count.tally),
+        Err(refused) => refused_report(refused),
     }
 }

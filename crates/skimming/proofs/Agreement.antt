@@ -1,4 +1,5 @@
 -- The flat reader agrees with the grammar: a formula reads where it does, and the same token follows.
+use Rattle.std.specs.Prelude.{Some}
 use mathlib.Core.Path.{◌≡◌, refl, sym, ap, ◌∙◌}
 use mathlib.Core.Bool.{true}
 use mathlib.Core.List.{List, [], ◌∷◌}
@@ -16,20 +17,18 @@ use Rattle.scanner.specs.Tokens.{reads, token_at}
 use Rattle.grammar.specs.Tests.{is_symbol}
 use Rattle.grammar.specs.Functions.{takes}
 use Rattle.grammar.specs.Formulas.{not_level, tightest, right_level, minus_stands, not_stands, operator_of, after, enough, formula_of}
-use Rattle.grammar.specs.declared.tests.OperatorFound.TheVariants.{Is}
 use Rattle.skimming.specs.bridge.Remaining.{weight}
 use Rattle.skimming.proofs.Weights.{symbol_reads, reads_if, after_lighter, weight-enough}
 use Rattle.skimming.proofs.Grammar.{by_found}
 use Rattle.skimming.proofs.Fuel.{formula_level}
 use Rattle.skimming.specs.bridge.Flat.{skimmed_of, Opened, plain, of, want_at, have_at, end_at, skim_of}
-use Rattle.skimming.specs.declared.skims.Skimmed.TheVariants.{Good}
 use Rattle.skimming.proofs.Chains.{formula_loosest}
 use Rattle.skimming.proofs.Outside.{outside, wants, has, begins, wants-begins, begins_bad, begins_open, begins_minus, begins_not, begins_call, has_operator, has_end, end_plain, end_call}
 
 -- a token that is an operator reads
-pub infix_reads : (t : Token) {op : Operator} → operator_of t ≡ Is op → reads t ≡ true
+pub infix_reads : (t : Token) {op : Operator} → operator_of t ≡ Some op → reads t ≡ true
 infix_reads t {op} e =
-    reads_if (λ t. operator_of t ≡ Is op)
+    reads_if (λ t. operator_of t ≡ Some op)
     (λ h. never (cc))
     (λ h. never (cc))
     t e
@@ -107,7 +106,7 @@ module _ (s : List ℕ) where
         rw e w ∙ sym (has_operator s os t e))
         (λ e. rw e (end_agrees n os t (omega arith)) ∙ sym (has_end s os t e))
 
-    end_agrees : (n : ℕ) (os : List Opened) (t : Scanned) → weight s t < n → end_at n s os t ≡ outside s os (Good t)
+    end_agrees : (n : ℕ) (os : List Opened) (t : Scanned) → weight s t < n → end_at n s os t ≡ outside s os (Some t)
     end_agrees zero os t h = absurd (omega arith)
     end_agrees (suc n) [] t h = refl
     end_agrees (suc n) (plain ∷ os) t h =

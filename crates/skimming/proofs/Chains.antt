@@ -1,5 +1,6 @@
 -- What is left of a formula's reading where only the token that follows it counts: then every operator continues what was read,
 -- whatever its level, since the levels outside take what the tighter ones leave.
+use Rattle.std.specs.Prelude.{None, Option, Some}
 use mathlib.Core.Path.{◌≡◌, refl, sym, ap, ◌∙◌}
 use mathlib.Core.List.{List}
 use Prim.Native.Nat.{ℕ, zero, suc, ◌≤◌, ◌<◌}
@@ -12,15 +13,11 @@ use Rattle.words.specs.declared.symbols.Scanned.{Scanned}
 use Rattle.words.proofs.Choices.{by_test}
 use Rattle.grammar.specs.Trees.{Formula, number, two_sided}
 use Rattle.grammar.specs.Formulas.{level_of, right_level, operator_of, tight_enough, tight_operator, Reading, bad, good, mapped, after, enough, formula_at, climb_at}
-use Rattle.grammar.specs.declared.tests.OperatorFound.{OperatorFound}
-use Rattle.grammar.specs.declared.tests.OperatorFound.TheVariants.{Is, None}
 use Rattle.skimming.specs.bridge.Remaining.{weight, formula_in, climb_of, operand_of}
 use Rattle.skimming.proofs.Weights.{operator_reads, after_lighter}
 use Rattle.skimming.proofs.Grammar.{by_found, Lighter, formula_lightens}
 use Rattle.skimming.proofs.Fuel.{rest, formula_unrolled, climb_unrolled, climb_bad}
 use Rattle.skimming.specs.bridge.Flat.{skimmed_of}
-use Rattle.skimming.specs.declared.skims.Skimmed.{Skimmed}
-use Rattle.skimming.specs.declared.skims.Skimmed.TheVariants.{Bad, Good}
 
 -- ---- what was read does not matter for what follows
 
@@ -45,18 +42,18 @@ climb_alike (suc n) s level f g t =
 -- ---- a chain: an operand that was read, and every operator that follows with its right side
 
 -- some reading of which this is left
-abbrev pub reading : Skimmed → Reading
-reading Bad = bad
-reading (Good t) = good (number 0) t
+abbrev pub reading : Option Scanned → Reading
+reading None = bad
+reading (Some t) = good (number 0) t
 
 -- an operator of any level is one of the loosest level or a tighter one
-pub loosest : (o : OperatorFound) → tight_enough 0 o ≡ o
-loosest (Is op) = rw (le-leb 0 (level_of op) (omega arith))
+pub loosest : (o : Option Operator) → tight_enough 0 o ≡ o
+loosest (Some op) = rw (le-leb 0 (level_of op) (omega arith))
 loosest None = refl
 
 -- an operator of a level is that operator
-tight : (level : ℕ) (o : OperatorFound) (op : Operator) → tight_enough level o ≡ Is op → o ≡ Is op
-tight level (Is p) op e =
+tight : (level : ℕ) (o : Option Operator) (op : Operator) → tight_enough level o ≡ Some op → o ≡ Some op
+tight level (Some p) op e =
     by_test (leb level (level_of p))
     (λ t. rw t at e)
     (λ t. let h = rw t at e in never (cc))
@@ -68,7 +65,7 @@ rest_formula s w make bad l = omega arith
 rest_formula s w make (good f u) l = omega arith
 
 module _ (s : List ℕ) where
-  abbrev pub chained : Skimmed → Skimmed
+  abbrev pub chained : Option Scanned → Option Scanned
   chained x = skimmed_of (climb_of s 0 (reading x))
 
   pub chained_of : (x : Reading) → skimmed_of (climb_of s 0 x) ≡ chained (skimmed_of x)
@@ -76,16 +73,16 @@ module _ (s : List ℕ) where
   chained_of bad = refl
   chained_of (good f t) = climb_alike (enough s) s 0 f (number 0) t
 
-  pub chained_bad : chained Bad ≡ Bad
+  pub chained_bad : chained None ≡ None
   chained_bad = rw (climb_bad s 0)
 
   -- no operator follows
-  pub chained_ends : (t : Scanned) → operator_of t.token ≡ None → chained (Good t) ≡ Good t
+  pub chained_ends : (t : Scanned) → operator_of t.token ≡ None → chained (Some t) ≡ Some t
   chained_ends t e = rw (climb_unrolled s 0 (number 0) t, loosest (operator_of t.token), e)
 
   -- an operator follows
-  pub chained_goes : (t : Scanned) {op : Operator} → operator_of t.token ≡ Is op
-      → chained (Good t) ≡ chained (skimmed_of (formula_in s (right_level op) (after s t)))
+  pub chained_goes : (t : Scanned) {op : Operator} → operator_of t.token ≡ Some op
+      → chained (Some t) ≡ chained (skimmed_of (formula_in s (right_level op) (after s t)))
   chained_goes t {op} e =
       let x = formula_in s (right_level op) (after s t) in
       let u : skimmed_of (climb_of s 0 (good (number 0) t)) ≡ skimmed_of (climb_of s 0 (mapped (two_sided op (number 0)) x)) =
@@ -115,7 +112,7 @@ module _ (s : List ℕ) where
 
   -- ---- what is wanted of an operand, and what it and all that follows it in the same parentheses leave
 
-  abbrev pub operand_in : ℕ → Scanned → Skimmed
+  abbrev pub operand_in : ℕ → Scanned → Option Scanned
   operand_in level t = chained (skimmed_of (operand_of s level t))
 
   pub formula_operand : (level : ℕ) (t : Scanned) → chained (skimmed_of (formula_in s level t)) ≡ operand_in level t
@@ -125,6 +122,6 @@ module _ (s : List ℕ) where
   pub formula_loosest : (t : Scanned) → skimmed_of (formula_in s 0 t) ≡ operand_in 0 t
   formula_loosest t = ap skimmed_of (formula_unrolled s 0 t) ∙ chained_of (operand_of s 0 t)
 
-  pub chained_twice : (x : Skimmed) → chained (chained x) ≡ chained x
-  chained_twice Bad = chained_tighter 0 bad
-  chained_twice (Good t) = chained_tighter 0 (good (number 0) t)
+  pub chained_twice : (x : Option Scanned) → chained (chained x) ≡ chained x
+  chained_twice None = chained_tighter 0 bad
+  chained_twice (Some t) = chained_tighter 0 (good (number 0) t)

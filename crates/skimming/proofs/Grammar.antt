@@ -1,4 +1,5 @@
 -- What a formula that reads leaves of its line: less than it began with.
+use Rattle.std.specs.Prelude.{None, Option, Some}
 use mathlib.Core.Path.{◌≡◌, refl}
 use mathlib.Core.Bool.{true}
 use mathlib.Core.List.{List}
@@ -18,8 +19,6 @@ use Rattle.grammar.specs.Trees.{Formula, minus, complement, two_sided, Arguments
 use Rattle.grammar.specs.Functions.{takes}
 use Rattle.grammar.specs.Formulas.{not_level, tightest, right_level, minus_stands, not_stands, tight_operator, Reading, bad, good, mapped, after, closed, count_of, called, formula_at, climb_at, operand_at, arguments_at, enough, formula_of}
 use Rattle.skimming.specs.bridge.Remaining.{weight}
-use Rattle.grammar.specs.declared.tests.OperatorFound.{OperatorFound}
-use Rattle.grammar.specs.declared.tests.OperatorFound.TheVariants.{Is, None}
 use Rattle.skimming.proofs.Weights.{symbol_reads, operator_reads, after_lighter}
 
 -- ---- tokens that read
@@ -29,8 +28,8 @@ pub weighs_reads : (s : List ℕ) (t : Scanned) → 0 < weight s t → reads t.t
 unfolding weight
 weighs_reads s t w = by_test (reads t.token) (λ h. h) (λ h. absurd (omega (arith, rw h at w)))
 
-pub by_found : {P : Type 0} (o : OperatorFound) → ((op : Operator) → o ≡ Is op → P) → (o ≡ None → P) → P
-by_found (Is op) y n = y op refl
+pub by_found : {P : Type 0} (o : Option Operator) → ((op : Operator) → o ≡ Some op → P) → (o ≡ None → P) → P
+by_found (Some op) y n = y op refl
 by_found None y n = n refl
 
 -- ---- what follows a formula weighs four less than a bound

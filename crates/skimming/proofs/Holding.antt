@@ -1,4 +1,5 @@
 -- What the loop holds: the marks are those of what is open, and what is left of the whole is the answer. Over plain values.
+use Rattle.std.specs.Prelude.{None, Option, Some}
 use mathlib.Core.Path.{◌≡◌, refl, sym, ap, ◌∙◌}
 use mathlib.Core.List.{List, [], ◌∷◌}
 use Prim.Native.Nat.{ℕ, zero, suc, ◌+◌, ◌-◌, ◌≤◌, ◌<◌}
@@ -15,8 +16,6 @@ use Rattle.skimming.specs.bridge.Flat.{Opened, want_at}
 use Rattle.skimming.specs.bridge.Marks.{mark_of, First, first_depth, top_of}
 use Rattle.skimming.specs.bridge.Remaining.{weight}
 use Rattle.skimming.specs.bridge.Steps.{step_of}
-use Rattle.skimming.specs.declared.skims.Skimmed.{Skimmed}
-use Rattle.skimming.specs.declared.skims.Skimmed.TheVariants.{Bad, Good}
 use Rattle.skimming.specs.declared.stepping.Phase.{Phase}
 use Rattle.skimming.specs.declared.stepping.Phase.TheVariants as phase
 use Rattle.skimming.specs.declared.stepping.Step.{Step}
@@ -24,7 +23,7 @@ use Rattle.skimming.specs.declared.stepping.Step.TheVariants.{Refused, Ends, Wan
 use Rattle.skimming.proofs.Chains.{chained, chained_twice, operand_in}
 use Rattle.skimming.proofs.Outside.{outside, outside_bad, ended, wants}
 use Rattle.skimming.proofs.Agreement.{want_is}
-use Rattle.skimming.proofs.Lightness.{Some, wants_light}
+use Rattle.skimming.proofs.Lightness.{Carries, wants_light}
 use Rattle.skimming.proofs.Moves.{Top, Goes, lead, step_goes}
 
 -- ---- the marks
@@ -65,18 +64,18 @@ top_open marks zero h = absurd (h refl)
 top_open marks (suc d) h = omega arith
 
 module _ (s : List ℕ) where
-  pub record Held (p : Phase) (marks : List ℕ) (depth : ℕ) (t : Scanned) (x : Skimmed) : Type 0 where
+  pub record Held (p : Phase) (marks : List ℕ) (depth : ℕ) (t : Scanned) (x : Option Scanned) : Type 0 where
     pub os : List Opened
     pub deep : depth ≡ length os
     pub marked : Marked marks os
     pub leads : x ≡ lead s os p t
 
   -- what follows what was skimmed apart
-  pub apart_light : (u : Scanned) (m : ℕ) {r : Skimmed} → Some s m
+  pub apart_light : (u : Scanned) (m : ℕ) {r : Option Scanned} → Carries s m
       → ((os : List Opened) → First m os → r ≡ want_at (enough s) s os 0 u.token u.next)
-      → (v : Scanned) → r ≡ Good v → weight s v + 4 ≤ weight s u
+      → (v : Scanned) → r ≡ Some v → weight s v + 4 ≤ weight s u
   apart_light u m {r} k skims v b =
-      let w : wants s (k.o ∷ []) 0 u ≡ Good v = sym (skims (k.o ∷ []) (k.marked, k.some) ∙ want_is s (k.o ∷ []) 0 u) ∙ b in
+      let w : wants s (k.o ∷ []) 0 u ≡ Some v = sym (skims (k.o ∷ []) (k.marked, k.some) ∙ want_is s (k.o ∷ []) 0 u) ∙ b in
       rw w at (wants_light s (k.o ∷ []) 0 u)
 
   -- the step that was told
@@ -97,14 +96,14 @@ module _ (s : List ℕ) where
       }
   held_first m t (o ∷ p ∷ os) h = absurd h
 
-  module _ {p : Phase} {marks : List ℕ} {depth : ℕ} {t : Scanned} {x : Skimmed} (held : Held p marks depth t x) where
+  module _ {p : Phase} {marks : List ℕ} {depth : ℕ} {t : Scanned} {x : Option Scanned} (held : Held p marks depth t x) where
     goes : (step : Step) → step_of s p (top_of marks depth) t ≡ step → Goes s held.os (lead s held.os p t) t step
     goes step e = rw e at (step_goes s held.os p (top_of marks depth) t (marked_top marks held.os depth held.deep held.marked))
 
-    pub held_refused : step_of s p (top_of marks depth) t ≡ Refused → x ≡ Bad
+    pub held_refused : step_of s p (top_of marks depth) t ≡ Refused → x ≡ None
     held_refused e = held.leads ∙ goes Refused e
 
-    pub held_ends : step_of s p (top_of marks depth) t ≡ Ends → x ≡ Good t
+    pub held_ends : step_of s p (top_of marks depth) t ≡ Ends → x ≡ Some t
     held_ends e = held.leads ∙ goes Ends e
 
     pub held_wants : (u : Scanned) (level : ℕ) → step_of s p (top_of marks depth) t ≡ Wants u level → Held (phase.Wants level) marks depth u x
@@ -148,7 +147,7 @@ module _ (s : List ℕ) where
         }
 
     -- no room: what was opened is skimmed apart, with all that follows it in the parentheses outside
-    module _ (u : Scanned) (m : ℕ) (e : step_of s p (top_of marks depth) t ≡ Opens u m) {r : Skimmed}
+    module _ (u : Scanned) (m : ℕ) (e : step_of s p (top_of marks depth) t ≡ Opens u m) {r : Option Scanned}
         (skims : (os : List Opened) → First m os → r ≡ want_at (enough s) s os 0 u.token u.next) where
       apart : x ≡ outside s held.os r
       unfolding outside
@@ -156,15 +155,15 @@ module _ (s : List ℕ) where
           let g = goes (Opens u m) e in
           held.leads ∙ g.leads ∙ ap (outside s held.os) (sym (skims (g.o ∷ []) (g.marked, g.some) ∙ want_is s (g.o ∷ []) 0 u))
 
-      pub held_inner_bad : r ≡ Bad → x ≡ Bad
+      pub held_inner_bad : r ≡ None → x ≡ None
       held_inner_bad b = apart ∙ ap (outside s held.os) b ∙ outside_bad s held.os
 
-      pub held_inner : (v : Scanned) → r ≡ Good v → Held phase.Has marks depth v x
+      pub held_inner : (v : Scanned) → r ≡ Some v → Held phase.Has marks depth v x
       unfolding outside
       held_inner v b =
           let g = goes (Opens u m) e in
           let w : r ≡ chained s (ended s g.o (operand_in s 0 u)) = skims (g.o ∷ []) (g.marked, g.some) ∙ want_is s (g.o ∷ []) 0 u in
-          let twice : chained s (Good v) ≡ Good v =
+          let twice : chained s (Some v) ≡ Some v =
           ap (chained s) (sym b ∙ w) ∙ chained_twice s (ended s g.o (operand_in s 0 u)) ∙ sym w ∙ b in
           record {
             os = held.os;

@@ -1,4 +1,5 @@
 -- What follows a formula that is skimmed weighs less than where it began, and so does what each step of the code goes on to.
+use Rattle.std.specs.Prelude.{None, Option, Some}
 use mathlib.Core.Path.{◌≡◌, refl}
 use mathlib.Core.List.{List, [], ◌∷◌}
 use Prim.Native.Nat.{ℕ, ◌+◌, ◌/◌, ◌%◌, ◌≤◌}
@@ -18,8 +19,6 @@ use Rattle.skimming.specs.bridge.Flat.{skimmed_of, Opened, plain, of}
 use Rattle.skimming.specs.bridge.Marks.{less_bits, mark_of}
 use Rattle.skimming.specs.bridge.Remaining.{weight, climb_of, operand_of, arguments_of}
 use Rattle.skimming.specs.bridge.Steps.{want_step, end_step, has_step, step_of}
-use Rattle.skimming.specs.declared.skims.Skimmed.{Skimmed}
-use Rattle.skimming.specs.declared.skims.Skimmed.TheVariants.{Bad, Good}
 use Rattle.skimming.specs.declared.stepping.Phase.{Phase}
 use Rattle.skimming.specs.declared.stepping.Phase.TheVariants as phase
 use Rattle.skimming.specs.declared.stepping.Step.{Step}
@@ -35,31 +34,31 @@ module _ (s : List ℕ) where
   -- ---- a formula
 
   -- what follows weighs less than a bound
-  abbrev pub Light : ℕ → Skimmed → Type 0
-  Light w Bad = Unit {0}
-  Light w (Good u) = weight s u + 4 ≤ w
+  abbrev pub Light : ℕ → Option Scanned → Type 0
+  Light w None = Unit {0}
+  Light w (Some u) = weight s u + 4 ≤ w
 
   skimmed_light : (w : ℕ) (x : Reading) → Lighter s w x → Light w (skimmed_of x)
   skimmed_light w bad l = tt
   skimmed_light w (good f u) l = l
 
-  reading_light : (w : ℕ) (x : Skimmed) → Light w x → Lighter s w (reading x)
-  reading_light w Bad l = tt
-  reading_light w (Good u) l = l
+  reading_light : (w : ℕ) (x : Option Scanned) → Light w x → Lighter s w (reading x)
+  reading_light w None l = tt
+  reading_light w (Some u) l = l
 
-  chained_light : (w : ℕ) (x : Skimmed) → Light w x → Light w (chained s x)
+  chained_light : (w : ℕ) (x : Option Scanned) → Light w x → Light w (chained s x)
   unfolding climb_of
   chained_light w x l =
       skimmed_light w (climb_of s 0 (reading x)) (climb_lightens (enough s) s 0 w (reading x) (reading_light w x l))
 
-  ended_light : (o : Opened) (w : ℕ) (x : Skimmed) → Light w x → Light w (ended s o x)
+  ended_light : (o : Opened) (w : ℕ) (x : Option Scanned) → Light w x → Light w (ended s o x)
   unfolding arguments_of
   ended_light plain w x l = skimmed_light w (closed s (reading x)) (closed_lighter s w (reading x) (reading_light w x l))
   ended_light (of f k) w x l =
       skimmed_light w (arguments_of s f (counted k) (reading x))
       (arguments_lightens (enough s) s w f (counted k) (reading x) (reading_light w x l))
 
-  outside_light : (os : List Opened) (w : ℕ) (x : Skimmed) → Light w x → Light w (outside s os x)
+  outside_light : (os : List Opened) (w : ℕ) (x : Option Scanned) → Light w x → Light w (outside s os x)
   unfolding outside
   outside_light [] w x l = l
   outside_light (o ∷ os) w x l = outside_light os w (chained s (ended s o x)) (chained_light w (ended s o x) (ended_light o w x l))
@@ -75,7 +74,7 @@ module _ (s : List ℕ) where
   -- ---- a step
 
   -- a mark says that something is open
-  pub record Some (m : ℕ) : Type 0 where
+  pub record Carries (m : ℕ) : Type 0 where
     pub o : Opened
     pub marked : m ≡ mark_of o
     pub some : m ≡ 0 → ⊥
@@ -86,7 +85,7 @@ module _ (s : List ℕ) where
   Lightens w m Ends = Unit {0}
   Lightens w m (Wants u level) = weight s u + 4 ≤ w
   Lightens w m (Has u) = weight s u + 4 ≤ w
-  Lightens w m (Opens u k) = (weight s u + 4 ≤ w) × Some k
+  Lightens w m (Opens u k) = (weight s u + 4 ≤ w) × Carries k
   Lightens w m (Renews u k) = (weight s u + 4 ≤ w) × (m ≡ 0 → ⊥)
   Lightens w m (Closes u) = (weight s u + 4 ≤ w) × (m ≡ 0 → ⊥)
 

@@ -1,4 +1,5 @@
 -- What each step of the code does to what is open, and that it goes on along the line.
+use Rattle.std.specs.Prelude.{None, Option, Some}
 use mathlib.Core.Path.{◌≡◌, refl, sym, ap, ◌∙◌}
 use mathlib.Core.Bool.{true, false}
 use mathlib.Core.List.{List, [], ◌∷◌}
@@ -20,8 +21,6 @@ use Rattle.skimming.specs.bridge.Flat.{Opened, plain, of}
 use Rattle.skimming.specs.bridge.Marks.{function_mark, less_bits, mark_of}
 use Rattle.skimming.specs.bridge.Remaining.{arguments_of}
 use Rattle.skimming.specs.bridge.Steps.{want_step, end_step, has_step, step_of}
-use Rattle.skimming.specs.declared.skims.Skimmed.{Skimmed}
-use Rattle.skimming.specs.declared.skims.Skimmed.TheVariants.{Bad, Good}
 use Rattle.skimming.specs.declared.stepping.Phase.{Phase}
 use Rattle.skimming.specs.declared.stepping.Phase.TheVariants as phase
 use Rattle.skimming.specs.declared.stepping.Step.{Step}
@@ -54,25 +53,25 @@ Top (o ∷ os) m = (m ≡ mark_of o) × (m ≡ 0 → ⊥)
 
 module _ (s : List ℕ) where
   -- where a function can take no further argument, nothing reads
-  ended_spent : (f : Function) (k : ℕ) (x : Skimmed) → less_bits k (function_mark f) ≡ 0 → ended s (of f k) x ≡ Bad
+  ended_spent : (f : Function) (k : ℕ) (x : Option Scanned) → less_bits k (function_mark f) ≡ 0 → ended s (of f k) x ≡ None
   unfolding arguments_of
   ended_spent f k x h =
       rw (spent (enough s) s f (counted k) (reading x) (ap (λ n. less_bits n (function_mark f)) (counted_count k) ∙ h))
 
   wants_spent : (os : List Opened) (f : Function) (k : ℕ) (u : Scanned) → less_bits k (function_mark f) ≡ 0
-      → wants s (of f k ∷ os) 0 u ≡ Bad
+      → wants s (of f k ∷ os) 0 u ≡ None
   unfolding outside
   wants_spent os f k u h = ap (λ x. outside s os (chained s x)) (ended_spent f k (operand_in s 0 u) h) ∙ begins_bad s os
 
   -- ---- what a step makes of what is left of the whole
 
-  pub record Opening (os : List Opened) (x : Skimmed) (u : Scanned) (m : ℕ) : Type 0 where
+  pub record Opening (os : List Opened) (x : Option Scanned) (u : Scanned) (m : ℕ) : Type 0 where
     pub o : Opened
     pub marked : m ≡ mark_of o
     pub some : m ≡ 0 → ⊥
     pub leads : x ≡ wants s (o ∷ os) 0 u
 
-  pub record Renewal (os : List Opened) (x : Skimmed) (u : Scanned) (m : ℕ) : Type 0 where
+  pub record Renewal (os : List Opened) (x : Option Scanned) (u : Scanned) (m : ℕ) : Type 0 where
     pub last : Opened
     pub rest : List Opened
     pub was : os ≡ last ∷ rest
@@ -81,15 +80,15 @@ module _ (s : List ℕ) where
     pub some : m ≡ 0 → ⊥
     pub leads : x ≡ wants s (o ∷ rest) 0 u
 
-  pub record Closing (os : List Opened) (x : Skimmed) (u : Scanned) : Type 0 where
+  pub record Closing (os : List Opened) (x : Option Scanned) (u : Scanned) : Type 0 where
     pub last : Opened
     pub rest : List Opened
     pub was : os ≡ last ∷ rest
     pub leads : x ≡ has s rest u
 
-  abbrev pub Goes : List Opened → Skimmed → Scanned → Step → Type 0
-  Goes os x t Refused = x ≡ Bad
-  Goes os x t Ends = x ≡ Good t
+  abbrev pub Goes : List Opened → Option Scanned → Scanned → Step → Type 0
+  Goes os x t Refused = x ≡ None
+  Goes os x t Ends = x ≡ Some t
   Goes os x t (Wants u level) = x ≡ wants s os level u
   Goes os x t (Has u) = x ≡ has s os u
   Goes os x t (Opens u m) = Opening os x u m
@@ -134,9 +133,9 @@ module _ (s : List ℕ) where
   -- ---- an operand was read, and no operator follows
 
   end_goes : (os : List Opened) (m : ℕ) (t : Scanned) → Top os m
-      → Goes os (outside s os (Good t)) t (end_step s m t.token t.next)
+      → Goes os (outside s os (Some t)) t (end_step s m t.token t.next)
   unfolding less_bits
-  end_goes [] m t h = rw h (outside_nothing s (Good t))
+  end_goes [] m t h = rw h (outside_nothing s (Some t))
   end_goes (plain ∷ os) m t h =
       let p = end_plain s os t in
       rw h.0
@@ -178,7 +177,7 @@ module _ (s : List ℕ) where
   -- ---- a step
 
   -- what is left of the whole
-  abbrev pub lead : List Opened → Phase → Scanned → Skimmed
+  abbrev pub lead : List Opened → Phase → Scanned → Option Scanned
   lead os (phase.Wants level) t = wants s os level t
   lead os phase.Has t = has s os t
 

@@ -1,4 +1,5 @@
 -- How much is left to read from a token on: each token that reads weighs more than what follows it.
+use Rattle.std.specs.Prelude.{Some}
 use mathlib.Core.Path.{◌≡◌, refl}
 use mathlib.Core.Bool.{true, false≢true}
 use mathlib.Core.List.{List}
@@ -19,7 +20,6 @@ use Rattle.scanner.proofs.Ends.{token_ends}
 use Rattle.grammar.specs.Tests.{is_symbol, is_keyword}
 use Rattle.grammar.specs.Formulas.{tight_operator, after, enough}
 use Rattle.skimming.specs.bridge.Remaining.{weight}
-use Rattle.grammar.specs.declared.tests.OperatorFound.TheVariants.{Is}
 
 -- ---- what reads
 
@@ -44,9 +44,9 @@ symbol_reads x t e = reads_if (λ t. is_symbol x t ≡ true) (λ h. false≢true
 pub keyword_reads : (x : Word) (t : Token) → is_keyword x t ≡ true → reads t ≡ true
 keyword_reads x t e = reads_if (λ t. is_keyword x t ≡ true) (λ h. false≢true h) (λ h. false≢true h) t e
 
-pub operator_reads : (level : ℕ) (t : Token) {op : Operator} → tight_operator level t ≡ Is op → reads t ≡ true
+pub operator_reads : (level : ℕ) (t : Token) {op : Operator} → tight_operator level t ≡ Some op → reads t ≡ true
 operator_reads level t {op} e =
-    reads_if (λ t. tight_operator level t ≡ Is op)
+    reads_if (λ t. tight_operator level t ≡ Some op)
     (λ h. never (cc))
     (λ h. never (cc))
     t e

@@ -9,13 +9,6 @@ use crate::stepping::{Phase, Step, next_step};
 use grammar::LOOSEST;
 use words::Scanned;
 
-// A formula does not read, or it does, and this token follows it.
-#[derive(Clone, Copy)]
-pub enum Skimmed {
-    Bad,
-    Good { ahead: Scanned },
-}
-
 // As many parentheses as a line can open.
 const ROOM: usize = 255;
 
@@ -33,12 +26,12 @@ fn top_of(marks: &[u8; ROOM], depth: usize) -> u8
 fn first_depth(mark: u8) -> usize
     ensures { result ≡ first_depth mark }
 {
-    if mark == NOTHING { 0 } else { 1 }
+    usize::from(mark != NOTHING)
 }
 
 // Skims from a token on, with one parenthesis open or none. It calls itself only where the marks are full, which they never are on a
 // line of at most 255 bytes (`NeverFull`).
-fn skim_from(line: &[u8], ahead: Scanned, mark: u8) -> Skimmed
+fn skim_from(line: &[u8], ahead: Scanned, mark: u8) -> Option<Scanned>
     ensures { (os : List Opened) → First mark os
         → result ≡ want_at (enough line.now) line.now os 0 ahead.token ahead.next }
 {
@@ -49,8 +42,8 @@ fn skim_from(line: &[u8], ahead: Scanned, mark: u8) -> Skimmed
     loop {
         let top = top_of(&marks, depth);
         match next_step(line, here, phase, top) {
-            Step::Refused => return Skimmed::Bad,
-            Step::Ends => return Skimmed::Good { ahead: here },
+            Step::Refused => return None,
+            Step::Ends => return Some(here),
             Step::Wants { ahead, level } => {
                 here = ahead;
                 phase = Phase::Wants(level);
@@ -76,14 +69,8 @@ fn skim_from(line: &[u8], ahead: Scanned, mark: u8) -> Skimmed
                     here = ahead;
                     phase = Phase::Wants(LOOSEST);
                 } else {
-                    let inner = skim_from(line, ahead, mark);
-                    match inner {
-                        Skimmed::Bad => return Skimmed::Bad,
-                        Skimmed::Good { ahead } => {
-                            here = ahead;
-                            phase = Phase::Has;
-                        }
-                    }
+                    here = skim_from(line, ahead, mark)?;
+                    phase = Phase::Has;
                 }
             }
         }
@@ -91,7 +78,7 @@ fn skim_from(line: &[u8], ahead: Scanned, mark: u8) -> Skimmed
 }
 
 // The formula that begins with a token of a line.
-pub fn skim(line: &[u8], ahead: Scanned) -> Skimmed
+pub fn skim(line: &[u8], ahead: Scanned) -> Option<Scanned>
     ensures { result ≡ skimmed_of (formula_of line.now ahead) }
 {
     skim_from(line, ahead, NOTHING)

@@ -5,8 +5,7 @@ ghost use Rattle.skimming.specs.bridge.Steps.{want_step, call_step, has_step, en
 
 use crate::marks::{NOTHING, PLAIN, function_mark};
 use grammar::{
-    LOOSEST, NOT_LEVEL, OperatorFound, TIGHTEST, is_symbol, minus_stands, not_stands, right_level,
-    tight_operator,
+    LOOSEST, NOT_LEVEL, TIGHTEST, is_symbol, minus_stands, not_stands, right_level, tight_operator,
 };
 use scanner::token_at;
 use words::{Function, Place, Scanned, Sign, Token};
@@ -49,15 +48,12 @@ fn leaf(line: &[u8], next: Place) -> Step
 fn call_step(line: &[u8], first: Scanned, function: Function) -> Step
     ensures { result ≡ call_step line.now function first }
 {
-    let token = first.token;
-    let next = first.next;
-    if is_symbol(Sign::Open, token) {
-        Step::Opens {
-            ahead: token_at(line, next),
-            mark: function_mark(function),
-        }
-    } else {
-        Step::Refused
+    if !is_symbol(Sign::Open, first.token) {
+        return Step::Refused;
+    }
+    Step::Opens {
+        ahead: token_at(line, first.next),
+        mark: function_mark(function),
     }
 }
 
@@ -66,37 +62,22 @@ fn want_step(line: &[u8], token: Token, next: Place, level: u8) -> Step
     ensures { result ≡ want_step line.now level token next }
 {
     match token {
-        Token::Number(_) => leaf(line, next),
-        Token::Hexadecimal(_) => leaf(line, next),
-        Token::Named(_) => leaf(line, next),
-        Token::Quoted(_) => leaf(line, next),
-        Token::Symbol(sign) => match sign {
-            Sign::Open => Step::Opens {
-                ahead: token_at(line, next),
-                mark: PLAIN,
-            },
-            Sign::Minus => if minus_stands(level) {
-                Step::Wants {
-                    ahead: token_at(line, next),
-                    level: TIGHTEST,
-                }
-            } else {
-                Step::Refused
-            },
-            _ => Step::Refused,
-        },
-        Token::Not => if not_stands(level) {
-            Step::Wants {
-                ahead: token_at(line, next),
-                level: NOT_LEVEL,
-            }
-        } else {
-            Step::Refused
-        },
-        Token::Call(function) => {
-            let first = token_at(line, next);
-            call_step(line, first, function)
+        Token::Number(_) | Token::Hexadecimal(_) | Token::Named(_) | Token::Quoted(_) => {
+            leaf(line, next)
         }
+        Token::Symbol(Sign::Open) => Step::Opens {
+            ahead: token_at(line, next),
+            mark: PLAIN,
+        },
+        Token::Symbol(Sign::Minus) if minus_stands(level) => Step::Wants {
+            ahead: token_at(line, next),
+            level: TIGHTEST,
+        },
+        Token::Not if not_stands(level) => Step::Wants {
+            ahead: token_at(line, next),
+            level: NOT_LEVEL,
+        },
+        Token::Call(function) => call_step(line, token_at(line, next), function),
         _ => Step::Refused,
     }
 }
@@ -118,12 +99,10 @@ fn end_step(line: &[u8], token: Token, next: Place, mark: u8) -> Step
             mark: left,
         };
     }
-    if is_symbol(Sign::Close, token) {
-        if mark % 2 == 1 {
-            return Step::Closes {
-                ahead: token_at(line, next),
-            };
-        }
+    if is_symbol(Sign::Close, token) && mark % 2 == 1 {
+        return Step::Closes {
+            ahead: token_at(line, next),
+        };
     }
     Step::Refused
 }
@@ -133,11 +112,11 @@ fn has_step(line: &[u8], token: Token, next: Place, mark: u8) -> Step
     ensures { result ≡ has_step line.now mark token next }
 {
     match tight_operator(LOOSEST, token) {
-        OperatorFound::Is(operator) => Step::Wants {
+        Some(operator) => Step::Wants {
             ahead: token_at(line, next),
             level: right_level(operator),
         },
-        OperatorFound::None => end_step(line, token, next, mark),
+        None => end_step(line, token, next, mark),
     }
 }
 

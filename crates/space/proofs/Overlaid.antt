@@ -16,6 +16,11 @@ module _ (space : List ℕ) (to : ℕ) (bytes : List ℕ) where
   unfolding overlaid
   overlaid-paste = rw (take-length bytes, append_assoc)
 
+  -- and a paste of so many of them is the front laid over
+  pub paste-overlaid : (n : ℕ) → n ≤ length bytes → paste space to bytes n ≡ overlaid space to (take n bytes)
+  unfolding overlaid
+  paste-overlaid n h = rw (length-take-le n bytes h, append_assoc)
+
   -- the slice is as long as it was
   pub overlaid-length : to + length bytes ≤ length space → length (overlaid space to bytes) ≡ length space
   overlaid-length h = ap length overlaid-paste ∙ length-paste space to bytes (length bytes) h (le_refl _)

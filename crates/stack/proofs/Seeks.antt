@@ -1,4 +1,5 @@
 -- The search down the stack: what a loop of `look` keeps. It says nothing of memory.
+use Rattle.std.specs.Prelude.{None, Option, Some, ℕ}
 use Prim.Native.Nat.{ℕ, zero, suc, ◌-◌, ◌<◌}
 use mathlib.Core.Path.{◌≡◌, ◌∙◌, subst}
 use mathlib.Core.Bool.{Bool, true, false, cond}
@@ -13,19 +14,17 @@ use Rattle.machine.specs.bridge.Holding.{blank_record, passes}
 use Rattle.machine.specs.bridge.Wanted.{is_sought, found_in}
 use Rattle.machine.specs.declared.records.Record.{Record}
 use Rattle.machine.specs.declared.records.Sought.{Sought}
-use Rattle.machine.specs.declared.records.Found.{Found}
-use Rattle.machine.specs.declared.records.Found.TheVariants as found
 use Rattle.machine.proofs.Searching.{nothing_found}
 use Rattle.stack.specs.declared.seeking.Seek.{Seek}
 use Rattle.stack.specs.bridge.Seeking.{seeking, seek_from, look_of}
 
 -- the loop's state: what is found, or what is left finds it
-pub record Good (ys : List Record) (k : Sought) (F : Found) (s : Seek) : Type 0 where
+pub record Good (ys : List Record) (k : Sought) (F : Option ℕ) (s : Seek) : Type 0 where
   pub over : s.left ≡ 0 → s.found ≡ F
   pub more : 0 < s.left → found_in k ys s.left ≡ F
 
-module _ (ys : List Record) (k : Sought) (F : Found) where
-  goes : (n : ℕ) → found_in k ys n ≡ F → Good ys k F (seeking n found.None)
+module _ (ys : List Record) (k : Sought) (F : Option ℕ) where
+  goes : (n : ℕ) → found_in k ys n ≡ F → Good ys k F (seeking n None)
   unfolding found_in
   goes n e = record { over = λ h. subst (λ (m : ℕ). found_in k ys m ≡ F) h e; more = λ _. e }
 
@@ -37,14 +36,14 @@ module _ (ys : List Record) (k : Sought) (F : Found) where
       (λ z. rw z (goes n e))
 
   -- a record is looked at
-  keeps : (n : ℕ) (b c : Bool) → cond b (found.At n) (cond c (found_in k ys n) found.None) ≡ F
-      → Good ys k F (cond b (seeking 0 (found.At n)) (cond c (seeking n found.None) (seeking 0 found.None)))
-      × ((cond b (seeking 0 (found.At n)) (cond c (seeking n found.None) (seeking 0 found.None))).left < suc n)
+  keeps : (n : ℕ) (b c : Bool) → cond b (Some n) (cond c (found_in k ys n) None) ≡ F
+      → Good ys k F (cond b (seeking 0 (Some n)) (cond c (seeking n None) (seeking 0 None)))
+      × ((cond b (seeking 0 (Some n)) (cond c (seeking n None) (seeking 0 None))).left < suc n)
   keeps n true c e = (record { over = λ _. e; more = λ h. absurd (omega arith) }, omega arith)
   keeps n false true e = (goes n e, omega arith)
   keeps n false false e = (record { over = λ _. e; more = λ h. absurd (omega arith) }, omega arith)
 
-  looks : (n : ℕ) (f : Found) → 0 < n → found_in k ys n ≡ F
+  looks : (n : ℕ) (f : Option ℕ) → 0 < n → found_in k ys n ≡ F
       → Good ys k F (look_of (seeking n f) (get_or ys (n - 1) blank_record) k)
       × ((look_of (seeking n f) (get_or ys (n - 1) blank_record) k).left < n)
   unfolding found_in look_of

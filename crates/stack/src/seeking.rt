@@ -4,13 +4,13 @@ ghost use Rattle.machine.specs.bridge.Wanted.{found_in};
 ghost use Rattle.stack.specs.bridge.Seeking.{seek_from, look_of};
 
 use crate::slots::at;
-use machine::{Found, Record, Sought, is_sought, passes};
+use machine::{Record, Sought, is_sought, passes};
 
 // How many records are left to look at, and what was found.
 #[derive(Clone, Copy)]
 pub struct Seek {
     pub left: usize,
-    pub found: Found,
+    pub found: Option<usize>,
 }
 
 // Who asks for none looks at none.
@@ -21,12 +21,12 @@ pub(crate) fn seek_from(depth: usize, sought: Sought) -> Seek
     if sought.kind == Sought::NONE {
         return Seek {
             left: 0,
-            found: Found::None,
+            found: None,
         };
     }
     Seek {
         left: depth,
-        found: Found::None,
+        found: None,
     }
 }
 
@@ -40,23 +40,20 @@ pub(crate) fn look(seek: Seek, entry: Record, sought: Sought) -> Seek
     if is_sought(sought, entry) {
         return Seek {
             left: 0,
-            found: Found::At(left),
+            found: Some(left),
         };
     }
     if passes(entry) {
-        return Seek {
-            left,
-            found: Found::None,
-        };
+        return Seek { left, found: None };
     }
     Seek {
         left: 0,
-        found: Found::None,
+        found: None,
     }
 }
 
 // Among the first `depth`; none below the nearest GOSUB's is looked at.
-pub fn find(stack: &[Record], depth: usize, sought: Sought) -> Found
+pub fn find(stack: &[Record], depth: usize, sought: Sought) -> Option<usize>
     ensures { result ≡ found_in sought stack.now depth }
 {
     let mut seek = seek_from(depth, sought);

@@ -23,11 +23,7 @@ pub fn blank() -> Record
 pub fn at(stack: &[Record], slot: usize) -> Record
     ensures { result ≡ get_or stack.now slot blank_record }
 {
-    let mut entry = blank();
-    if slot < stack.len() {
-        entry = stack[slot];
-    }
-    entry
+    stack.get(slot).copied().unwrap_or(blank())
 }
 
 // A slot past the last changes nothing.
@@ -43,10 +39,5 @@ pub fn put(stack: &mut [Record], slot: usize, entry: Record)
 pub fn wipe(stack: &mut [Record])
     ensures { stack.new ≡ replicate (length stack.old) blank_record }
 {
-    let none = blank();
-    let mut i = 0;
-    while i < stack.len() {
-        put(stack, i, none);
-        i += 1;
-    }
+    stack.fill(blank());
 }

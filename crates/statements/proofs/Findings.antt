@@ -1,4 +1,5 @@
 -- What a token is found to be, where the specification asks for it: a name, a line number, a quoted text.
+use Rattle.std.specs.Prelude.{None, Option, Some}
 use mathlib.Core.Path.{◌≡◌, refl, sym, ◌∙◌}
 use mathlib.Core.Bool.{Bool, true, false, not}
 use borrow.Author.Tests.{not-true, not-false}
@@ -15,10 +16,6 @@ use Rattle.grammar.specs.Trees.{goto, gosub}
 use Rattle.statements.specs.Statements.{Begun, bad, done}
 use Rattle.grammar.specs.bridge.Answers.{line_of}
 use Rattle.statements.specs.bridge.Answers.{name_of, is_quoted, begun_answer}
-use Rattle.grammar.specs.declared.tests.NamedLine.{NamedLine}
-use Rattle.grammar.specs.declared.tests.NamedLine.TheVariants.{Names, NoLine}
-use Rattle.statements.specs.declared.reading.NameFound.{NameFound}
-use Rattle.statements.specs.declared.reading.NameFound.TheVariants.{Is, None}
 use Rattle.statements.specs.declared.reading.StatementRead.{StatementRead}
 
 -- ---- a test that the code turned around, by what it did then
@@ -32,7 +29,7 @@ failed {b} e h = sym e ∙ not-true b h
 -- ---- what holds of each way holds of the choice
 
 pub by_name_in : {A : Type 0} (P : A → Type 0) (t : Token) (go : Name → A) (other : A)
-    → ((v : Name) → name_of t ≡ Is v → t ≡ Named v → P (go v)) → (name_of t ≡ None → P other) → P (on_name t go other)
+    → ((v : Name) → name_of t ≡ Some v → t ≡ Named v → P (go v)) → (name_of t ≡ None → P other) → P (on_name t go other)
 by_name_in P EndOfLine go other found none = none refl
 by_name_in P (Keyword w) go other found none = none refl
 by_name_in P Not go other found none = none refl
@@ -47,11 +44,11 @@ by_name_in P (Symbol s) go other found none = none refl
 by_name_in P Unreadable go other found none = none refl
 
 pub by_name : (P : Begun → Type 0) (t : Token) (go : Name → Begun) (other : Begun)
-    → ((v : Name) → name_of t ≡ Is v → t ≡ Named v → P (go v)) → (name_of t ≡ None → P other) → P (on_name t go other)
+    → ((v : Name) → name_of t ≡ Some v → t ≡ Named v → P (go v)) → (name_of t ≡ None → P other) → P (on_name t go other)
 by_name P t go other found none = by_name_in P t go other found none
 
 pub by_line : (P : Begun → Type 0) (t : Token) (go : LineNumber → Begun) (other : Begun)
-    → ((l : LineNumber) → line_of t ≡ Names l → reads t ≡ true → P (go l)) → (line_of t ≡ NoLine → P other) → P (on_line t go other)
+    → ((l : LineNumber) → line_of t ≡ Some l → reads t ≡ true → P (go l)) → (line_of t ≡ None → P other) → P (on_line t go other)
 by_line P EndOfLine go other found none = none refl
 by_line P (Keyword w) go other found none = none refl
 by_line P Not go other found none = none refl
@@ -81,25 +78,25 @@ by_text P (Symbol s) go other found none = none refl
 by_text P Unreadable go other found none = none refl
 
 -- a line number reads
-pub line_reads : (t : Token) {l : LineNumber} → line_of t ≡ Names l → reads t ≡ true
+pub line_reads : (t : Token) {l : LineNumber} → line_of t ≡ Some l → reads t ≡ true
 line_reads t e = by_line (λ b. reads t ≡ true) t (λ l. bad) bad (λ l f a. a) (λ f. cc)
 
 -- ---- what was found tells which way the answer goes
 
-module _ (t : Token) (go : Name → Begun) (other : Begun) {n : NameFound} (is : n ≡ name_of t) {r : StatementRead} where
-  pub named : {v : Name} → n ≡ Is v → r ≡ begun_answer (go v) → r ≡ begun_answer (on_name t go other)
+module _ (t : Token) (go : Name → Begun) (other : Begun) {n : Option Name} (is : n ≡ name_of t) {r : Option StatementRead} where
+  pub named : {v : Name} → n ≡ Some v → r ≡ begun_answer (go v) → r ≡ begun_answer (on_name t go other)
   named {v} e h =
       by_name (λ b. r ≡ begun_answer b) t go other (λ w f a. let same : w ≡ v = cc in rw same h) (λ f. cc)
 
   pub unnamed : n ≡ None → r ≡ begun_answer other → r ≡ begun_answer (on_name t go other)
   unnamed e h = by_name (λ b. r ≡ begun_answer b) t go other (λ w f a. cc) (λ f. h)
 
-module _ (t : Token) (go : LineNumber → Begun) (other : Begun) {n : NamedLine} (is : n ≡ line_of t) {r : StatementRead} where
-  pub numbered : {l : LineNumber} → n ≡ Names l → r ≡ begun_answer (go l) → r ≡ begun_answer (on_line t go other)
+module _ (t : Token) (go : LineNumber → Begun) (other : Begun) {n : Option LineNumber} (is : n ≡ line_of t) {r : Option StatementRead} where
+  pub numbered : {l : LineNumber} → n ≡ Some l → r ≡ begun_answer (go l) → r ≡ begun_answer (on_line t go other)
   numbered {l} e h =
       by_line (λ b. r ≡ begun_answer b) t go other (λ m f a. let same : m ≡ l = cc in rw same h) (λ f. cc)
 
-  pub unnumbered : n ≡ NoLine → r ≡ begun_answer other → r ≡ begun_answer (on_line t go other)
+  pub unnumbered : n ≡ None → r ≡ begun_answer other → r ≡ begun_answer (on_line t go other)
   unnumbered e h = by_line (λ b. r ≡ begun_answer b) t go other (λ m f a. cc) (λ f. h)
 
 -- GOSUB is answered as GOTO is

@@ -1,4 +1,5 @@
 -- The variables of a READ and the items of a DATA: the code's loops go from one to the next.
+use Rattle.std.specs.Prelude.{None, Option, Some}
 use mathlib.Core.Path.{◌≡◌, refl, sym, ap, ◌∙◌}
 use mathlib.Core.Bool.{true, false}
 use mathlib.Core.List.{List, []}
@@ -16,7 +17,6 @@ use Rattle.scanner.specs.Tokens.{token_at}
 use Rattle.items.specs.Items as item
 use Rattle.items.specs.Items.{DataItems, with_item, item_bytes, item_at, items_from}
 use Rattle.items.specs.declared.reading.Item.{Item}
-use Rattle.items.specs.declared.reading.ItemRead.TheVariants.{Bad, Good}
 use Rattle.items.proofs.Listing.{items_turn}
 use Rattle.grammar.specs.Tests.{choose, is_symbol, on_name}
 use Rattle.grammar.specs.Trees.{Variable}
@@ -24,9 +24,7 @@ use Rattle.grammar.specs.Formulas.{after, enough}
 use Rattle.statements.specs.Parts.{deepest}
 use Rattle.statements.specs.Statements.{variable_of, held, data_at, NameList, unlisted, listed, with_name, names_at, filled_by, read_at}
 use Rattle.statements.specs.bridge.Answers.{name_of, formed_read, begun_answer}
-use Rattle.statements.specs.declared.reading.NameFound.TheVariants.{Is, None}
 use Rattle.statements.specs.declared.reading.StatementRead.{StatementRead}
-use Rattle.statements.specs.declared.reading.StatementRead.TheVariants as statement
 use Rattle.skimming.specs.bridge.Remaining.{weight}
 use Rattle.skimming.proofs.Weights.{symbol_reads, after_lighter, weight-enough}
 use Rattle.statements.proofs.Findings.{by_name_in}
@@ -34,12 +32,12 @@ use Rattle.statements.proofs.Findings.{by_name_in}
 -- ---- READ
 
 -- the token that is a name
-pub name_token : (t : Token) {v : Name} → name_of t ≡ Is v → t ≡ Named v
-name_token t {v} e = by_name_in (λ n. n ≡ Is v → t ≡ Named v) t Is None (λ w f a i. let same : w ≡ v = cc in rw (← same) a) (λ f i. never (cc)) e
+pub name_token : (t : Token) {v : Name} → name_of t ≡ Some v → t ≡ Named v
+name_token t {v} e = by_name_in (λ n. n ≡ Some v → t ≡ Named v) t Some None (λ w f a i. let same : w ≡ v = cc in rw (← same) a) (λ f i. never (cc)) e
 
-abbrev pub names_read : NameList → StatementRead
-names_read unlisted = statement.Bad
-names_read (listed vs t) = formed_read t 0 true
+abbrev pub names_read : NameList → Option StatementRead
+names_read unlisted = None
+names_read (listed vs t) = Some (formed_read t 0 true)
 
 pub read_begins : (s : List ℕ) (t : Scanned) → begun_answer (read_at s t) ≡ names_read (names_at (enough s) s t)
 unfolding read_at deepest
@@ -88,15 +86,15 @@ module _ (s : List ℕ) (t : Scanned) where
       → names_at (enough s) s t ≡ with_name (variable_of s v) (others_at s (after s t) (names_at (enough s) s))
   names_some v e = names_turn s t ∙ rw e
 
-module _ (s : List ℕ) (t : Scanned) {r : StatementRead} (so_far : r ≡ names_read (names_at (enough s) s t)) where
-  pub read_stops : name_of t.token ≡ None → r ≡ statement.Bad
+module _ (s : List ℕ) (t : Scanned) {r : Option StatementRead} (so_far : r ≡ names_read (names_at (enough s) s t)) where
+  pub read_stops : name_of t.token ≡ None → r ≡ None
   read_stops e = so_far ∙ ap names_read (names_none s t e)
 
-  module _ {v : Name} (name : name_of t.token ≡ Is v) where
+  module _ {v : Name} (name : name_of t.token ≡ Some v) where
     here : r ≡ names_read (others_at s (after s t) (names_at (enough s) s))
     here = so_far ∙ ap names_read (names_some s t v (name_token t.token name)) ∙ with_name_lem (variable_of s v) (others_at s (after s t) (names_at (enough s) s))
 
-    pub read_last : is_symbol Comma (after s t).token ≡ false → r ≡ formed_read (after s t) 0 true
+    pub read_last : is_symbol Comma (after s t).token ≡ false → r ≡ Some (formed_read (after s t) 0 true)
     read_last e = here ∙ rw e
 
     pub read_more : is_symbol Comma (after s t).token ≡ true → r ≡ names_read (names_at (enough s) s (after s (after s t)))
@@ -104,9 +102,9 @@ module _ (s : List ℕ) (t : Scanned) {r : StatementRead} (so_far : r ≡ names_
 
 -- ---- DATA
 
-abbrev pub held_read : List ℕ → DataItems → StatementRead
-held_read s item.bad = statement.Bad
-held_read s (item.items l p) = formed_read (token_at s (place p)) 0 true
+abbrev pub held_read : List ℕ → DataItems → Option StatementRead
+held_read s item.bad = None
+held_read s (item.items l p) = Some (formed_read (token_at s (place p)) 0 true)
 
 pub data_begins : (s : List ℕ) (t : Scanned) → begun_answer (data_at s t) ≡ held_read s (items_from s t.next.0)
 unfolding data_at deepest
@@ -120,13 +118,13 @@ with_item_lem : (s b : List ℕ) (x : DataItems) → held_read s (with_item b x)
 with_item_lem s b item.bad = refl
 with_item_lem s b (item.items l p) = refl
 
-module _ (s : List ℕ) (at : ℕ) {r : StatementRead} (so_far : r ≡ held_read s (items_from s at)) where
-  pub data_stops : item_at s at ≡ Bad → r ≡ statement.Bad
+module _ (s : List ℕ) (at : ℕ) {r : Option StatementRead} (so_far : r ≡ held_read s (items_from s at)) where
+  pub data_stops : item_at s at ≡ None → r ≡ None
   data_stops e = so_far ∙ ap (held_read s) (items_turn s at) ∙ rw e
 
-  pub data_last : (i : Item) → item_at s at ≡ Good i → i.more ≡ false → r ≡ formed_read (token_at s i.end) 0 true
+  pub data_last : (i : Item) → item_at s at ≡ Some i → i.more ≡ false → r ≡ Some (formed_read (token_at s i.end) 0 true)
   data_last i e m = so_far ∙ ap (held_read s) (items_turn s at) ∙ rw (e, m)
 
-  pub data_more : (i : Item) → item_at s at ≡ Good i → i.more ≡ true → r ≡ held_read s (items_from s (i.end.0 + 1))
+  pub data_more : (i : Item) → item_at s at ≡ Some i → i.more ≡ true → r ≡ held_read s (items_from s (i.end.0 + 1))
   data_more i e m =
       so_far ∙ ap (held_read s) (items_turn s at) ∙ rw (e, m) (with_item_lem s (item_bytes s i) (items_from s (i.end.0 + 1)))

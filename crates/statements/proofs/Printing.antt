@@ -20,7 +20,7 @@ use Rattle.expressions.specs.Types.{is_some}
 use Rattle.expressions.specs.bridge.Answers.{capped_depth}
 use Rattle.statements.specs.bridge.Answers.{fits, known_sort, formed_read, begun_answer}
 use Rattle.statements.specs.declared.reading.StatementRead.{StatementRead}
-use Rattle.statements.specs.declared.reading.StatementRead.TheVariants as statement
+use Rattle.std.specs.Prelude.{Option, Some, None}
 use Rattle.statements.proofs.Fuel.{turn}
 use Rattle.statements.proofs.Known.{known, fits-max, apart}
 use Rattle.skimming.proofs.Weights.{reads_if}
@@ -28,10 +28,10 @@ use Rattle.expressions.proofs.Answering.{capped_max, max_assoc}
 
 -- ---- the answer, where items of some depth and of some types or none were read before
 
-abbrev pub continued : ℕ → Bool → Items → StatementRead
-continued depth typed no_items = statement.Bad
+abbrev pub continued : ℕ → Bool → Items → Option StatementRead
+continued depth typed no_items = None
 continued depth typed (items is t) =
-    formed_read t (max depth (capped_depth (deepest (item_formulas is)))) (typed && (fits (deepest (item_formulas is)) && all_some (item_formulas is)))
+    Some (formed_read t (max depth (capped_depth (deepest (item_formulas is)))) (typed && (fits (deepest (item_formulas is)) && all_some (item_formulas is))))
 
 pub print_begins : (s : List ℕ) (t : Scanned) → begun_answer (print_at s t) ≡ continued 0 true (items_at (enough s) s t)
 unfolding print_at
@@ -62,10 +62,10 @@ unfolding deepest all_some
 with_shown d k f no_items = refl
 with_shown d k f (items is t) =
     rw (capped_max (depth_of f) (deepest (item_formulas is)), max_assoc d (capped_depth (depth_of f)) (capped_depth (deepest (item_formulas is))))
-    (ap (formed_read t (max (max d (capped_depth (depth_of f))) (capped_depth (deepest (item_formulas is)))))
+    (ap (λ k. Some (formed_read t (max (max d (capped_depth (depth_of f))) (capped_depth (deepest (item_formulas is)))) k))
     (shown_typed k f (item_formulas is)))
 
-with_none : (d : ℕ) (k : Bool) (t : Scanned) → continued d k (items [] t) ≡ formed_read t d k
+with_none : (d : ℕ) (k : Bool) (t : Scanned) → continued d k (items [] t) ≡ Some (formed_read t d k)
 unfolding deepest all_some
 with_none d k t = rw (max-zero d, and-true k)
 
@@ -78,7 +78,7 @@ neither : (a b : Bool) → (a || b) ≡ false → (a ≡ false) × (b ≡ false)
 neither true b e = absurd (false≢true (sym e))
 neither false b e = (refl, e)
 
-module _ (s : List ℕ) (t : Scanned) (d : ℕ) (k : Bool) {r : StatementRead} (so_far : r ≡ continued d k (items_at (enough s) s t)) where
+module _ (s : List ℕ) (t : Scanned) (d : ℕ) (k : Bool) {r : Option StatementRead} (so_far : r ≡ continued d k (items_at (enough s) s t)) where
   here : r ≡ continued d k (items_at (suc (enough s)) s t)
   here = so_far ∙ ap (continued d k) (turn s t)
 
@@ -96,18 +96,18 @@ module _ (s : List ℕ) (t : Scanned) (d : ℕ) (k : Bool) {r : StatementRead} (
     no_semicolon : is_symbol Semicolon t.token ≡ false
     no_semicolon = (neither (is_symbol Comma t.token) (is_symbol Semicolon t.token) no-separator).1
 
-    pub print_ends : ends_statement t.token ≡ true → r ≡ formed_read t d k
+    pub print_ends : ends_statement t.token ≡ true → r ≡ Some (formed_read t d k)
     unfolding items_at
     print_ends e = rw (no_comma, no_semicolon, e) at here ∙ with_none d k t
 
     module _ (goes_on : ends_statement t.token ≡ false) where
-      pub print_bad : formula_of s t ≡ formulas.bad → r ≡ statement.Bad
+      pub print_bad : formula_of s t ≡ formulas.bad → r ≡ None
       unfolding items_at
       print_bad e = rw (no_comma, no_semicolon, goes_on, e) at here
 
       module _ {f : Formula} {u : Scanned} (is : formula_of s t ≡ formulas.good f u)
           {e : ℕ} {l : Bool} (deep : e ≡ max d (capped_depth (depth_of f))) (some : l ≡ (k && is_some (known_sort f))) where
-        pub print_last : is_separator u.token ≡ false → r ≡ formed_read u e l
+        pub print_last : is_separator u.token ≡ false → r ≡ Some (formed_read u e l)
         unfolding items_at
         print_last last =
             rw (deep, some)

@@ -1,4 +1,5 @@
 -- How a statement that reads begins: which tokens stand there, and where its formulas begin.
+use Rattle.std.specs.Prelude.{Some}
 use mathlib.Core.Path.{◌≡◌, refl}
 use mathlib.Core.Bool.{Bool, true, false, ◌||◌}
 use mathlib.Core.List.{List, []}
@@ -25,7 +26,6 @@ use Rattle.grammar.specs.Formulas.{Reading, good, after, quoted_bytes, enough, f
 use Rattle.statements.specs.Statements.{Begun, bad, done, choice, on_formula, variable_of, assign_at, Items, no_items, items, items_at, printed, print_at, if_at, for_at, target_at, input_at, held, data_at, NameList, unlisted, listed, names_at, filled_by, read_at, led_by_word, led_by_sign, led_by_number, led_by_token, begun_by, begun_at}
 use Rattle.grammar.specs.bridge.Answers.{line_of}
 use Rattle.statements.specs.bridge.Answers.{is_quoted, items_of}
-use Rattle.grammar.specs.declared.tests.NamedLine.TheVariants.{Names}
 use Rattle.statements.proofs.Findings.{by_name, by_line, by_text}
 
 -- ---- the tokens of each statement, from its first one, t, to the one that follows it, u
@@ -70,13 +70,13 @@ pub record Printed (s : List ℕ) (t : Scanned) (is : List Item) (u : Scanned) :
 -- GOTO l, where the GOTO that begins a part of an IF may be left out
 pub record Gone (s : List ℕ) (first : Bool) (t : Scanned) (l : LineNumber) (u : Scanned) : Type 0 where
   pub bare : is_keyword Goto t.token ≡ false → first ≡ true
-  pub line : line_of (past Goto s t).token ≡ Names l
+  pub line : line_of (past Goto s t).token ≡ Some l
   pub next : u ≡ after s (past Goto s t)
 
 -- GOSUB l
 pub record Called (s : List ℕ) (t : Scanned) (l : LineNumber) (u : Scanned) : Type 0 where
   pub word : t.token ≡ Keyword Gosub
-  pub line : line_of (after s t).token ≡ Names l
+  pub line : line_of (after s t).token ≡ Some l
   pub next : u ≡ after s (after s t)
 
 -- a FOR's step, from STEP on, if it stands
@@ -155,13 +155,13 @@ pub record Filled (s : List ℕ) (t : Scanned) (vs : List Variable) (u : Scanned
 -- RESTORE l
 pub record Restored (s : List ℕ) (t : Scanned) (l : LineNumber) (u : Scanned) : Type 0 where
   pub word : t.token ≡ Keyword Restore
-  pub line : line_of (after s t).token ≡ Names l
+  pub line : line_of (after s t).token ≡ Some l
   pub next : u ≡ after s (after s t)
 
 -- THEN, or a GOTO with its line number after it
 pub data Way (s : List ℕ) (u : Scanned) : Type 0 where
   by_then : is_keyword Then u.token ≡ true → Way s u
-  by_goto : (l : LineNumber) → is_keyword Goto u.token ≡ true → line_of (after s u).token ≡ Names l → Way s u
+  by_goto : (l : LineNumber) → is_keyword Goto u.token ≡ true → line_of (after s u).token ≡ Some l → Way s u
 
 -- IF c THEN
 pub record Chosen (s : List ℕ) (t : Scanned) (c : Formula) (u : Scanned) : Type 0 where

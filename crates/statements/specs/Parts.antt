@@ -1,11 +1,10 @@
 -- What is asked of a line that reads: how deep its formulas nest, whether its types are right, which lines it names. Every branch
 -- counts: the statements of a part are taken in text order, those of an IF's parts after the IF.
-use Rattle.std.specs.Prelude.{Bool, true, ◌&&◌, List, [], ◌∷◌, ◌++◌, ℕ, max}
+use Rattle.words.specs.declared.places.LineNumber.{LineNumber}
+use Rattle.std.specs.Prelude.{Bool, true, ◌&&◌, List, [], ◌∷◌, ◌++◌, ℕ, max, None, Option, Some}
 use Rattle.grammar.specs.Trees.{Formula, Variable, Item, comma, semicolon, shown, Statement, empty, assign, print, if_then, if_else, goto, gosub, return, for, next, next_of, while, wend, line_input, data_of, read, restore, restore_to, end, stop, remark, Part, last, more}
 use Rattle.expressions.specs.Types.{is_whole, is_some, is_of, sort_of, depth_of}
 use Rattle.expressions.specs.declared.sorts.Sort.TheVariants.{Whole, Text}
-use Rattle.grammar.specs.declared.tests.NamedLine.{NamedLine}
-use Rattle.grammar.specs.declared.tests.NamedLine.TheVariants.{Names, NoLine}
 
 -- ---- a statement by itself, without the parts of an IF
 
@@ -74,28 +73,28 @@ rightly_typed stop = true
 rightly_typed remark = true
 
 -- the line that a statement names
-abbrev pub named_line : Statement → NamedLine
-named_line empty = NoLine
-named_line (assign v f) = NoLine
-named_line (print is) = NoLine
-named_line (if_then c p) = NoLine
-named_line (if_else c p q) = NoLine
-named_line (goto l) = Names l
-named_line (gosub l) = Names l
-named_line return = NoLine
-named_line (for v from to by) = NoLine
-named_line next = NoLine
-named_line (next_of v) = NoLine
-named_line (while c) = NoLine
-named_line wend = NoLine
-named_line (line_input t v) = NoLine
-named_line (data_of l) = NoLine
-named_line (read vs) = NoLine
-named_line restore = NoLine
-named_line (restore_to l) = Names l
-named_line end = NoLine
-named_line stop = NoLine
-named_line remark = NoLine
+abbrev pub named_line : Statement → Option LineNumber
+named_line empty = None
+named_line (assign v f) = None
+named_line (print is) = None
+named_line (if_then c p) = None
+named_line (if_else c p q) = None
+named_line (goto l) = Some l
+named_line (gosub l) = Some l
+named_line return = None
+named_line (for v from to by) = None
+named_line next = None
+named_line (next_of v) = None
+named_line (while c) = None
+named_line wend = None
+named_line (line_input t v) = None
+named_line (data_of l) = None
+named_line (read vs) = None
+named_line restore = None
+named_line (restore_to l) = Some l
+named_line end = None
+named_line stop = None
+named_line remark = None
 
 -- ---- a part: its first statement, where that stands in the line, and what is left of the part after it
 

@@ -1,5 +1,5 @@
 -- How statements read, each from the token t that it begins with, and the parts that they make.
-use Rattle.std.specs.Prelude.{Bool, true, false, ◌||◌, List, [], ◌∷◌, ℕ, zero, suc}
+use Rattle.std.specs.Prelude.{Bool, true, false, ◌||◌, Option, Some, None, List, [], ◌∷◌, ℕ, zero, suc}
 use Rattle.words.specs.Names.{name_bytes, telling_of}
 use Rattle.words.specs.Places.{place}
 use Rattle.words.specs.declared.names.Name.{Name}
@@ -63,7 +63,6 @@ use Rattle.items.specs.Items.{DataItems, items_from}
 use Rattle.grammar.specs.Formulas as formulas
 use Rattle.grammar.specs.Formulas.{Reading, after, quoted_bytes, enough, formula_of}
 use Rattle.statements.specs.declared.leading.Lead.{Lead}
-use Rattle.statements.specs.declared.leading.Lead.TheVariants.{By, Nothing}
 
 -- what a statement begins as: it does not read; it is done, and this token follows it; or it is an IF with this condition,
 -- whose part begins after this token
@@ -216,47 +215,50 @@ by_word s Restore t = on_line t.token (λ l. done (restore_to l) (after s t)) (d
 
 -- ---- how a statement is led: by its word, given or understood
 
+abbrev pub led_by : Word → Scanned → Option Lead
+led_by w t = Some (record { word = w; ahead = t })
+
 -- before ELSE stands an empty statement; what follows DATA is no token
-abbrev pub led_by_word : List ℕ → Word → Scanned → Lead
-led_by_word s w t = choose (is_keyword Else (Keyword w) || is_keyword Data (Keyword w)) (λ _. By w t) (λ _. By w (after s t))
+abbrev pub led_by_word : List ℕ → Word → Scanned → Option Lead
+led_by_word s w t = choose (is_keyword Else (Keyword w) || is_keyword Data (Keyword w)) (λ _. led_by w t) (λ _. led_by w (after s t))
 
 -- before a colon too; a question mark is PRINT
-abbrev pub led_by_sign : List ℕ → Sign → Scanned → Lead
-led_by_sign s Open t = Nothing
-led_by_sign s Close t = Nothing
-led_by_sign s Comma t = Nothing
-led_by_sign s Semicolon t = Nothing
-led_by_sign s Colon t = By Else t
-led_by_sign s Question t = By Print (after s t)
-led_by_sign s Equal t = Nothing
-led_by_sign s Minus t = Nothing
+abbrev pub led_by_sign : List ℕ → Sign → Scanned → Option Lead
+led_by_sign s Open t = None
+led_by_sign s Close t = None
+led_by_sign s Comma t = None
+led_by_sign s Semicolon t = None
+led_by_sign s Colon t = led_by Else t
+led_by_sign s Question t = led_by Print (after s t)
+led_by_sign s Equal t = None
+led_by_sign s Minus t = None
 
 -- a line number at the start of a part is a GOTO statement
-abbrev pub led_by_number : Bool → Scanned → Lead
-led_by_number first t = choose first (λ _. By Goto t) (λ _. Nothing)
+abbrev pub led_by_number : Bool → Scanned → Option Lead
+led_by_number first t = choose first (λ _. led_by Goto t) (λ _. None)
 
 -- LET may be left out
-abbrev pub led_by_token : List ℕ → Bool → Token → Scanned → Lead
-led_by_token s first EndOfLine t = By Else t
+abbrev pub led_by_token : List ℕ → Bool → Token → Scanned → Option Lead
+led_by_token s first EndOfLine t = led_by Else t
 led_by_token s first (Keyword w) t = led_by_word s w t
-led_by_token s first Not t = Nothing
-led_by_token s first (Infix op) t = Nothing
-led_by_token s first (Call f) t = Nothing
-led_by_token s first (Named v) t = By Let t
+led_by_token s first Not t = None
+led_by_token s first (Infix op) t = None
+led_by_token s first (Call f) t = None
+led_by_token s first (Named v) t = led_by Let t
 led_by_token s first (Number n) t = led_by_number first t
-led_by_token s first (Hexadecimal n) t = Nothing
+led_by_token s first (Hexadecimal n) t = None
 led_by_token s first (LineOnly l) t = led_by_number first t
-led_by_token s first (Quoted q) t = Nothing
+led_by_token s first (Quoted q) t = None
 led_by_token s first (Symbol sign) t = led_by_sign s sign t
-led_by_token s first Unreadable t = Nothing
+led_by_token s first Unreadable t = None
 
 -- `first` says that the statement is the first of a part of an IF
-abbrev pub lead_of : List ℕ → Bool → Scanned → Lead
+abbrev pub lead_of : List ℕ → Bool → Scanned → Option Lead
 lead_of s first t = led_by_token s first t.token t
 
-abbrev pub begun_by : List ℕ → Lead → Begun
-begun_by s (By w t) = by_word s w t
-begun_by s Nothing = bad
+abbrev pub begun_by : List ℕ → Option Lead → Begun
+begun_by s (Some lead) = by_word s lead.word lead.ahead
+begun_by s None = bad
 
 -- the statement at a place
 unfoldable pub begun_at : List ℕ → Bool → ℕ → Begun

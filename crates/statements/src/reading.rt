@@ -1,5 +1,5 @@
 // The readers of statements: each judges one statement by itself, an IF up to its part.
-ghost use Rattle.std.specs.Prelude.{◌≡◌, true, ◌&&◌, List, ℕ};
+ghost use Rattle.std.specs.Prelude.{◌≡◌, true, ◌&&◌, List, ℕ, Some};
 ghost use Rattle.grammar.specs.Tests.{choose, is_symbol, is_keyword, ends_statement, on_name, on_line};
 ghost use Rattle.grammar.specs.Trees.{Formula, Variable, goto, next, next_of, restore, restore_to, while};
 ghost use Rattle.grammar.specs.Formulas.{Reading, good, after, formula_of};
@@ -8,14 +8,14 @@ ghost use Rattle.statements.specs.Statements.{bad, done, choice, on_formula, var
 ghost use Rattle.expressions.specs.Types.{is_whole};
 ghost use Rattle.statements.specs.Parts.{is_number};
 ghost use Rattle.expressions.specs.bridge.Answers.{capped_depth};
-ghost use Rattle.statements.specs.bridge.Answers.{known_sort, name_of, is_quoted, formed_read, begun_answer, bound_of};
+ghost use Rattle.statements.specs.bridge.Answers.{own_of, known_sort, name_of, is_quoted, formed_read, begun_answer, bound_of};
 
 use crate::leading::{Lead, lead_at};
-use expressions::{FormulaRead, Sort, formula_at, is_of, is_some, is_whole, larger};
-use grammar::{NamedLine, ends_statement, is_keyword, is_symbol, line_of};
-use items::{ItemRead, item_at};
+use expressions::{Sort, formula_at, is_of, is_some, is_whole};
+use grammar::{ends_statement, is_keyword, is_symbol, line_of};
+use items::item_at;
 use scanner::token_at;
-use words::{Name, Place, Scanned, Sign, Token, Word};
+use words::{LineNumber, Name, Place, Scanned, Sign, Token, Word};
 
 // What is known of a statement by itself: the token that follows it, how deep its formulas nest, whether its types are right, and
 // the line that it names.
@@ -24,31 +24,32 @@ pub struct Own {
     pub ahead: Scanned,
     pub deepest: u8,
     pub typed: bool,
-    pub names: NamedLine,
+    pub names: Option<LineNumber>,
 }
 
-// A statement does not read; it is done; or it is an IF, whose part begins after the token ahead.
+// A statement that reads: it is done, or it is an IF, whose part begins after the token ahead.
 #[derive(Clone, Copy)]
 pub enum StatementRead {
-    Bad,
     Done(Own),
     Choice(Own),
 }
 
-// The name that a token is.
-#[derive(Clone, Copy)]
-pub enum NameFound {
-    Is(Name),
-    None,
+impl StatementRead {
+    pub fn own(self) -> Own
+        ensures { result ≡ own_of self }
+    {
+        match self {
+            StatementRead::Done(own) | StatementRead::Choice(own) => own,
+        }
+    }
 }
 
-fn name_at(ahead: Scanned) -> NameFound
+fn name_at(ahead: Scanned) -> Option<Name>
     ensures { result ≡ name_of ahead.token }
 {
-    let token = ahead.token;
-    match token {
-        Token::Named(name) => NameFound::Is(name),
-        _ => NameFound::None,
+    match ahead.token {
+        Token::Named(name) => Some(name),
+        _ => None,
     }
 }
 
@@ -56,26 +57,20 @@ fn name_at(ahead: Scanned) -> NameFound
 fn text_stands(ahead: Scanned) -> bool
     ensures { result ≡ is_quoted ahead.token }
 {
-    let token = ahead.token;
-    match token {
-        Token::Quoted(_) => true,
-        _ => false,
-    }
+    matches!(ahead.token, Token::Quoted(_))
 }
 
 // Whether a sign stands there, and whether a word does.
 fn sign_stands(sign: Sign, ahead: Scanned) -> bool
     ensures { result ≡ is_symbol sign ahead.token }
 {
-    let token = ahead.token;
-    is_symbol(sign, token)
+    is_symbol(sign, ahead.token)
 }
 
 fn word_stands(word: Word, ahead: Scanned) -> bool
     ensures { result ≡ is_keyword word ahead.token }
 {
-    let token = ahead.token;
-    is_keyword(word, token)
+    is_keyword(word, ahead.token)
 }
 
 // The token after one.
@@ -83,13 +78,6 @@ fn token_after(line: &[u8], ahead: Scanned) -> Scanned
     ensures { result ≡ after line.now ahead }
 {
     token_at(line, ahead.next)
-}
-
-// Whether both hold.
-fn both(a: bool, b: bool) -> bool
-    ensures { result ≡ (a && b) }
-{
-    a && b
 }
 
 // A statement with formulas, and no line named.
@@ -100,7 +88,7 @@ fn formed(ahead: Scanned, deepest: u8, typed: bool) -> StatementRead
         ahead,
         deepest,
         typed,
-        names: NamedLine::NoLine,
+        names: None,
     })
 }
 
@@ -112,54 +100,39 @@ fn plain(ahead: Scanned) -> StatementRead
 }
 
 // GOTO n and GOSUB n, from the line number on.
-fn jump(line: &[u8], ahead: Scanned) -> StatementRead
+fn jump(line: &[u8], ahead: Scanned) -> Option<StatementRead>
     ensures { result ≡ begun_answer (on_line ahead.token (λ l. done (goto l) (after line.now ahead)) bad) }
 {
-    let token = ahead.token;
-    let names = line_of(token);
-    match names {
-        NamedLine::NoLine => StatementRead::Bad,
-        NamedLine::Names(_) => StatementRead::Done(Own {
-            ahead: token_after(line, ahead),
-            deepest: 0,
-            typed: true,
-            names,
-        }),
-    }
+    let number = line_of(ahead.token)?;
+    Some(StatementRead::Done(Own {
+        ahead: token_after(line, ahead),
+        deepest: 0,
+        typed: true,
+        names: Some(number),
+    }))
 }
 
 // v = e, from the variable on.
-fn assignment_to(line: &[u8], ahead: Scanned) -> StatementRead
+fn assignment_to(line: &[u8], ahead: Scanned) -> Option<StatementRead>
     ensures { result ≡ begun_answer (on_name ahead.token (λ v. assign_at line.now (variable_of line.now v) (after line.now ahead)) bad) }
 {
-    match name_at(ahead) {
-        NameFound::Is(name) => assignment(line, name, token_after(line, ahead)),
-        NameFound::None => StatementRead::Bad,
-    }
+    let name = name_at(ahead)?;
+    assignment(line, name, token_after(line, ahead))
 }
 
 // v = e, from the equals sign on.
-fn assignment(line: &[u8], name: Name, ahead: Scanned) -> StatementRead
+fn assignment(line: &[u8], name: Name, ahead: Scanned) -> Option<StatementRead>
     ensures { result ≡ begun_answer (assign_at line.now (variable_of line.now name) ahead) }
 {
     if !sign_stands(Sign::Equal, ahead) {
-        return StatementRead::Bad;
+        return None;
     }
-    match formula_at(line, token_after(line, ahead)) {
-        FormulaRead::Bad => StatementRead::Bad,
-        FormulaRead::Good {
-            ahead,
-            sort,
-            deepest,
-        } => {
-            let kind = name.kind;
-            formed(ahead, deepest, is_of(kind, sort))
-        }
-    }
+    let read = formula_at(line, token_after(line, ahead))?;
+    Some(formed(read.ahead, read.deepest, is_of(name.kind, read.sort)))
 }
 
 // Any sequence of `,`, `;` and formulas, no two formulas adjacent.
-fn print(line: &[u8], ahead: Scanned) -> StatementRead
+fn print(line: &[u8], ahead: Scanned) -> Option<StatementRead>
     ensures { result ≡ begun_answer (print_at line.now ahead) }
 {
     let mut here = ahead;
@@ -169,22 +142,14 @@ fn print(line: &[u8], ahead: Scanned) -> StatementRead
         if separates(here) {
             here = token_after(line, here);
         } else if ends(here) {
-            return formed(here, depth, typed);
+            return Some(formed(here, depth, typed));
         } else {
-            match formula_at(line, here) {
-                FormulaRead::Bad => return StatementRead::Bad,
-                FormulaRead::Good {
-                    ahead,
-                    sort,
-                    deepest,
-                } => {
-                    depth = larger(depth, deepest);
-                    typed = both(typed, is_some(sort));
-                    if !separates(ahead) {
-                        return formed(ahead, depth, typed);
-                    }
-                    here = ahead;
-                }
+            let read = formula_at(line, here)?;
+            depth = depth.max(read.deepest);
+            typed &= is_some(read.sort);
+            here = read.ahead;
+            if !separates(here) {
+                return Some(formed(here, depth, typed));
             }
         }
     }
@@ -193,41 +158,29 @@ fn print(line: &[u8], ahead: Scanned) -> StatementRead
 fn ends(ahead: Scanned) -> bool
     ensures { result ≡ ends_statement ahead.token }
 {
-    let token = ahead.token;
-    ends_statement(token)
+    ends_statement(ahead.token)
 }
 
 fn separates(ahead: Scanned) -> bool
     ensures { result ≡ is_separator ahead.token }
 {
-    if sign_stands(Sign::Comma, ahead) {
-        return true;
-    }
-    sign_stands(Sign::Semicolon, ahead)
+    sign_stands(Sign::Comma, ahead) || sign_stands(Sign::Semicolon, ahead)
 }
 
 // IF e THEN, or IF e GOTO n, from the condition on.
-fn condition(line: &[u8], ahead: Scanned) -> StatementRead
+fn condition(line: &[u8], ahead: Scanned) -> Option<StatementRead>
     ensures { result ≡ begun_answer (if_at line.now (formula_of line.now ahead)) }
 {
-    match formula_at(line, ahead) {
-        FormulaRead::Bad => StatementRead::Bad,
-        FormulaRead::Good {
-            ahead,
-            sort,
-            deepest,
-        } => {
-            if !part_begins(line, ahead) {
-                return StatementRead::Bad;
-            }
-            StatementRead::Choice(Own {
-                ahead,
-                deepest,
-                typed: is_whole(sort),
-                names: NamedLine::NoLine,
-            })
-        }
+    let read = formula_at(line, ahead)?;
+    if !part_begins(line, read.ahead) {
+        return None;
     }
+    Some(StatementRead::Choice(Own {
+        ahead: read.ahead,
+        deepest: read.deepest,
+        typed: is_whole(read.sort),
+        names: None,
+    }))
 }
 
 // THEN, or GOTO and a line number.
@@ -241,140 +194,91 @@ fn part_begins(line: &[u8], ahead: Scanned) -> bool
         return false;
     }
     let target = token_after(line, ahead);
-    let token = target.token;
-    match line_of(token) {
-        NamedLine::NoLine => false,
-        NamedLine::Names(_) => true,
-    }
+    line_of(target.token).is_some()
 }
 
 // A formula that stands in a FOR: the token that follows it, and what is known so far.
 #[derive(Clone, Copy)]
-pub enum Bound {
-    Bad,
-    Good {
-        ahead: Scanned,
-        deepest: u8,
-        typed: bool,
-    },
+pub struct Bound {
+    pub ahead: Scanned,
+    pub deepest: u8,
+    pub typed: bool,
 }
 
 // The formula after a token, and whether it and what stood before it are whole numbers.
-fn bounded(line: &[u8], ahead: Scanned, depth: u8, typed: bool) -> Bound
+fn bounded(line: &[u8], ahead: Scanned, depth: u8, typed: bool) -> Option<Bound>
     ensures { result ≡ bound_of (formula_of line.now (after line.now ahead)) depth typed }
 {
-    match formula_at(line, token_after(line, ahead)) {
-        FormulaRead::Bad => Bound::Bad,
-        FormulaRead::Good {
-            ahead,
-            sort,
-            deepest,
-        } => Bound::Good {
-            ahead,
-            deepest: larger(depth, deepest),
-            typed: both(typed, is_whole(sort)),
-        },
-    }
+    let read = formula_at(line, token_after(line, ahead))?;
+    Some(Bound {
+        ahead: read.ahead,
+        deepest: depth.max(read.deepest),
+        typed: typed && is_whole(read.sort),
+    })
 }
 
 // FOR v = e TO e [STEP e], from the variable on.
-fn loop_head(line: &[u8], ahead: Scanned) -> StatementRead
+fn loop_head(line: &[u8], ahead: Scanned) -> Option<StatementRead>
     ensures { result ≡ begun_answer (on_name ahead.token (λ v. for_at line.now (variable_of line.now v) (after line.now ahead)) bad) }
 {
-    match name_at(ahead) {
-        NameFound::Is(name) => {
-            let kind = name.kind;
-            let equals = token_after(line, ahead);
-            if !sign_stands(Sign::Equal, equals) {
-                return StatementRead::Bad;
-            }
-            limit(line, bounded(line, equals, 0, is_of(kind, Sort::Whole)))
-        }
-        NameFound::None => StatementRead::Bad,
+    let name = name_at(ahead)?;
+    let equals = token_after(line, ahead);
+    if !sign_stands(Sign::Equal, equals) {
+        return None;
     }
+    let start = bounded(line, equals, 0, is_of(name.kind, Sort::Whole))?;
+    limit(line, start)
 }
 
 // TO e [STEP e]
-fn limit(line: &[u8], start: Bound) -> StatementRead
-    ensures { (v : Variable) (x : Reading) → start ≡ bound_of x 0 (is_number v)
+fn limit(line: &[u8], start: Bound) -> Option<StatementRead>
+    ensures { (v : Variable) (x : Reading) → Some start ≡ bound_of x 0 (is_number v)
         → result ≡ begun_answer (on_formula x (λ from u. limit_at line.now v from u)) }
 {
-    match start {
-        Bound::Bad => StatementRead::Bad,
-        Bound::Good {
-            ahead,
-            deepest,
-            typed,
-        } => {
-            if !word_stands(Word::To, ahead) {
-                return StatementRead::Bad;
-            }
-            step(line, bounded(line, ahead, deepest, typed))
-        }
+    if !word_stands(Word::To, start.ahead) {
+        return None;
     }
+    let limit = bounded(line, start.ahead, start.deepest, start.typed)?;
+    step(line, limit)
 }
 
 // [STEP e]
-fn step(line: &[u8], limit: Bound) -> StatementRead
+fn step(line: &[u8], limit: Bound) -> Option<StatementRead>
     ensures { (v : Variable) (from : Formula) (x : Reading)
-        → limit ≡ bound_of x (capped_depth (depth_of from)) (is_number v && is_whole (known_sort from))
+        → Some limit ≡ bound_of x (capped_depth (depth_of from)) (is_number v && is_whole (known_sort from))
         → result ≡ begun_answer (on_formula x (λ to u. step_at line.now v from to u)) }
 {
-    match limit {
-        Bound::Bad => StatementRead::Bad,
-        Bound::Good {
-            ahead,
-            deepest,
-            typed,
-        } => {
-            if !word_stands(Word::Step, ahead) {
-                return formed(ahead, deepest, typed);
-            }
-            match bounded(line, ahead, deepest, typed) {
-                Bound::Bad => StatementRead::Bad,
-                Bound::Good {
-                    ahead,
-                    deepest,
-                    typed,
-                } => formed(ahead, deepest, typed),
-            }
-        }
+    if !word_stands(Word::Step, limit.ahead) {
+        return Some(formed(limit.ahead, limit.deepest, limit.typed));
     }
+    let by = bounded(line, limit.ahead, limit.deepest, limit.typed)?;
+    Some(formed(by.ahead, by.deepest, by.typed))
 }
 
 // NEXT [v]
-fn loop_end(line: &[u8], ahead: Scanned) -> StatementRead
+fn loop_end(line: &[u8], ahead: Scanned) -> Option<StatementRead>
     ensures { result ≡ begun_answer (on_name ahead.token (λ v. done (next_of (variable_of line.now v)) (after line.now ahead)) (done next ahead)) }
 {
-    match name_at(ahead) {
-        NameFound::Is(name) => {
-            let kind = name.kind;
-            formed(token_after(line, ahead), 0, is_of(kind, Sort::Whole))
-        }
-        NameFound::None => plain(ahead),
-    }
+    let Some(name) = name_at(ahead) else {
+        return Some(plain(ahead));
+    };
+    Some(formed(token_after(line, ahead), 0, is_of(name.kind, Sort::Whole)))
 }
 
 // WHILE e, from the condition on.
-fn repeat_head(line: &[u8], ahead: Scanned) -> StatementRead
+fn repeat_head(line: &[u8], ahead: Scanned) -> Option<StatementRead>
     ensures { result ≡ begun_answer (on_formula (formula_of line.now ahead) (λ c u. done (while c) u)) }
 {
-    match formula_at(line, ahead) {
-        FormulaRead::Bad => StatementRead::Bad,
-        FormulaRead::Good {
-            ahead,
-            sort,
-            deepest,
-        } => formed(ahead, deepest, is_whole(sort)),
-    }
+    let read = formula_at(line, ahead)?;
+    Some(formed(read.ahead, read.deepest, is_whole(read.sort)))
 }
 
 // LINE INPUT ["text";] v, from INPUT on.
-fn line_input(line: &[u8], ahead: Scanned) -> StatementRead
+fn line_input(line: &[u8], ahead: Scanned) -> Option<StatementRead>
     ensures { result ≡ begun_answer (choose (is_keyword Word.Input ahead.token) (λ _. input_at line.now (after line.now ahead)) (λ _. bad)) }
 {
     if !word_stands(Word::Input, ahead) {
-        return StatementRead::Bad;
+        return None;
     }
     let asked = token_after(line, ahead);
     if !text_stands(asked) {
@@ -382,74 +286,60 @@ fn line_input(line: &[u8], ahead: Scanned) -> StatementRead
     }
     let semicolon = token_after(line, asked);
     if !sign_stands(Sign::Semicolon, semicolon) {
-        return StatementRead::Bad;
+        return None;
     }
     target(line, token_after(line, semicolon))
 }
 
 // The variable that LINE INPUT fills.
-fn target(line: &[u8], ahead: Scanned) -> StatementRead
+fn target(line: &[u8], ahead: Scanned) -> Option<StatementRead>
     ensures { (text : List ℕ) → result ≡ begun_answer (target_at line.now text ahead) }
 {
-    match name_at(ahead) {
-        NameFound::Is(name) => {
-            let kind = name.kind;
-            formed(token_after(line, ahead), 0, is_of(kind, Sort::Text))
-        }
-        NameFound::None => StatementRead::Bad,
-    }
+    let name = name_at(ahead)?;
+    Some(formed(token_after(line, ahead), 0, is_of(name.kind, Sort::Text)))
 }
 
 // DATA and its items, from its own word on.
-fn data(line: &[u8], word: Scanned) -> StatementRead
+fn data(line: &[u8], word: Scanned) -> Option<StatementRead>
     ensures { result ≡ begun_answer (data_at line.now word) }
 {
     let mut at = word.next;
     loop {
-        match item_at(line, at) {
-            ItemRead::Bad => return StatementRead::Bad,
-            ItemRead::Good(item) => {
-                let end = item.end;
-                if !item.more {
-                    return plain(token_at(line, end));
-                }
-                at = Place(end.0 + 1);
-            }
+        let item = item_at(line, at)?;
+        if !item.more {
+            return Some(plain(token_at(line, item.end)));
         }
+        at = Place(item.end.0 + 1);
     }
 }
 
 // READ v, .., from the first variable on.
-fn read(line: &[u8], ahead: Scanned) -> StatementRead
+fn read(line: &[u8], ahead: Scanned) -> Option<StatementRead>
     ensures { result ≡ begun_answer (read_at line.now ahead) }
 {
     let mut here = ahead;
     loop {
-        let NameFound::Is(_) = name_at(here) else {
-            return StatementRead::Bad;
-        };
+        name_at(here)?;
         let next = token_after(line, here);
         if !sign_stands(Sign::Comma, next) {
-            return plain(next);
+            return Some(plain(next));
         }
         here = token_after(line, next);
     }
 }
 
 // RESTORE [n], from the line number on.
-fn restore(line: &[u8], ahead: Scanned) -> StatementRead
+fn restore(line: &[u8], ahead: Scanned) -> Option<StatementRead>
     ensures { result ≡ begun_answer (on_line ahead.token (λ l. done (restore_to l) (after line.now ahead)) (done restore ahead)) }
 {
-    let token = ahead.token;
-    let names = line_of(token);
-    match names {
-        NamedLine::NoLine => plain(ahead),
-        NamedLine::Names(_) => jump(line, ahead),
+    match line_of(ahead.token) {
+        None => Some(plain(ahead)),
+        Some(_) => jump(line, ahead),
     }
 }
 
 // A statement by the word that leads it, from the token after that word on; DATA from its own.
-fn by_word(line: &[u8], word: Word, from: Scanned) -> StatementRead
+fn by_word(line: &[u8], word: Word, from: Scanned) -> Option<StatementRead>
     ensures { result ≡ begun_answer (by_word line.now word from) }
 {
     match word {
@@ -464,23 +354,23 @@ fn by_word(line: &[u8], word: Word, from: Scanned) -> StatementRead
         Word::Data => data(line, from),
         Word::Read => read(line, from),
         Word::Restore => restore(line, from),
-        Word::Else | Word::Return | Word::End | Word::Stop | Word::Rem | Word::Wend => plain(from),
-        _ => StatementRead::Bad,
+        Word::Else | Word::Return | Word::End | Word::Stop | Word::Rem | Word::Wend => {
+            Some(plain(from))
+        }
+        _ => None,
     }
 }
 
 // The statement that is led so.
-pub fn statement_led(line: &[u8], lead: Lead) -> StatementRead
+pub fn statement_led(line: &[u8], lead: Option<Lead>) -> Option<StatementRead>
     ensures { result ≡ begun_answer (begun_by line.now lead) }
 {
-    match lead {
-        Lead::By(word, from) => by_word(line, word, from),
-        Lead::Nothing => StatementRead::Bad,
-    }
+    let lead = lead?;
+    by_word(line, lead.word, lead.ahead)
 }
 
 // The statement at a place; `first` says that it is the first of a part of an IF, where a line number is a GOTO.
-pub fn statement_at(line: &[u8], at: Place, first: bool) -> StatementRead
+pub fn statement_at(line: &[u8], at: Place, first: bool) -> Option<StatementRead>
     ensures { result ≡ begun_answer (begun_at line.now first at.0) }
 {
     statement_led(line, lead_at(line, at, first))

@@ -1,4 +1,5 @@
 -- What a part's first statement does, by how it begins.
+use Rattle.std.specs.Prelude.{Option, ℕ, None, Some}
 use mathlib.Core.Path.{◌≡◌, refl, sym, ap, ◌∙◌}
 use mathlib.Core.Bool.{Bool, true, false, ◌||◌, false≢true}
 use mathlib.Core.List.{List, ◌∷◌, []}
@@ -20,7 +21,7 @@ use Rattle.grammar.specs.Tests.{is_symbol, is_keyword, ends_statement}
 use Rattle.grammar.specs.Trees as tree
 use Rattle.grammar.specs.Trees.{Part, last, more}
 use Rattle.grammar.specs.Formulas.{good, after, enough, formula_of}
-use Rattle.statements.specs.Statements.{Begun, done, items, print_at, if_at, input_at, listed, names_at, read_at, by_word, led_by_sign, led_by_token, lead_of, begun_by, begun_at, PartReading, good_part, part_of}
+use Rattle.statements.specs.Statements.{Begun, done, items, print_at, if_at, input_at, listed, names_at, read_at, by_word, led_by_sign, led_by_token, lead_of, begun_by, begun_at, PartReading, good_part, part_of, led_by}
 use Rattle.statements.specs.bridge.Answers.{items_of}
 use Rattle.statements.proofs.Parts.{part_by, unrolled}
 use Rattle.statements.proofs.Views.{Final, plain, thens, elses, more_view, final_view}
@@ -35,7 +36,6 @@ use Rattle.machine.specs.bridge.Wanted.{Told}
 use Rattle.turns.specs.bridge.Turns.{Turn, turned_to, after_of, Turns, AnyRecords, Standing}
 use Rattle.machine.specs.declared.positions.Next.TheVariants as next
 use Rattle.machine.specs.declared.records.Record.{Record}
-use Rattle.machine.specs.declared.records.Found.{Found}
 use Rattle.statements.proofs.Firsts.{true_part}
 use Rattle.repeating.specs.bridge.Repeating.{WhileStands}
 use Rattle.turns.specs.Steps.{part_begun, here_of, do_statement}
@@ -44,7 +44,6 @@ use Rattle.statements.proofs.Ways.{if_so, by_items, by_condition, by_repeat, by_
 use Rattle.turns.proofs.Doing.{any_told, goes_turn}
 use Rattle.machine.proofs.Tokens.{word_tag}
 use Rattle.statements.specs.declared.leading.Lead.{Lead}
-use Rattle.statements.specs.declared.leading.Lead.TheVariants.{By, Nothing}
 
 -- ---- what is left of a part after its first statement, which a token ends
 
@@ -100,9 +99,9 @@ pub record From (line : List ℕ) (t : Scanned) : Type 0 where
   pub place : Place
   pub is : t ≡ token_at line place
 
-abbrev FromLead : List ℕ → Lead → Type 0
-FromLead line (By w t) = From line t
-FromLead line Nothing = Unit {0}
+abbrev FromLead : List ℕ → Option Lead → Type 0
+FromLead line (Some lead) = From line lead.ahead
+FromLead line None = Unit {0}
 
 module _ (line : List ℕ) (first : Bool) where
   from_token : (token : Token) (q : Place) → FromLead line (led_by_token line first token (token_at line q))
@@ -148,13 +147,13 @@ part_begins : {line : List ℕ} {at : ℕ} → Parted line at → Begins (begun_
 part_begins {line} {at} p = begins_of line at p.of p.end p.is p.shallow
 
 -- how it is led
-module _ (line : List ℕ) (at : ℕ) {l : Lead} (is : l ≡ lead_of line true (token_at line (place at))) where
+module _ (line : List ℕ) (at : ℕ) {l : Option Lead} (is : l ≡ lead_of line true (token_at line (place at))) where
   lead_there : begun_at line true at ≡ begun_by line l
   unfolding begun_at
   lead_there = ap (begun_by line) (sym is)
 
   -- by a word, from a token of the line on
-  module _ {w : Word} {t : Scanned} (by : l ≡ By w t) where
+  module _ {w : Word} {t : Scanned} (by : l ≡ led_by w t) where
     pub lead_begins : Parted line at → Begins (by_word line w t)
     lead_begins p = rw (lead_there, by) at (part_begins p)
 
@@ -162,7 +161,7 @@ module _ (line : List ℕ) (at : ℕ) {l : Lead} (is : l ≡ lead_of line true (
     lead_from = rw (sym is ∙ by) at (from_token line true (token_at line (place at)).token (place at))
 
   -- not by nothing
-  pub lead_reads : {A : Type 0} → l ≡ Nothing → Parted line at → A
+  pub lead_reads : {A : Type 0} → l ≡ None → Parted line at → A
   lead_reads by p = absurd (rw (lead_there, by) at (part_begins p))
 
 -- ---- where a WHILE stands, by what is left of its part
@@ -200,7 +199,7 @@ module _ {text line : List ℕ} {here : Place} {at : ℕ} (st : Standing text li
       let z : f.end ≡ u = cc in
       while_by (part rest) (after_colon st u (rw z at f.colon) (rw z at f.goes) (rest_shallow q x rest low)) (rw (f.at, y) at e) (rw (f.at, y) at low)
 
-module _ (text line : List ℕ) (here : Place) (at : ℕ) (m : State) (found : Found) (entry : Record) (input space room : List ℕ) (r : Turn)
+module _ (text line : List ℕ) (here : Place) (at : ℕ) (m : State) (found : Option ℕ) (entry : Record) (input space room : List ℕ) (r : Turn)
     (space' room' : List ℕ) where
   abbrev D : Begun → Type 0
   D b = Does text line here at m found entry input space room r space' room' b
@@ -230,7 +229,7 @@ module _ (text line : List ℕ) (here : Place) (at : ℕ) (m : State) (found : F
       rw f.at (rw a.is at ((rw f.begun at d) a.placed))
 
   -- what its first statement does is what the definition does of it
-  pub lead_does : Standing text line here → {l : Lead} → l ≡ lead_of line true (token_at line (place at)) → {w : Word} {t : Scanned} → l ≡ By w t
+  pub lead_does : Standing text line here → {l : Option Lead} → l ≡ lead_of line true (token_at line (place at)) → {w : Word} {t : Scanned} → l ≡ led_by w t
       → Parted line at → D (by_word line w t) → (p : Part) (end : Scanned) → part_of line true at ≡ good_part p end → TurnsAs p
   lead_does st is by low d p end i =
       let j = low.is in let k : low.of ≡ p = cc in part_does st p end i (rw (← k) low.shallow) (rw (lead_there line at is, by) d)
@@ -265,7 +264,7 @@ module _ (text line : List ℕ) (here : Place) (at : ℕ) (m : State) (found : F
       → D (read_at line t)
   read_does t h = by_read D tt line t (λ vs u e p. any_told (h vs u p e))
 
-  pub while_does : Standing text line here → {l : Lead} → l ≡ lead_of line true (token_at line (place at)) → {t : Scanned} → l ≡ By While t
+  pub while_does : Standing text line here → {l : Option Lead} → l ≡ lead_of line true (token_at line (place at)) → {t : Scanned} → l ≡ led_by While t
       → Parted line at
       → ((c : tree.Formula) (u : Scanned) → WhileStands text line here (place at) t c u
       → Turns text m input space room (Told text m.tables.numbers.names (is_while here.0 at) m.depth found entry)
@@ -280,7 +279,7 @@ module _ (text line : List ℕ) (here : Place) (at : ℕ) (m : State) (found : F
 abbrev other_words : List ℕ
 other_words = 3 ∷ 4 ∷ 9 ∷ 10 ∷ 13 ∷ 16 ∷ []
 
-module _ (text line : List ℕ) (here : Place) (at : ℕ) (m : State) (found : Found) (entry : Record) (input space room : List ℕ)
+module _ (text line : List ℕ) (here : Place) (at : ℕ) (m : State) (found : Option ℕ) (entry : Record) (input space room : List ℕ)
     (r : Turn) (sound : Sound m input space room) (t : Scanned) (e : r ≡ turned_to m (next.On (after_of here t))) where
   -- the run goes on there
   pub other_does : (w : Word) → OneOf other_words (word_tag w) → Does text line here at m found entry input space room r space room (by_word line w t)

@@ -14,13 +14,13 @@ ghost use Rattle.turns.specs.bridge.Turns.{turn_of, Turns, Standing, FoundBelow}
 use control::{call, choose, come_back, count, jump, next_loop};
 use dialogue::{line_input, print};
 use feeding::{pass, read, restore};
-use machine::{Found, Machine, Next, Record, Turned};
+use machine::{Machine, Next, Record, Turned};
 use repeating::{repeat, turn_back};
 use rows::Rows;
 use scanner::token_at;
 use statements::Lead;
 use turns::{fails, goes_on, set, turned_to};
-use variables::{NameTable, Tables};
+use variables::Tables;
 use whole::Error;
 use words::{Place, Scanned, Word};
 
@@ -32,13 +32,10 @@ pub fn do_statement(
     line: &[u8],
     here: Place,
     at: Place,
-    lead: Lead,
+    lead: Option<Lead>,
     machine: Machine,
-    names: &mut NameTable,
-    words: &mut [u16; Tables::MOST],
-    labels: &mut NameTable,
-    lengths: &mut [u8; Tables::MOST],
-    found: Found,
+    tables: &mut Tables,
+    found: Option<usize>,
     entry: Record,
     input: &[u8],
     space: &mut [u8],
@@ -46,57 +43,48 @@ pub fn do_statement(
 ) -> Turned
     requires { Standing text.now line.now here
         × (Parted line.now at.0
-        × (Sound (state_of machine names.old words.old labels.old lengths.old) input.now space.old room.old
+        × (Sound (state_of machine tables.old) input.now space.old room.old
         × (FoundBelow machine.depth found
         × ((lead ≡ lead_of line.now true (token_at line.now at)) × (Tabled text.now rows.now × Fed text.now machine.feed))))) }
     ensures { (p : Part) (end : Scanned) → part_of line.now true at.0 ≡ good_part p end
-        → Turns text.now (state_of machine names.old words.old labels.old lengths.old) input.now space.old room.old
-        (Told text.now names.old (test_of (wish_of here.0 (place_of p) (head_of p))) machine.depth found entry)
+        → Turns text.now (state_of machine tables.old) input.now space.old room.old
+        (Told text.now tables.old.numbers.names (test_of (wish_of here.0 (place_of p) (head_of p))) machine.depth found entry)
         (λ n. do_statement text.now (place_of p) (head_of p) n (record { lines = lines_at text.now here.0; rest = tail_of p }))
-        (turn_of result names.new words.new labels.new lengths.new) space.new room.new }
+        (turn_of result tables.new) space.new room.new }
 {
     match lead {
-        Lead::By(word, from) => match word {
-            Word::Let => set(
-                line, here, from, machine, names, words, labels, lengths, space,
-            ),
-            Word::Print => print(
-                line, here, from, machine, names, words, labels, lengths, space, room,
-            ),
-            Word::If => choose(
-                line, here, from, machine, names, words, labels, lengths, space,
-            ),
-            Word::Goto => jump(rows, from, machine),
-            Word::Gosub => call(rows, line, here, from, machine),
+        Some(led) => match led.word {
+            Word::Let => set(line, here, led.ahead, machine, tables, space),
+            Word::Print => print(line, here, led.ahead, machine, tables, space, room),
+            Word::If => choose(line, here, led.ahead, machine, tables, space),
+            Word::Goto => jump(rows, led.ahead, machine),
+            Word::Gosub => call(rows, line, here, led.ahead, machine),
             Word::Return => come_back(machine, found, entry),
             Word::For => count(
-                text, line, here, at, from, machine, names, words, labels, lengths, found, space,
+                text, line, here, at, led.ahead, machine, tables, found, space,
             ),
-            Word::Next => next_loop(line, here, from, machine, words, found, entry),
+            Word::Next => next_loop(line, here, led.ahead, machine, tables, found, entry),
             Word::While => repeat(
-                text, line, here, at, from, machine, names, words, labels, lengths, found, space,
+                text, line, here, at, led.ahead, machine, tables, found, space,
             ),
             Word::Wend => turn_back(machine, found, entry),
             Word::Line => line_input(
                 line,
                 here,
-                token_at(line, from.next),
+                token_at(line, led.ahead.next),
                 machine,
-                labels,
-                lengths,
+                tables,
                 input,
                 space,
                 room,
             ),
             Word::Data => pass(line, here, lead, machine),
-            Word::Read => read(
-                text, line, here, from, machine, names, words, labels, lengths, space,
-            ),
-            Word::Restore => restore(rows, line, here, from, machine),
+            Word::Read => read(text, line, here, led.ahead, machine, tables, space),
+            Word::Restore => restore(rows, line, here, led.ahead, machine),
             Word::End => turned_to(machine, Next::Ends),
             Word::Stop => turned_to(machine, Next::Stops),
-            _ => goes_on(machine, here, from),
+            _ => goes_on(machine, here, led.ahead),
         },
-        Lead::Nothing => fails(machine, Error::Syntax),
+        None => fails(machine, Error::Syntax),
     }
 }

@@ -1,4 +1,5 @@
 -- What each function that gives a text makes of its arguments, as the code goes about it: a law for each of its answers.
+use Rattle.std.specs.Prelude.{Result, Err}
 use mathlib.Core.Path.{◌≡◌, refl, sym, ap, ◌∙◌}
 use mathlib.Core.Bool.{Bool, true, false, cond, not}
 use mathlib.Core.List.{List, [], ◌∷◌}
@@ -22,7 +23,6 @@ use Rattle.words.specs.declared.symbols.Scanned.{Scanned}
 use Rattle.grammar.specs.Functions.{gives}
 use Rattle.variables.specs.Strings.{Value, whole, text, produced}
 use Rattle.variables.specs.declared.values.Worked.{Worked}
-use Rattle.variables.specs.declared.values.Worked.TheVariants as worked
 use Rattle.strings.specs.Functions as definition
 use Rattle.strings.specs.Functions.{ranged, within, word, bytes, fill_right, fill_byte, mid_length, called, largest_argument}
 use Rattle.strings.specs.bridge.Memory.{MadeOf, Placed, argument_length, argument_word, first_of, second_of, third_of, are_three, values_in}
@@ -31,6 +31,7 @@ use Rattle.strings.specs.declared.arguments.Given.{Given}
 use Rattle.strings.proofs.Givens.{word_first, word_second, word_third, bytes_first, value_second, count_three}
 use Rattle.strings.proofs.Produced.{refused, made_as}
 use Rattle.strings.proofs.Parts.{last_bytes}
+use Rattle.whole.specs.declared.errors.Error.{Error}
 
 -- ---- what a test's answer tells of the definition's
 
@@ -52,11 +53,11 @@ module _ (before : List ℕ) (used : ℕ) (g : Given) where
 
 module _ (before : List ℕ) (used : ℕ) (g : Given) (p : Placed before used g) (ahead : Scanned) where
   -- a function's answer, and what it leaves of the space
-  abbrev pub Calls : Function → Worked → List ℕ → Type 0
+  abbrev pub Calls : Function → Result Worked Error → List ℕ → Type 0
   Calls f r after = MadeOf (called f) before used g ahead r after
 
-  abbrev pub illegal : Worked
-  illegal = worked.Fault IllegalFunctionCall
+  abbrev pub illegal : Result Worked Error
+  illegal = Err IllegalFunctionCall
 
   pub inside : used ≤ length before
   inside = omega arith
@@ -75,14 +76,14 @@ module _ (before : List ℕ) (used : ℕ) (g : Given) (p : Placed before used g)
     pub left_refused : within 0 n ≡ false → Calls Left illegal before
     left_refused f = refused inside (λ room. rw (second_word, f))
 
-    pub left_made : {r : Worked} {after : List ℕ} → within 0 n ≡ true
+    pub left_made : {r : Result Worked Error} {after : List ℕ} → within 0 n ≡ true
         → MadeOf (λ vs. produced (take n (drop 0 (bytes vs 0))) vs) before used g ahead r after → Calls Left r after
     left_made f m = made_as (λ room. rw (second_word, f)) m
 
     pub right_refused : within 0 n ≡ false → Calls Right illegal before
     right_refused f = refused inside (λ room. rw (second_word, f))
 
-    pub right_made : {r : Worked} {after : List ℕ} (from : ℕ) → within 0 n ≡ true
+    pub right_made : {r : Result Worked Error} {after : List ℕ} (from : ℕ) → within 0 n ≡ true
         → from ≡ argument_length (first_of g) - min n (argument_length (first_of g))
         → MadeOf (λ vs. produced (take n (drop from (bytes vs 0))) vs) before used g ahead r after → Calls Right r after
     right_made from f l m =
@@ -98,13 +99,13 @@ module _ (before : List ℕ) (used : ℕ) (g : Given) (p : Placed before used g)
       pub mid_refused_length : within 1 n ≡ true → within 0 most ≡ false → Calls Mid illegal before
       mid_refused_length f h = refused inside (λ room. rw (second_word, mid_most, f, h))
 
-      pub mid_made : {r : Worked} {after : List ℕ} → within 1 n ≡ true → within 0 most ≡ true
+      pub mid_made : {r : Result Worked Error} {after : List ℕ} → within 1 n ≡ true → within 0 most ≡ true
           → MadeOf (λ vs. produced (take most (drop (n - 1) (bytes vs 0))) vs) before used g ahead r after → Calls Mid r after
       mid_made f h m = made_as (λ room. rw (second_word, mid_most, f, h)) m
 
   -- ---- so many of one byte, and the texts of a number
 
-  abbrev Fills : ℕ → ℕ → Worked → List ℕ → Type 0
+  abbrev Fills : ℕ → ℕ → Result Worked Error → List ℕ → Type 0
   Fills count byte r after =
       MadeOf (λ vs room. ranged (within 0 count) room (produced (replicate count byte) vs room)) before used g ahead r after
 
@@ -115,16 +116,16 @@ module _ (before : List ℕ) (used : ℕ) (g : Given) (p : Placed before used g)
     pub chr_refused : within 0 n ≡ false → Calls Chr illegal before
     chr_refused f = refused inside (λ room. rw (first_word, f))
 
-    pub chr_made : {r : Worked} {after : List ℕ} → within 0 n ≡ true → Fills 1 n r after → Calls Chr r after
+    pub chr_made : {r : Result Worked Error} {after : List ℕ} → within 0 n ≡ true → Fills 1 n r after → Calls Chr r after
     chr_made f m = made_as (λ room. rw (first_word, f)) m
 
-    pub space_made : {r : Worked} {after : List ℕ} → Fills n blank r after → Calls Space r after
+    pub space_made : {r : Result Worked Error} {after : List ℕ} → Fills n blank r after → Calls Space r after
     space_made m = made_as (λ room. rw first_word) m
 
-    pub str_made : {r : Worked} {after : List ℕ} → MadeOf (produced (signed_numeral n)) before used g ahead r after → Calls Str r after
+    pub str_made : {r : Result Worked Error} {after : List ℕ} → MadeOf (produced (signed_numeral n)) before used g ahead r after → Calls Str r after
     str_made m = made_as (λ room. rw first_word) m
 
-    pub hex_made : {r : Worked} {after : List ℕ} → MadeOf (produced (hexadecimal n)) before used g ahead r after → Calls Hex r after
+    pub hex_made : {r : Result Worked Error} {after : List ℕ} → MadeOf (produced (hexadecimal n)) before used g ahead r after → Calls Hex r after
     hex_made m = made_as (λ room. rw first_word) m
 
     -- STRING$, by the value of its second argument
@@ -132,7 +133,7 @@ module _ (before : List ℕ) (used : ℕ) (g : Given) (p : Placed before used g)
       string_refused : fill_right v ≡ false → Calls String illegal before
       string_refused f = refused inside (λ room. rw (first_word, s, f) (by_test (within 0 n) (λ t. rw t) (λ t. rw t)))
 
-      string_made : {r : Worked} {after : List ℕ} → fill_right v ≡ true → Fills n (fill_byte v) r after → Calls String r after
+      string_made : {r : Result Worked Error} {after : List ℕ} → fill_right v ≡ true → Fills n (fill_byte v) r after → Calls String r after
       string_made f m = made_as (λ room. rw (first_word, s, f) (by_test (within 0 n) (λ t. rw t) (λ t. rw t))) m
 
     module _ (code : ℕ) (s : second_of g ≡ argument.Whole code) where
@@ -142,7 +143,7 @@ module _ (before : List ℕ) (used : ℕ) (g : Given) (p : Placed before used g)
       pub code_refused : within 0 code ≡ false → Calls String illegal before
       code_refused f = string_refused (whole code) second_code f
 
-      pub code_made : {r : Worked} {after : List ℕ} → within 0 code ≡ true → Fills n code r after → Calls String r after
+      pub code_made : {r : Result Worked Error} {after : List ℕ} → within 0 code ≡ true → Fills n code r after → Calls String r after
       code_made f m = string_made (whole code) second_code f m
 
     module _ (len : ℕ) (s : second_of g ≡ argument.Text len) where
@@ -161,7 +162,7 @@ module _ (before : List ℕ) (used : ℕ) (g : Given) (p : Placed before used g)
           let e : len ≡ suc (len - 1) = omega arith in
           ap (take len) (drop-cons before i 0 (omega (arith, p.within))) ∙ ap (λ k. take k (get_or before i 0 ∷ drop (suc i) before)) e
 
-      pub text_made : {r : Worked} {after : List ℕ} → 1 ≤ len → Fills n (get_or before (used + argument_length (first_of g)) 0) r after
+      pub text_made : {r : Result Worked Error} {after : List ℕ} → 1 ≤ len → Fills n (get_or before (used + argument_length (first_of g)) 0) r after
           → Calls String r after
       text_made h m = string_made _ (second_text ∙ ap text (second_starts h)) refl m
 

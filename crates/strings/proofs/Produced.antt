@@ -1,5 +1,7 @@
 -- What a function makes of arguments that lie in the space: a number, which lets them go, or a text, for which room is asked while
 -- they are live.
+use Rattle.std.specs.Prelude.{Err, Ok, Result, ℕ}
+use Rattle.whole.specs.declared.errors.Error.{Error}
 use mathlib.Core.Path.{◌≡◌, refl, sym, ap, ◌∙◌}
 use mathlib.Core.List.{List}
 use Prim.Native.Nat.{ℕ, ◌+◌, ◌-◌, ◌≤◌, ◌<◌, min}
@@ -7,8 +9,6 @@ use native.Mathlib.Omega.{arith}
 use borrow.Author.Tests.{lt-ltb, le-ltb}
 use lib.ListN.{length, take, drop, replicate, length-drop}
 use lib.Seq.{take-append_seam}
-use Rattle.whole.specs.declared.arithmetic.Answer.{Answer}
-use Rattle.whole.specs.declared.arithmetic.Answer.TheVariants.{Whole, Fault}
 use Rattle.whole.specs.Texts.{held, longest_string}
 use Rattle.whole.specs.declared.texts.Text.{Text}
 use Rattle.whole.specs.declared.errors.Error.TheVariants.{OutOfStringSpace, IllegalFunctionCall}
@@ -31,7 +31,7 @@ use Rattle.strings.proofs.Parts.{part_is, part_long}
 module _ {before : List ℕ} {used live : ℕ} {outcome : Room → Outcome} {ahead : Scanned} where
   -- an argument out of its range is refused, and the space is as it was
   pub refused : used ≤ length before → ((room : Room) → outcome room ≡ fault IllegalFunctionCall room)
-      → Made before used live outcome ahead (worked.Fault IllegalFunctionCall) before
+      → Made before used live outcome ahead (Err IllegalFunctionCall) before
   refused h e =
       record {
         framed = record { long = refl; kept = refl; fits = omega arith; short = omega arith };
@@ -40,7 +40,7 @@ module _ {before : List ℕ} {used live : ℕ} {outcome : Room → Outcome} {ahe
       }
 
   -- what is made for another outcome is made for one that is the same
-  pub made_as : {other : Room → Outcome} {r : Worked} {after : List ℕ} → ((room : Room) → outcome room ≡ other room)
+  pub made_as : {other : Room → Outcome} {r : Result Worked Error} {after : List ℕ} → ((room : Room) → outcome room ≡ other room)
       → Made before used live other ahead r after → Made before used live outcome ahead r after
   made_as e m = record { framed = m.framed; agrees = λ room held. rw (e room) (m.agrees room held); goes = m.goes }
 
@@ -55,15 +55,15 @@ module _ (before : List ℕ) (used : ℕ) (g : Given) (p : Placed before used g)
 
   -- ---- a number, or its error
 
-  pub answer_made : (x : Answer) → MadeOf (answered x) before used g ahead (answered_as x ahead) before
-  answer_made (Whole w) =
+  pub answer_made : (x : Result ℕ Error) → MadeOf (answered x) before used g ahead (answered_as x ahead) before
+  answer_made (Ok w) =
       record {
         framed = record { long = refl; kept = refl; fits = omega (arith, p.within); short = omega arith };
         agrees = λ room h. let z : used + 0 ≡ used = omega arith in
             (refl, rw z at (let_go before 0 room refl h.limit (omega (arith, h.lives))));
         goes = refl;
       }
-  answer_made (Fault e) =
+  answer_made (Err e) =
       record {
         framed = record { long = refl; kept = refl; fits = omega (arith, p.within); short = omega arith };
         agrees = λ room h. refl;
@@ -74,7 +74,7 @@ module _ (before : List ℕ) (used : ℕ) (g : Given) (p : Placed before used g)
 
   module _ (text : List ℕ) (short : length text ≤ longest_string) where
     pub no_room : length before < used + given_length g + length text
-        → MadeOf (produced text) before used g ahead (worked.Fault OutOfStringSpace) before
+        → MadeOf (produced text) before used g ahead (Err OutOfStringSpace) before
     unfolding produced make
     no_room h =
         record {
@@ -88,7 +88,7 @@ module _ (before : List ℕ) (used : ℕ) (g : Given) (p : Placed before used g)
     -- it stands from `used` on, and nothing below was written
     pub text_made : (after : List ℕ) (n : ℕ) → n ≡ length text → used + given_length g + length text ≤ length before
         → Kept before used n after → take n (drop used after) ≡ text
-        → MadeOf (produced text) before used g ahead (worked.Text n ahead) after
+        → MadeOf (produced text) before used g ahead (Ok (worked.Text n ahead)) after
     unfolding produced make
     text_made after n e h k f =
         record {
@@ -118,11 +118,11 @@ held_bytes b l e = rw e (take-append_seam l (replicate (longest_string - length 
 module _ (before : List ℕ) (used : ℕ) (g : Given) (p : Placed before used g) (ahead : Scanned)
     (b : Text) (short : b.len ≤ longest_string) (l : List ℕ) (e : b ≡ held l) where
   pub no_room_built : length before < used + given_length g + b.len
-      → MadeOf (produced l) before used g ahead (worked.Fault OutOfStringSpace) before
+      → MadeOf (produced l) before used g ahead (Err OutOfStringSpace) before
   no_room_built h = let n = held-length b l e in no_room before used g p ahead l (omega arith) (omega arith)
 
   pub built_made : {after : List ℕ} → used + given_length g + b.len ≤ length before → after ≡ copied before used (take b.len b.bytes)
-      → MadeOf (produced l) before used g ahead (worked.Text b.len ahead) after
+      → MadeOf (produced l) before used g ahead (Ok (worked.Text b.len ahead)) after
   built_made {after} h c =
       let n = held-length b l e in
       let d : after ≡ copied before used l = c ∙ ap (copied before used) (held_bytes b l e) in
@@ -147,11 +147,11 @@ module _ (before : List ℕ) (used : ℕ) (g : Given) (p : Placed before used g)
     text_long = rw (bytes_first before used g) (sym (part_long before used first from most start len (omega (arith, p.within)) s n))
 
     pub no_room_part : length before < used + given_length g + len
-        → MadeOf (λ vs. produced (take most (drop from (bytes vs 0))) vs) before used g ahead (worked.Fault OutOfStringSpace) before
+        → MadeOf (λ vs. produced (take most (drop from (bytes vs 0))) vs) before used g ahead (Err OutOfStringSpace) before
     no_room_part h = no_room before used g p ahead text (omega (arith, text_long)) (omega (arith, text_long))
 
     pub part_made : {after : List ℕ} → used + given_length g + len ≤ length before → after ≡ moved before (used + start) used len
-        → MadeOf (λ vs. produced (take most (drop from (bytes vs 0))) vs) before used g ahead (worked.Text len ahead) after
+        → MadeOf (λ vs. produced (take most (drop from (bytes vs 0))) vs) before used g ahead (Ok (worked.Text len ahead)) after
     part_made {after} h m =
         text_made before used g p ahead text (omega (arith, text_long)) after len text_long (omega (arith, text_long)) (moved_kept (used + start) m)
         (rw m (moved_bytes before (used + start) used len (omega (arith, p.within)) (omega arith)) ∙ text_is)

@@ -1,11 +1,10 @@
 -- The functions, each over the values of its arguments, whose types are right; ranges are tested after all arguments are worked
 -- out and before the result asks for room.
-use Rattle.std.specs.Prelude.{Bool, true, false, cond, ◌&&◌, ◌||◌, List, [], ◌∷◌, ℕ, zero, suc, ◌-◌, leb, ltb, eqb, pos, length, take, drop, get_or, replicate}
+use Rattle.whole.specs.declared.errors.Error.{Error}
+use Rattle.std.specs.Prelude.{Bool, true, false, cond, ◌&&◌, ◌||◌, List, [], ◌∷◌, ℕ, zero, suc, ◌-◌, leb, ltb, eqb, pos, length, take, drop, get_or, replicate, Err, Ok, Result}
 use Rattle.whole.specs.Digits.{val_of}
 use Rattle.whole.specs.Texts.{signed_numeral, hexadecimal, longest_string}
 use Rattle.whole.specs.Whole.{fit, magnitude, signum}
-use Rattle.whole.specs.declared.arithmetic.Answer.{Answer}
-use Rattle.whole.specs.declared.arithmetic.Answer.TheVariants.{Whole, Fault}
 use Rattle.whole.specs.declared.errors.Error.TheVariants.{IllegalFunctionCall}
 use Rattle.whole.specs.Bytes.{blank}
 use Rattle.words.specs.declared.symbols.Function.{Function}
@@ -52,9 +51,9 @@ bytes vs n = bytes_in (argument vs n)
 -- ---- results
 
 -- a whole number, or its error; the operands are let go
-abbrev pub answered : Answer → List Value → Room → Outcome
-answered (Whole w) operands room = value (whole w) (let_all_go operands room)
-answered (Fault e) operands room = fault e room
+abbrev pub answered : Result ℕ Error → List Value → Room → Outcome
+answered (Ok w) operands room = value (whole w) (let_all_go operands room)
+answered (Err e) operands room = fault e room
 
 -- every range ends at 255
 abbrev pub largest_argument : ℕ
@@ -106,8 +105,8 @@ abbrev pub instr_texts : List Value → ℕ
 instr_texts vs = length vs - 2
 
 abbrev pub called : Function → List Value → Room → Outcome
-called Len vs room = answered (Whole (length (bytes vs 0))) vs room
-called Asc vs room = ranged (leb 1 (length (bytes vs 0))) room (answered (Whole (get_or (bytes vs 0) 0 0)) vs room)
+called Len vs room = answered (Ok (length (bytes vs 0))) vs room
+called Asc vs room = ranged (leb 1 (length (bytes vs 0))) room (answered (Ok (get_or (bytes vs 0) 0 0)) vs room)
 called Chr vs room = ranged (within 0 (word vs 0)) room (produced (word vs 0 ∷ []) vs room)
 called Left vs room = ranged (within 0 (word vs 1)) room (produced (take (word vs 1) (bytes vs 0)) vs room)
 called Right vs room =
@@ -121,11 +120,11 @@ called String vs room =
     (produced (replicate (word vs 0) (fill_byte (argument vs 1))) vs room)
 called Instr vs room =
     ranged (within 1 (instr_start vs)) room
-    (answered (Whole (place_of (instr_start vs) (bytes vs (instr_texts vs)) (bytes vs (suc (instr_texts vs))))) vs room)
+    (answered (Ok (place_of (instr_start vs) (bytes vs (instr_texts vs)) (bytes vs (suc (instr_texts vs))))) vs room)
 called Str vs room = produced (signed_numeral (word vs 0)) vs room
 called Hex vs room = produced (hexadecimal (word vs 0)) vs room
 called Val vs room = answered (val_of (bytes vs 0)) vs room
 called Abs vs room = answered (magnitude (word vs 0)) vs room
-called Sgn vs room = answered (Whole (signum (word vs 0))) vs room
+called Sgn vs room = answered (Ok (signum (word vs 0))) vs room
 -- FRE of anything lets its argument go and gives space minus live bytes
 called Fre vs room = answered (fit (pos (room.limit - (let_all_go vs room).live))) vs room

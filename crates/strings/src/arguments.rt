@@ -11,7 +11,7 @@ pub enum Argument {
     Text(usize),
 }
 
-// Those worked out so far, at most three; their texts stand side by side.
+// Those worked out so far, at most three; their texts stand side by side. A variant for each count: an array would have one beside it.
 #[derive(Clone, Copy)]
 pub enum Given {
     None,
@@ -46,9 +46,7 @@ fn first_of(given: Given) -> Argument
 {
     match given {
         Given::None => Argument::Whole(0),
-        Given::One(a) => a,
-        Given::Two(a, _) => a,
-        Given::Three(a, _, _) => a,
+        Given::One(a) | Given::Two(a, _) | Given::Three(a, _, _) => a,
     }
 }
 
@@ -56,10 +54,8 @@ pub(crate) fn second_of(given: Given) -> Argument
     ensures { result ≡ second_of given }
 {
     match given {
-        Given::None => Argument::Whole(0),
-        Given::One(_) => Argument::Whole(0),
-        Given::Two(_, b) => b,
-        Given::Three(_, b, _) => b,
+        Given::None | Given::One(_) => Argument::Whole(0),
+        Given::Two(_, b) | Given::Three(_, b, _) => b,
     }
 }
 
@@ -67,22 +63,15 @@ fn third_of(given: Given) -> Argument
     ensures { result ≡ third_of given }
 {
     match given {
-        Given::None => Argument::Whole(0),
-        Given::One(_) => Argument::Whole(0),
-        Given::Two(_, _) => Argument::Whole(0),
         Given::Three(_, _, c) => c,
+        _ => Argument::Whole(0),
     }
 }
 
 pub fn are_three(given: Given) -> bool
     ensures { result ≡ are_three given }
 {
-    match given {
-        Given::None => false,
-        Given::One(_) => false,
-        Given::Two(_, _) => false,
-        Given::Three(_, _, _) => true,
-    }
+    matches!(given, Given::Three(_, _, _))
 }
 
 // How many bytes of text the first argument has.

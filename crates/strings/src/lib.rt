@@ -8,4 +8,4 @@ pub use arguments::{
     Argument, Given, are_three, first_length, first_word, given_length, in_range, second_length,
     third_length,
 };
-pub use making::{Reply, text_called};
+pub use making::text_called;

@@ -1,8 +1,8 @@
 // The totals of the records so far, and the record that is refused.
 ghost use Rattle.std.specs.Prelude.{◌≡◌};
-ghost use Rattle.tallies.specs.bridge.Counting.{no_runs, one_more, more_steps, counted_as, with_run, with_next, with_record};
+ghost use Rattle.tallies.specs.bridge.Counting.{no_runs, one_more, more_steps, counted_as, with_run, with_next, with_record, count};
 
-use records::{Outcome, Recorded, Run};
+use records::{Outcome, Run};
 
 // How many runs there are, of each outcome and of each error number, and the steps of all.
 #[derive(Clone, Copy)]
@@ -16,17 +16,41 @@ pub struct Tally {
     pub steps: u64,
 }
 
-// All records so far are good; or the first that is refused has this number.
+// The number of the first record that is refused, counted from 1.
 #[derive(Clone, Copy)]
-pub enum Standing {
-    Good,
-    Refused(u32),
+pub struct RefusedRecord {
+    pub number: u32,
 }
 
+// The tally of the records so far, and whether all of them are good.
 #[derive(Clone, Copy)]
 pub struct Count {
     pub tally: Tally,
-    pub standing: Standing,
+    pub standing: Result<(), RefusedRecord>,
+}
+
+// One more; no count goes past the most records that there can be.
+#[tactic(auto, unfolding(crate::specs::bridge::Counting::one_more))]
+fn one_more(count: u32) -> u32
+    ensures { result ≡ one_more count }
+{
+    if count < Tally::MOST_RECORDS {
+        count + 1
+    } else {
+        count
+    }
+}
+
+// So many more; no total goes on past the most steps that there can be.
+#[tactic(auto, unfolding(crate::specs::bridge::Counting::more_steps))]
+fn more_steps(total: u64, steps: u32) -> u64
+    ensures { result ≡ more_steps total steps }
+{
+    if total <= Tally::MOST_STEPS {
+        total + u64::from(steps)
+    } else {
+        total
+    }
 }
 
 impl Tally {
@@ -48,97 +72,57 @@ impl Tally {
             steps: 0,
         }
     }
-}
 
-// One more; no count goes past the most records that there can be.
-fn one_more(count: u32) -> u32
-    ensures { result ≡ one_more count }
-{
-    if count < Tally::MOST_RECORDS {
-        return count + 1;
-    }
-    count
-}
-
-// So many more; no total goes on past the most steps that there can be.
-fn more_steps(total: u64, steps: u32) -> u64
-    ensures { result ≡ more_steps total steps }
-{
-    if total <= Tally::MOST_STEPS {
-        return total + steps as u64;
-    }
-    total
-}
-
-// The tally with one run more of its outcome.
-fn counted_as(tally: Tally, outcome: Outcome) -> Tally
-    ensures { result ≡ counted_as outcome tally }
-{
-    let mut more = tally;
-    match outcome {
-        Outcome::Ended => {
-            more.ended = one_more(tally.ended);
-            more
-        }
-        Outcome::Stopped => {
-            more.stopped = one_more(tally.stopped);
-            more
-        }
-        Outcome::Out => {
-            more.out = one_more(tally.out);
-            more
-        }
-        Outcome::Error(code) => {
-            let at = code as usize;
-            let mut codes = tally.codes;
-            codes[at] = one_more(codes[at]);
-            more.error = one_more(tally.error);
-            more.codes = codes;
-            more
+    // One run more of its outcome.
+    #[tactic(auto, unfolding(crate::specs::bridge::Counting::counted_as))]
+    fn count_as(&mut self, outcome: Outcome)
+        ensures { self.new ≡ counted_as outcome self.old }
+    {
+        match outcome {
+            Outcome::Ended => self.ended = one_more(self.ended),
+            Outcome::Stopped => self.stopped = one_more(self.stopped),
+            Outcome::Out => self.out = one_more(self.out),
+            Outcome::Error(code) => {
+                let code = usize::from(code);
+                self.codes[code] = one_more(self.codes[code]);
+                self.error = one_more(self.error);
+            }
         }
     }
-}
 
-fn with_run(tally: Tally, run: Run) -> Tally
-    ensures { result ≡ with_run tally run }
-{
-    let outcome = run.outcome;
-    let mut more = counted_as(tally, outcome);
-    more.runs = one_more(tally.runs);
-    more.steps = more_steps(tally.steps, run.steps);
-    more
-}
-
-// The next record: it is counted, or refused with its number.
-fn with_next(tally: Tally, recorded: Recorded) -> Count
-    ensures { result ≡ with_next tally recorded }
-{
-    let before = tally.runs;
-    if Tally::MOST_RECORDS <= before {
-        return Count {
-            tally,
-            standing: Standing::Refused(Tally::MOST_RECORDS + 1),
-        };
+    fn count_run(&mut self, run: Run)
+        ensures { self.new ≡ with_run self.old run }
+    {
+        self.count_as(run.outcome);
+        self.runs = one_more(self.runs);
+        self.steps = more_steps(self.steps, run.steps);
     }
-    match recorded {
-        Recorded::Bad => Count {
-            tally,
-            standing: Standing::Refused(before + 1),
-        },
-        Recorded::Is(run) => Count {
-            tally: with_run(tally, run),
-            standing: Standing::Good,
-        },
+
+    // The next record: it is counted, or refused with its number.
+    #[tactic(auto, unfolding(crate::specs::bridge::Counting::with_next))]
+    fn count_next(&mut self, recorded: Option<Run>) -> Result<(), RefusedRecord>
+        ensures { count self.new result ≡ with_next self.old recorded }
+    {
+        if Tally::MOST_RECORDS <= self.runs {
+            return Err(RefusedRecord {
+                number: Tally::MOST_RECORDS + 1,
+            });
+        }
+        let run = recorded.ok_or(RefusedRecord {
+            number: self.runs + 1,
+        })?;
+        self.count_run(run);
+        Ok(())
     }
 }
 
 // Behind a record that is refused none counts.
-pub fn with_record(count: Count, recorded: Recorded) -> Count
+pub fn with_record(count: Count, recorded: Option<Run>) -> Count
     ensures { result ≡ with_record count recorded }
 {
-    let standing = count.standing;
-    match standing {
-        Standing::Refused(_) => count,
-        Standing::Good => with_next(count.tally, recorded),
+    let mut next = count;
+    if next.standing.is_ok() {
+        next.standing = next.tally.count_next(recorded);
     }
+    next
 }

@@ -3,4 +3,4 @@
 
 mod counting;
 
-pub use counting::{Count, Standing, Tally, with_record};
+pub use counting::{Count, RefusedRecord, Tally, with_record};

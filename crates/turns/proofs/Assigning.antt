@@ -1,4 +1,5 @@
 -- Assignment, by the formula's answer and the variable's kind.
+use Rattle.std.specs.Prelude.{Ok, Err}
 use mathlib.Core.Path.{refl, ◌∙◌}
 use mathlib.Core.List.{List}
 use Prim.Native.Nat.{ℕ}
@@ -10,7 +11,7 @@ use Rattle.words.specs.declared.places.Place.{Place}
 use Rattle.words.specs.declared.symbols.Scanned.{Scanned}
 use Rattle.grammar.specs.Trees.{Formula, Variable, assign}
 use Rattle.variables.specs.bridge.Memory.{Tells, space_stored}
-use Rattle.variables.specs.declared.values.Worked.TheVariants.{Whole, Text, Fault}
+use Rattle.variables.specs.declared.values.Worked.TheVariants.{Whole, Text}
 use Rattle.machine.specs.bridge.Holding.{Sound, position_of, Positioned, State}
 use Rattle.machine.specs.declared.positions.Next.TheVariants as next
 use Rattle.turns.specs.Steps.{goes_on, assigned, do_statement}
@@ -23,7 +24,7 @@ use Rattle.turns.proofs.Storing.{number_settled, leads_number, string_settled, s
 module _ (text : List ℕ) {m : State} {input space room space' : List ℕ} {f : Formula} {u : Scanned} (here : Place) (at : ℕ)
     (sound : Sound m input space room) where
   -- an error stands,
-  pub assigned_fault : (v : Variable) {e : Error} → Valued m f u space (Fault e) space'
+  pub assigned_fault : (v : Variable) {e : Error} → Valued m f u space (Err e) space'
       → Turns text m input space room AnyRecords (λ n. do_statement text at (assign v f) n (position_of text (after_of here u)))
       (turned_to m (next.Fails e)) space' room
   assigned_fault v w =
@@ -32,7 +33,7 @@ module _ (text : List ℕ) {m : State} {input space room space' : List ℕ} {f :
       leads_worked sound.settled w s (λ x o. assigned v.kind v.telling x o (λ o. goes_on o (position_of text (after_of here u)))))
 
   -- and so does another type
-  pub assigned_whole_text : (name : Telling) {w : ℕ} {t : Scanned} → Valued m f u space (Whole w t) space'
+  pub assigned_whole_text : (name : Telling) {w : ℕ} {t : Scanned} → Valued m f u space (Ok (Whole w t)) space'
       → Turns text m input space room AnyRecords
       (λ n. do_statement text at (assign (record { kind = kind.Text; telling = name }) f) n (position_of text (after_of here u)))
       (turned_to m (next.Fails TypeMismatch)) space' room
@@ -40,7 +41,7 @@ module _ (text : List ℕ) {m : State} {input space room space' : List ℕ} {f :
       turns_fails (leaves_unprinted (sound_kept v.framed.long sound) v.framed.long refl refl)
       (λ rs t n s. leads_worked sound.settled v s (λ x o. assigned kind.Text name x o (λ o. goes_on o (position_of text (after_of here u)))))
 
-  pub assigned_text_whole : (name : Telling) {len : ℕ} {t : Scanned} → Valued m f u space (Text len t) space'
+  pub assigned_text_whole : (name : Telling) {len : ℕ} {t : Scanned} → Valued m f u space (Ok (Text len t)) space'
       → Turns text m input space room AnyRecords
       (λ n. do_statement text at (assign (record { kind = kind.Whole; telling = name }) f) n (position_of text (after_of here u)))
       (turned_to m (next.Fails TypeMismatch)) space' room
@@ -50,7 +51,7 @@ module _ (text : List ℕ) {m : State} {input space room space' : List ℕ} {f :
 
   -- otherwise the variable is set
   module _ (p : Positioned text (after_of here u)) (name : Telling) (own : Tells name) where
-    pub assigned_number : {w : ℕ} {t : Scanned} → Valued m f u space (Whole w t) space'
+    pub assigned_number : {w : ℕ} {t : Scanned} → Valued m f u space (Ok (Whole w t)) space'
         → Turns text m input space room AnyRecords
         (λ n. do_statement text at (assign (record { kind = kind.Whole; telling = name }) f) n (position_of text (after_of here u)))
         (stored_turn (number_set m name w) here t) space' room
@@ -62,7 +63,7 @@ module _ (text : List ℕ) {m : State} {input space room space' : List ℕ} {f :
         leads_on (leads_worked sound.settled v s (λ x o. assigned kind.Whole name x o (λ o. goes_on o (position_of text (after_of here u)))))
         (λ o e. leads_number name own w k e (λ o. goes_on o (position_of text (after_of here u))))))
 
-    pub assigned_string : {len : ℕ} {t : Scanned} → Valued m f u space (Text len t) space'
+    pub assigned_string : {len : ℕ} {t : Scanned} → Valued m f u space (Ok (Text len t)) space'
         → Turns text m input space room AnyRecords
         (λ n. do_statement text at (assign (record { kind = kind.Text; telling = name }) f) n (position_of text (after_of here u)))
         (stored_turn (string_set m name len) here t) (space_stored m.tables.strings m.used name space' len) room

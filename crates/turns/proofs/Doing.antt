@@ -1,4 +1,5 @@
 -- Turns of statements that only go on or end, and what an assignment does from its name on.
+use Rattle.std.specs.Prelude.{Option, ℕ}
 use mathlib.Core.Path.{◌≡◌, refl}
 use mathlib.Core.List.{List}
 use Prim.Native.Nat.{ℕ}
@@ -16,7 +17,6 @@ use Rattle.machine.specs.bridge.Holding.{position_of, Positioned, Sound, State}
 use Rattle.turns.specs.bridge.Turns.{Turn, turned_to, after_of, Turns, AnyRecords}
 use Rattle.machine.specs.declared.positions.Next.TheVariants as next
 use Rattle.machine.specs.declared.records.Record.{Record}
-use Rattle.machine.specs.declared.records.Found.{Found}
 use Rattle.turns.specs.Steps as step
 use Rattle.turns.specs.Steps.{goes_on, ends, stops, fails, do_statement}
 use Rattle.turns.specs.bridge.Doing.{Does}
@@ -49,7 +49,7 @@ module _ {text : List ℕ} {m : State} {input space room : List ℕ} where
 
 -- ---- from a name on
 
-module _ (text line : List ℕ) (here : Place) (at : ℕ) (m : State) (found : Found) (entry : Record) (input space room : List ℕ) (r : Turn)
+module _ (text line : List ℕ) (here : Place) (at : ℕ) (m : State) (found : Option ℕ) (entry : Record) (input space room : List ℕ) (r : Turn)
     (space' room' : List ℕ) where
   abbrev D : Begun → Type 0
   D b = Does text line here at m found entry input space room r space' room' b

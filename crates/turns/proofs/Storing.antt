@@ -135,6 +135,6 @@ module _ {m : State} {input space room space' : List ℕ} where
       (λ e. rw e (turns_fails (leaves_unprinted h long steps printer) (rw e at l)))
 
 -- what the code answers is that turn
-pub stored_turn_lem : {r : Turned} (s : Stored) (here : Place) (u : Scanned) {S : Storage} {names words labels lengths : List ℕ} → r ≡ stored_as s here u
-    → storage_of s names words labels lengths ≡ S → turn_of r names words labels lengths ≡ stored_turn S here u
+pub stored_turn_lem : {r : Turned} (s : Stored) (here : Place) (u : Scanned) {S : Storage} {tables : Tables} → r ≡ stored_as s here u
+    → storage_of s tables ≡ S → turn_of r tables ≡ stored_turn S here u
 stored_turn_lem s here u e k = rw e (by_test s.ok (λ f. rw f) (λ f. rw f) ∙ ap (λ x. stored_turn x here u) k)

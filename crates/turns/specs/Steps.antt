@@ -1,10 +1,8 @@
 -- What each statement does, in the order of the paper's tests. `after` is where the run goes on after the statement.
-use Rattle.std.specs.Prelude.{Bool, true, false, cond, not, List, [], ◌∷◌, ℕ, ◌+◌, ◌-◌, ltb, leb, eqb, length, drop}
+use Rattle.std.specs.Prelude.{Bool, true, false, cond, not, List, [], ◌∷◌, ℕ, ◌+◌, ◌-◌, ltb, leb, eqb, length, drop, Err, Ok, Result}
 use Rattle.whole.specs.Digits.{number_item}
 use Rattle.whole.specs.Texts as texts
 use Rattle.whole.specs.Whole.{applied}
-use Rattle.whole.specs.declared.arithmetic.Answer.{Answer}
-use Rattle.whole.specs.declared.arithmetic.Answer.TheVariants.{Whole, Fault}
 use Rattle.whole.specs.declared.arithmetic.Operator.TheVariants.{Add}
 use Rattle.whole.specs.declared.errors.Error.{Error}
 use Rattle.whole.specs.declared.errors.Error.TheVariants.{
@@ -174,13 +172,13 @@ abbrev pub from_start : Telling → ℕ → Position → Formula → Formula →
 from_start name at after from to by m = worked_whole from m (λ w n. from_limit name at after to by w n)
 
 -- one turn more, or the loop ends; the variable, which its FOR has made, is stored as an assignment stores it
-abbrev pub turned : Machine → Telling → ℕ → ℕ → Position → List Record → Position → Answer → Next
-turned m v limit step back under after (Whole w) =
+abbrev pub turned : Machine → Telling → ℕ → ℕ → Position → List Record → Position → Result ℕ Error → Next
+turned m v limit step back under after (Ok w) =
     store_number m v w (λ n.
     cond (passed w limit step)
     (goes_on (with_records n under) after)
     (goes_on (with_records n (loop v limit step back ∷ under)) back))
-turned m v limit step back under after (Fault e) = fails e m
+turned m v limit step back under after (Err e) = fails e m
 
 -- NEXT takes the loop that was found; it looks for loops alone
 abbrev pub next_on : Machine → Search → Position → Next
@@ -254,9 +252,9 @@ input_line (b ∷ s) m v go = line_taken m v (take_line (b ∷ s)) go
 -- ---- READ: items are taken one after another, left to right
 
 -- a number by one optional sign and digits only, else 5, out of range 6
-abbrev pub given_number : Answer → Telling → Machine → (Machine → Next) → Next
-given_number (Whole w) name m go = store_number m name w go
-given_number (Fault e) name m go = fails e m
+abbrev pub given_number : Result ℕ Error → Telling → Machine → (Machine → Next) → Next
+given_number (Ok w) name m go = store_number m name w go
+given_number (Err e) name m go = fails e m
 
 -- an item for a string makes one
 abbrev pub given : Kind → Telling → List ℕ → Machine → (Machine → Next) → Next

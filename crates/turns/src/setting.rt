@@ -1,6 +1,6 @@
 // Assignment.
-ghost use Rattle.std.specs.Prelude.{◌≡◌, List, ℕ, ◌≤◌, length};
-ghost use Rattle.variables.specs.bridge.Memory.{strings_of, space_stored, Storable};
+ghost use Rattle.std.specs.Prelude.{◌≡◌, List, ℕ, ◌≤◌, length, Option};
+ghost use Rattle.variables.specs.bridge.Memory.{space_stored, Storable};
 ghost use Rattle.grammar.specs.Trees.{Formula, assign};
 ghost use Rattle.grammar.specs.Formulas.{good, formula_of};
 ghost use Rattle.words.specs.declared.symbols.Word.TheVariants as led;
@@ -14,9 +14,9 @@ ghost use Rattle.words.specs.Names.{name_bytes, telling_of};
 ghost use Rattle.words.specs.Places.{longest_line};
 
 use crate::turning::{fails, goes_on, value};
-use machine::{Found, Machine, Record, Turned};
+use machine::{Machine, Record, Turned};
 use scanner::token_at;
-use variables::{NameTable, Tables, Worked, store_number, store_string};
+use variables::{Tables, Worked};
 use whole::Error;
 use words::{Kind, Name, Place, Scanned, Token};
 
@@ -30,57 +30,54 @@ pub struct Stored {
 
 pub fn with_number(
     machine: Machine,
-    names: &mut NameTable,
-    words: &mut [u16; Tables::MOST],
+    tables: &mut Tables,
     line: &[u8],
     name: Name,
     word: u16,
 ) -> Stored
-    ensures { (labels lengths : List ℕ) → storage_of result names.new words.new labels lengths
-        ≡ number_set (state_of machine names.old words.old labels lengths) (telling_of (name_bytes line.now name)) word }
+    ensures { storage_of result tables.new
+        ≡ number_set (state_of machine tables.old) (telling_of (name_bytes line.now name)) word }
 {
-    let put = store_number(names, words, machine.numbers, line, name, word);
-    let mut next = machine;
-    next.numbers = put.count;
+    let Some(slot) = tables.numbers.store(line, name, word) else {
+        return Stored {
+            ok: false,
+            slot: tables.numbers.count,
+            machine,
+        };
+    };
     Stored {
-        ok: put.ok,
-        slot: put.slot,
-        machine: next,
+        ok: true,
+        slot,
+        machine,
     }
 }
 
 // The finished text of `len` bytes stands right after the variables' bytes.
 pub fn with_string(
     machine: Machine,
-    labels: &mut NameTable,
-    lengths: &mut [u8; Tables::MOST],
+    tables: &mut Tables,
     line: &[u8],
     name: Name,
     space: &mut [u8],
     len: usize,
 ) -> Stored
-    requires { Storable lengths.old machine.used.0 space.old len × (len ≤ longest_string) }
-    ensures { ((names words : List ℕ) → storage_of result names words labels.new lengths.new
-        ≡ string_set (state_of machine names words labels.old lengths.old) (telling_of (name_bytes line.now name)) len)
-        × (space.new ≡ space_stored (strings_of labels.old lengths.old machine.strings) machine.used.0 (telling_of (name_bytes line.now name)) space.old len) }
+    requires { Storable tables.old.strings.lengths machine.used.0 space.old len × (len ≤ longest_string) }
+    ensures { (storage_of result tables.new
+        ≡ string_set (state_of machine tables.old) (telling_of (name_bytes line.now name)) len)
+        × (space.new ≡ space_stored tables.old.strings machine.used.0 (telling_of (name_bytes line.now name)) space.old len) }
 {
     let used = machine.used;
-    let put = store_string(
-        labels,
-        lengths,
-        machine.strings,
-        used,
-        line,
-        name,
-        space,
-        len as u8,
-    );
-    let end = put.used;
+    let Some(end) = tables.strings.store(used, line, name, space, len as u8) else {
+        return Stored {
+            ok: false,
+            slot: 0,
+            machine,
+        };
+    };
     let mut next = machine;
-    next.strings = put.count;
     next.used = end;
     Stored {
-        ok: put.ok,
+        ok: true,
         slot: 0,
         machine: next,
     }
@@ -103,37 +100,34 @@ fn assign(
     name: Name,
     first: Scanned,
     machine: Machine,
-    names: &mut NameTable,
-    words: &mut [u16; Tables::MOST],
-    labels: &mut NameTable,
-    lengths: &mut [u8; Tables::MOST],
+    tables: &mut Tables,
     space: &mut [u8],
 ) -> Turned
     requires { Formed line.now first
-        × Settled (state_of machine names.old words.old labels.old lengths.old) space.old }
+        × Settled (state_of machine tables.old) space.old }
     ensures { (text input room : List ℕ) (at : ℕ) (f : Formula) (u : Scanned)
-        → Sound (state_of machine names.old words.old labels.old lengths.old) input space.old room
+        → Sound (state_of machine tables.old) input space.old room
         → Positioned text (after_of here u)
         → formula_of line.now first ≡ good f u
-        → Turns text (state_of machine names.old words.old labels.old lengths.old) input space.old room AnyRecords
+        → Turns text (state_of machine tables.old) input space.old room AnyRecords
         (λ n. do_statement text at (assign (variable_of line.now name) f) n (position_of text (after_of here u)))
-        (turn_of result names.new words.new labels.new lengths.new) space.new room }
+        (turn_of result tables.new) space.new room }
 {
     let kind = name.kind;
-    match value(line, first, machine, names, words, labels, lengths, space) {
-        Worked::Fault(error) => fails(machine, error),
-        Worked::Whole(word, ahead) => match kind {
+    match value(line, first, machine, tables, space) {
+        Err(error) => fails(machine, error),
+        Ok(Worked::Whole(word, ahead)) => match kind {
             Kind::Text => fails(machine, Error::TypeMismatch),
             Kind::Whole => stored_or_full(
-                with_number(machine, names, words, line, name, word),
+                with_number(machine, tables, line, name, word),
                 here,
                 ahead,
             ),
         },
-        Worked::Text(len, ahead) => match kind {
+        Ok(Worked::Text(len, ahead)) => match kind {
             Kind::Whole => fails(machine, Error::TypeMismatch),
             Kind::Text => stored_or_full(
-                with_string(machine, labels, lengths, line, name, space, len),
+                with_string(machine, tables, line, name, space, len),
                 here,
                 ahead,
             ),
@@ -147,19 +141,16 @@ pub fn set(
     here: Place,
     target: Scanned,
     machine: Machine,
-    names: &mut NameTable,
-    words: &mut [u16; Tables::MOST],
-    labels: &mut NameTable,
-    lengths: &mut [u8; Tables::MOST],
+    tables: &mut Tables,
     space: &mut [u8],
 ) -> Turned
     requires { Begins (by_word line.now led.Let target)
         × ((length line.now ≤ longest_line)
-        × Settled (state_of machine names.old words.old labels.old lengths.old) space.old) }
-    ensures { (text input room : List ℕ) (at : ℕ) (found : Found) (entry : Record)
-        → Sound (state_of machine names.old words.old labels.old lengths.old) input space.old room
-        → Does text line.now here at (state_of machine names.old words.old labels.old lengths.old) found entry input space.old room
-        (turn_of result names.new words.new labels.new lengths.new) space.new room (by_word line.now led.Let target) }
+        × Settled (state_of machine tables.old) space.old) }
+    ensures { (text input room : List ℕ) (at : ℕ) (found : Option ℕ) (entry : Record)
+        → Sound (state_of machine tables.old) input space.old room
+        → Does text line.now here at (state_of machine tables.old) found entry input space.old room
+        (turn_of result tables.new) space.new room (by_word line.now led.Let target) }
 {
     let token = target.token;
     let equals = token_at(line, target.next);
@@ -170,10 +161,7 @@ pub fn set(
             name,
             token_at(line, equals.next),
             machine,
-            names,
-            words,
-            labels,
-            lengths,
+            tables,
             space,
         ),
         _ => fails(machine, Error::Syntax),

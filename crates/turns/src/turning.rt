@@ -5,11 +5,12 @@ ghost use Rattle.grammar.specs.Formulas.{good, formula_of};
 ghost use Rattle.machine.specs.bridge.Holding.{state_of, Settled};
 ghost use Rattle.machine.specs.declared.positions.Next.TheVariants as next;
 ghost use Rattle.turns.specs.bridge.Turns.{turn_of, came_to, after_of, pushed_turn, Formed, Valued};
+ghost use Rattle.variables.specs.declared.tables.Tables.{Tables};
 
 use formulas::work_out;
 use grammar::is_symbol;
 use machine::{Machine, Next, Position, Record, Turned};
-use variables::{NameTable, Tables, Worked};
+use variables::{Tables, Worked};
 use whole::Error;
 use words::{Place, Scanned, Sign};
 
@@ -53,7 +54,7 @@ pub fn goes_on(machine: Machine, line: Place, ahead: Scanned) -> Turned
 
 // A record more, if there is room.
 pub fn push(machine: Machine, held: Record, onward: Next) -> Turned
-    ensures { (names words labels lengths : List ℕ) → turn_of result names words labels lengths ≡ pushed_turn (state_of machine names words labels lengths) held onward }
+    ensures { (tables : Tables) → turn_of result tables ≡ pushed_turn (state_of machine tables) held onward }
 {
     let slot = machine.depth;
     if machine.records <= slot {
@@ -74,25 +75,13 @@ pub fn value(
     line: &[u8],
     ahead: Scanned,
     machine: Machine,
-    names: &NameTable,
-    words: &[u16; Tables::MOST],
-    labels: &NameTable,
-    lengths: &[u8; Tables::MOST],
+    tables: &Tables,
     space: &mut [u8],
-) -> Worked
+) -> Result<Worked, Error>
     requires { Formed line.now ahead
-        × Settled (state_of machine names.now words.now labels.now lengths.now) space.old }
+        × Settled (state_of machine tables.now) space.old }
     ensures { (f : Formula) (u : Scanned) → formula_of line.now ahead ≡ good f u
-        → Valued (state_of machine names.now words.now labels.now lengths.now) f u space.old result space.new }
+        → Valued (state_of machine tables.now) f u space.old result space.new }
 {
-    work_out(
-        line,
-        ahead,
-        names,
-        words,
-        labels,
-        lengths,
-        space,
-        machine.used,
-    )
+    work_out(line, ahead, tables, space, machine.used)
 }

@@ -1,6 +1,6 @@
 -- An answer over the space agrees with the outcome that the definition gives.
+use Rattle.std.specs.Prelude.{Result, Ok, Err}
 use mathlib.Core.Path.{◌≡◌, refl}
-use mathlib.Core.Logic.{◌⊎◌, ⊎_elim}
 use mathlib.Core.List.{List}
 use Prim.Native.Nat.{ℕ, ◌+◌, ◌≤◌, ◌<◌}
 use native.Mathlib.Omega.{arith}
@@ -20,38 +20,40 @@ use Rattle.whole.specs.declared.errors.Error.TheVariants.{OutOfStringSpace}
 -- a string is made where there is room for it
 module _ (space bytes : List ℕ) (used : ℕ) (t : Scanned) (room : Room) (h : Held room space used) where
   pub make_agrees : used + length bytes ≤ length space → take (length bytes) (drop used space) ≡ bytes
-      → Agrees (worked.Text (length bytes) t) space used (make bytes room)
+      → Agrees (Ok (worked.Text (length bytes) t)) space used (make bytes room)
   unfolding make
   make_agrees l e =
       rw (h.limit, h.lives, le-ltb (length space) (used + length bytes) l)
       (e, (refl, record { limit = refl; lives = omega (arith, h.lives) }))
 
-  pub make_refused : length space < used + length bytes → Agrees (worked.Fault OutOfStringSpace) space used (make bytes room)
+  pub make_refused : length space < used + length bytes → Agrees (Err OutOfStringSpace) space used (make bytes room)
   unfolding make
   make_refused l = rw (h.limit, h.lives, lt-ltb (length space) (used + length bytes) l) refl
 
 -- an answer with no longer text leaves the space as another does
-pub framed_less : {before now : List ℕ} {used : ℕ} {r : Worked} (q : Worked) → text_length q ≤ text_length r → Framed before used r now
+pub framed_less : {before now : List ℕ} {used : ℕ} {r : Result Worked Error} (q : Result Worked Error) → text_length q ≤ text_length r → Framed before used r now
     → Framed before used q now
 framed_less q h k = record { long = k.long; kept = k.kept; fits = omega (arith, k.fits); short = omega (arith, k.short) }
 
--- ---- answers of another type than is wanted, as the code tells them
+-- ---- an answer that is no whole number, as the code tells it
 
 abbrev pub worked_tag : Worked → ℕ
 worked_tag x = tag_of Rattle.variables.specs.contracts.values.Worked.the_type x
 
-module _ (P : Worked → Type 0) (faults : (e : Error) → P (worked.Fault e)) where
-  pub no_whole : ((n : ℕ) (t : Scanned) → P (worked.Text n t)) → (x : Worked) → (worked_tag x ≡ 1) ⊎ (worked_tag x ≡ 2) → P x
-  no_whole texts (worked.Whole w t) k = absurd (⊎_elim (λ e. omega arith) (λ e. omega arith) k)
-  no_whole texts (worked.Text n t) k = texts n t
-  no_whole texts (worked.Fault e) k = faults e
+abbrev pub NoWhole : Result Worked Error → Type 0
+NoWhole (Ok x) = worked_tag x ≡ 1
+NoWhole (Err e) = Unit {0}
 
-  pub no_text : ((w : ℕ) (t : Scanned) → P (worked.Whole w t)) → (x : Worked) → (worked_tag x ≡ 0) ⊎ (worked_tag x ≡ 2) → P x
-  no_text wholes (worked.Whole w t) k = wholes w t
-  no_text wholes (worked.Text n t) k = absurd (⊎_elim (λ e. omega arith) (λ e. omega arith) k)
-  no_text wholes (worked.Fault e) k = faults e
+-- a text
+pub no_whole_text : {r : Result Worked Error} {x : Worked} → r ≡ Ok x → worked_tag x ≡ 1 → NoWhole r
+no_whole_text e h = rw e h
 
-  pub no_value : (x : Worked) → (worked_tag x ≡ 0) ⊎ (worked_tag x ≡ 2) → (worked_tag x ≡ 1) ⊎ (worked_tag x ≡ 2) → P x
-  no_value (worked.Whole w t) j k = absurd (⊎_elim (λ e. omega arith) (λ e. omega arith) k)
-  no_value (worked.Text n t) j k = absurd (⊎_elim (λ e. omega arith) (λ e. omega arith) j)
-  no_value (worked.Fault e) j k = faults e
+-- or an error
+pub no_whole_error : {r : Result Worked Error} {x : Error} → r ≡ Err x → NoWhole r
+no_whole_error e = rw e tt
+
+pub no_whole : (P : Result Worked Error → Type 0) → ((e : Error) → P (Err e)) → ((n : ℕ) (t : Scanned) → P (Ok (worked.Text n t)))
+    → (x : Result Worked Error) → NoWhole x → P x
+no_whole P faults texts (Ok (worked.Whole w t)) k = absurd (omega arith)
+no_whole P faults texts (Ok (worked.Text n t)) k = texts n t
+no_whole P faults texts (Err e) k = faults e

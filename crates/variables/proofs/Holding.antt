@@ -108,7 +108,7 @@ bytes_held (n ∷ a) b (l ∷ ls) space m name e =
 
 -- so the variables that the tables hold are those that are looked up
 pub held_looked : (n : Numbers) (t : Strings) (space : List ℕ) → TidyNumbers n → TidyStrings t
-    → Looked (record { numbers = numbers_held n; strings = strings_held t space }) n.names n.words t.names t.lengths space
+    → Looked (record { numbers = numbers_held n; strings = strings_held t space }) (record { numbers = n; strings = t }) space
 held_looked n t space a b =
     record {
       word = λ name. let l = names_length n.count n.names in

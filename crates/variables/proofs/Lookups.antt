@@ -1,4 +1,5 @@
 -- Looking a name up in the tables: the first entry that has it, what number or string it holds, and where the string stands.
+use Rattle.std.specs.Prelude.{None, Some}
 use mathlib.Core.Path.{◌≡◌, refl, sym, ap, ◌∙◌}
 use mathlib.Core.Bool.{true, false}
 use mathlib.Core.List.{List, [], ◌∷◌}
@@ -7,12 +8,13 @@ use native.Mathlib.Omega.{arith}
 use native.Mathlib.Numerals.{add-one}
 use lib.ListN.{length, take, drop, get_or, length-drop}
 use lib.Seq.{length-take-le, take-nil, take-take, drop-drop}
+use Rattle.std.specs.List.{sum}
+use Rattle.std.proofs.lemmas.List.Sums.{sum_by-cons}
 use Rattle.words.proofs.Choices.{by_test}
 use Rattle.words.specs.Names.{Telling, name_width, alike}
 use Rattle.variables.specs.Variables.{word_of, bytes_of, string_bytes, most_variables}
 use Rattle.variables.specs.bridge.Memory.{strings_in, name_at}
 use Rattle.variables.specs.Tables.{names_from, names_in, numbers_in, slot_from, slot_in, sum_of}
-use Rattle.variables.specs.declared.tables.Slot.TheVariants as slot
 use Rattle.whole.proofs.Never.{never}
 
 -- ---- the names of a table
@@ -38,7 +40,7 @@ name_next names i h =
 
 -- the search from the i-th on: it ends there, or goes on
 module _ (names : List ℕ) (name : Telling) (i : ℕ) (h : i < most_variables) where
-  pub slot_here : alike (name_at names i) name ≡ true → slot_from i (names_from (most_variables - i) (drop (name_width * i) names)) name ≡ slot.At i
+  pub slot_here : alike (name_at names i) name ≡ true → slot_from i (names_from (most_variables - i) (drop (name_width * i) names)) name ≡ Some i
   unfolding slot_from
   slot_here e = ap (λ ns. slot_from i ns name) (name_next names i h) ∙ rw e
 
@@ -58,16 +60,16 @@ record Found (name : Telling) (ns : List Telling) (k i : ℕ) : Type 0 where
   first : First name ns place
   counted : i ≡ k + place
 
-found_from : (k : ℕ) (ns : List Telling) (name : Telling) (i : ℕ) → slot_from k ns name ≡ slot.At i → Found name ns k i
+found_from : (k : ℕ) (ns : List Telling) (name : Telling) (i : ℕ) → slot_from k ns name ≡ Some i → Found name ns k i
 unfolding slot_from
 found_from k [] name i e = never (cc)
 found_from k (n ∷ ns) name i e =
     by_test (alike n name)
-    (λ t. let s : slot.At k ≡ slot.At i = rw t at e in let p : k ≡ i = cc in record { place = 0; first = here t; counted = omega arith })
+    (λ t. let s : Some k ≡ Some i = rw t at e in let p : k ≡ i = cc in record { place = 0; first = here t; counted = omega arith })
     (λ t. let f = found_from (suc k) ns name i (rw t at e) in
     record { place = suc f.place; first = later t f.first; counted = omega (arith, f.counted) })
 
-module _ (names : List ℕ) (name : Telling) (i : ℕ) (e : slot_in names name ≡ slot.At i) where
+module _ (names : List ℕ) (name : Telling) (i : ℕ) (e : slot_in names name ≡ Some i) where
   pub slot_first : First name (names_in names) i
   slot_first =
       let f = found_from 0 (names_in names) name i e in let p : i ≡ f.place = omega (arith, f.counted) in rw p f.first
@@ -77,7 +79,7 @@ first_below (here e) = omega arith
 first_below (later e f) = let h = first_below f in omega arith
 
 -- an entry is one of 64
-pub slot_below : (names : List ℕ) (name : Telling) (i : ℕ) → slot_in names name ≡ slot.At i → i < most_variables
+pub slot_below : (names : List ℕ) (name : Telling) (i : ℕ) → slot_in names name ≡ Some i → i < most_variables
 slot_below names name i e = let h = first_below (slot_first names name i e) in let n = names_count names in omega arith
 
 -- ---- numbers
@@ -90,36 +92,31 @@ first_word (later e f) [] = refl
 first_word (later e f) (w ∷ ws) = rw e (first_word f ws)
 
 -- a name's number is its entry's
-pub slot_word : (names words : List ℕ) (name : Telling) (i : ℕ) → slot_in names name ≡ slot.At i
+pub slot_word : (names words : List ℕ) (name : Telling) (i : ℕ) → slot_in names name ≡ Some i
     → word_of (numbers_in (names_in names) words) name ≡ get_or words i 0
 slot_word names words name i e = first_word (slot_first names name i e) words
 
-missing_word : (k : ℕ) (ns : List Telling) (ws : List ℕ) (name : Telling) → slot_from k ns name ≡ slot.None → word_of (numbers_in ns ws) name ≡ 0
+missing_word : (k : ℕ) (ns : List Telling) (ws : List ℕ) (name : Telling) → slot_from k ns name ≡ None → word_of (numbers_in ns ws) name ≡ 0
 unfolding slot_from word_of numbers_in
 missing_word k [] ws name e = refl
 missing_word k (n ∷ ns) [] name e = refl
 missing_word k (n ∷ ns) (w ∷ ws) name e =
     by_test (alike n name)
-    (λ t. let s : slot.At k ≡ slot.None = rw t at e in never (cc))
+    (λ t. let s : Some k ≡ None = rw t at e in never (cc))
     (λ t. rw t (missing_word (suc k) ns ws name (rw t at e)))
 
 -- a name with no entry reads as 0
-pub no_slot_word : (names words : List ℕ) (name : Telling) → slot_in names name ≡ slot.None
+pub no_slot_word : (names words : List ℕ) (name : Telling) → slot_in names name ≡ None
     → word_of (numbers_in (names_in names) words) name ≡ 0
 no_slot_word names words name e = missing_word 0 (names_in names) words name e
 
 -- ---- strings
 
--- one length more
-sum_more : (ls : List ℕ) (i : ℕ) → sum_of (take (suc i) ls) ≡ sum_of (take i ls) + get_or ls i 0
+-- it is the library's sum
+pub sum-sum_of : (ls : List ℕ) → sum ls ≡ sum_of ls
 unfolding sum_of
-sum_more [] zero = refl
-sum_more [] (suc i) = refl
-sum_more (l ∷ ls) zero = omega arith
-sum_more (l ∷ ls) (suc i) = let e = sum_more ls i in omega arith
-
-pub sum_next : (ls : List ℕ) (i : ℕ) → sum_of (take (i + 1) ls) ≡ sum_of (take i ls) + get_or ls i 0
-sum_next ls i = rw add-one (sum_more ls i)
+sum-sum_of [] = refl
+sum-sum_of (l ∷ ls) = sum_by-cons (λ x. x) l ls ∙ ap (λ n. l + n) (sum-sum_of ls)
 
 -- a string ends where all do, or before
 pub sum_within : (ls : List ℕ) (i : ℕ) → sum_of (take i ls) + get_or ls i 0 ≤ sum_of ls
@@ -139,22 +136,22 @@ first_bytes (later {i = i} e f) (l ∷ ls) space =
     rw e (first_bytes f ls (drop l space) ∙ ap (take (get_or ls i 0)) (drop-drop (sum_of (take i ls)) l space))
 
 -- a name's string is its entry's: it stands after those before it
-pub slot_bytes : (names lengths space : List ℕ) (name : Telling) (i : ℕ) → slot_in names name ≡ slot.At i
+pub slot_bytes : (names lengths space : List ℕ) (name : Telling) (i : ℕ) → slot_in names name ≡ Some i
     → bytes_of (strings_in (names_in names) lengths space) name ≡ take (get_or lengths i 0) (drop (sum_of (take i lengths)) space)
 slot_bytes names lengths space name i e = first_bytes (slot_first names name i e) lengths space
 
-missing_bytes : (k : ℕ) (ns : List Telling) (ls space : List ℕ) (name : Telling) → slot_from k ns name ≡ slot.None
+missing_bytes : (k : ℕ) (ns : List Telling) (ls space : List ℕ) (name : Telling) → slot_from k ns name ≡ None
     → bytes_of (strings_in ns ls space) name ≡ []
 unfolding slot_from bytes_of strings_in
 missing_bytes k [] ls space name e = refl
 missing_bytes k (n ∷ ns) [] space name e = refl
 missing_bytes k (n ∷ ns) (l ∷ ls) space name e =
     by_test (alike n name)
-    (λ t. let s : slot.At k ≡ slot.None = rw t at e in never (cc))
+    (λ t. let s : Some k ≡ None = rw t at e in never (cc))
     (λ t. rw t (missing_bytes (suc k) ns ls (drop l space) name (rw t at e)))
 
 -- a name with no entry reads as empty
-pub no_slot_bytes : (names lengths space : List ℕ) (name : Telling) → slot_in names name ≡ slot.None
+pub no_slot_bytes : (names lengths space : List ℕ) (name : Telling) → slot_in names name ≡ None
     → bytes_of (strings_in (names_in names) lengths space) name ≡ []
 no_slot_bytes names lengths space name e = missing_bytes 0 (names_in names) lengths space name e
 

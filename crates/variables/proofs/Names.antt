@@ -1,4 +1,5 @@
 -- Names in a table, blank two of which are one variable's: each is found at its own entry.
+use Rattle.std.specs.Prelude.{Some}
 use mathlib.Core.Path.{◌≡◌, refl, sym, ap, ◌∙◌}
 use mathlib.Core.Bool.{true, false, false≢true}
 use mathlib.Core.List.{List, [], ◌∷◌, ◌++◌}
@@ -13,7 +14,6 @@ use Rattle.words.specs.Names.{Telling, name_width, telling, alike}
 use Rattle.variables.specs.Tables.{names_from, names_in, slot_from, slot_in}
 use Rattle.variables.specs.Variables.{most_variables}
 use Rattle.variables.specs.bridge.Memory.{Tells, name_at, Absent, none, also, Apart, empty, joining}
-use Rattle.variables.specs.declared.tables.Slot.TheVariants as slot
 use Rattle.variables.proofs.Lookups.{First, here, later, names_length, slot_first}
 use Rattle.variables.proofs.Ways.{names_used}
 
@@ -53,7 +53,7 @@ first_among : {name : Telling} {ns : List Telling} {i : ℕ} (more : List Tellin
 first_among more (here e) = here e
 first_among more (later e f) = later e (first_among more f)
 
-first_from : {name : Telling} (k : ℕ) {ns : List Telling} {i : ℕ} → First name ns i → slot_from k ns name ≡ slot.At (k + i)
+first_from : {name : Telling} (k : ℕ) {ns : List Telling} {i : ℕ} → First name ns i → slot_from k ns name ≡ Some (k + i)
 unfolding slot_from
 first_from k (here e) = let z : k + 0 ≡ k = omega arith in rw (e, z)
 first_from k (later {i = i} e f) = let z : k + suc i ≡ suc k + i = omega arith in rw (e, z) (first_from (suc k) f)
@@ -87,14 +87,14 @@ name_is (suc n) names (suc i) blank h =
 module _ (names : List ℕ) (count : ℕ) (few : count ≤ most_variables) where
   -- the name of an entry in use is found there, and blank other entry in use has it
   pub name_slot : Apart (names_from count names) → (i : ℕ) (name : Telling) → i < count → alike (name_at names i) name ≡ true
-      → slot_in names name ≡ slot.At i
+      → slot_in names name ≡ Some i
   name_slot a i name h e =
       let l = names_length count names in
       let f = first_own (names_from count names) i name name a (omega arith) (rw (name_is count names i name h) e) in
       let z : 0 + i ≡ i = omega arith in
-      rw (names_used count names few) (first_from 0 (first_among _ f) ∙ ap slot.At z)
+      rw (names_used count names few) (first_from 0 (first_among _ f) ∙ ap Some z)
 
 -- and the entry that is found has it
-pub slot_name : (names : List ℕ) (i : ℕ) (name : Telling) → i < most_variables → slot_in names name ≡ slot.At i → alike (name_at names i) name ≡ true
+pub slot_name : (names : List ℕ) (i : ℕ) (name : Telling) → i < most_variables → slot_in names name ≡ Some i → alike (name_at names i) name ≡ true
 unfolding names_in
 slot_name names i name h e = rw (name_is most_variables names i name h) at (first_has name (slot_first names name i e))

@@ -1,4 +1,5 @@
 -- Which way storing goes: a name stands among the entries in use and its value is set, or it is new and goes after them.
+use Rattle.std.specs.Prelude.{None, Option, Some, ℕ}
 use mathlib.Core.Path.{◌≡◌, refl, ap, ◌∙◌}
 use mathlib.Core.List.{List, [], ◌∷◌, ◌++◌}
 use Prim.Native.Nat.{ℕ, zero, suc, ◌+◌, ◌-◌, ◌*◌, ◌≤◌, ◌<◌}
@@ -13,8 +14,6 @@ use Rattle.variables.specs.bridge.Memory.{Absent, none, also, number_appended, n
 use Rattle.variables.specs.Tables.{names_from, names_in, slot_from, slot_in}
 use Rattle.variables.specs.declared.tables.Numbers.{Numbers}
 use Rattle.variables.specs.declared.tables.Strings.{Strings}
-use Rattle.variables.specs.declared.tables.Slot.{Slot}
-use Rattle.variables.specs.declared.tables.Slot.TheVariants as slot
 use Rattle.variables.specs.Variables.{most_variables}
 use Rattle.variables.proofs.Lookups.{names_length, First, here, later, slot_first}
 use Rattle.whole.proofs.Never.{never}
@@ -33,12 +32,12 @@ first_past [] b f h = none
 first_past (n ∷ a) b (here e) h = absurd (omega arith)
 first_past (n ∷ a) b (later e f) h = also e (first_past a b f (omega arith))
 
-missing_absent : (k : ℕ) (a b : List Telling) (name : Telling) → slot_from k (a ++ b) name ≡ slot.None → Absent name a
+missing_absent : (k : ℕ) (a b : List Telling) (name : Telling) → slot_from k (a ++ b) name ≡ None → Absent name a
 unfolding slot_from
 missing_absent k [] b name e = none
 missing_absent k (n ∷ a) b name e =
     by_test (alike n name)
-    (λ t. let s : slot.At k ≡ slot.None = rw t at e in never (cc))
+    (λ t. let s : Some k ≡ None = rw t at e in never (cc))
     (λ t. also t (missing_absent (suc k) a b name (rw t at e)))
 
 -- ---- the entries in use, and those after them
@@ -59,27 +58,27 @@ names_used count names h = let e : most_variables ≡ count + (most_variables - 
 -- ---- the ways
 
 -- no entry in use was found
-abbrev pub Unfound : ℕ → Slot → Type 0
-Unfound count (slot.At i) = count ≤ i
-Unfound count slot.None = Unit {0}
+abbrev pub Unfound : ℕ → Option ℕ → Type 0
+Unfound count (Some i) = count ≤ i
+Unfound count None = Unit {0}
 
 pub data Way (names : List ℕ) (count : ℕ) (name : Telling) : Type 0 where
-  old : (i : ℕ) → slot_in names name ≡ slot.At i → i < count → First name (names_from count names) i → Way names count name
-  new : (x : Slot) → slot_in names name ≡ x → Unfound count x → Absent name (names_from count names) → Way names count name
+  old : (i : ℕ) → slot_in names name ≡ Some i → i < count → First name (names_from count names) i → Way names count name
+  new : (x : Option ℕ) → slot_in names name ≡ x → Unfound count x → Absent name (names_from count names) → Way names count name
 
 module _ (names : List ℕ) (count : ℕ) (name : Telling) (few : count ≤ most_variables) where
   after : List Telling
   after = names_from (most_variables - count) (drop (name_width * count) names)
 
-  way_by : (x : Slot) → slot_in names name ≡ x → Way names count name
+  way_by : (x : Option ℕ) → slot_in names name ≡ x → Way names count name
   unfolding after
-  way_by slot.None e =
-      new slot.None e tt (missing_absent 0 (names_from count names) after name (rw (names_used count names few) at e))
-  way_by (slot.At i) e =
+  way_by None e =
+      new None e tt (missing_absent 0 (names_from count names) after name (rw (names_used count names few) at e))
+  way_by (Some i) e =
       let l = names_length count names in
       let f : First name (names_from count names ++ after) i = rw (names_used count names few) at (slot_first names name i e) in
       by_bound count i
-      (λ h. new (slot.At i) e h (first_past (names_from count names) after f (omega arith)))
+      (λ h. new (Some i) e h (first_past (names_from count names) after f (omega arith)))
       (λ h. old i e h (first_within (names_from count names) after f (omega arith)))
 
   pub way : Way names count name
@@ -88,25 +87,25 @@ module _ (names : List ℕ) (count : ℕ) (name : Telling) (few : count ≤ most
 -- ---- what is stored by each
 
 module _ (n : Numbers) (name : Telling) (w : ℕ) where
-  pub number_old : (i : ℕ) → slot_in n.names name ≡ slot.At i → i < n.count → number_stored n name w ≡ number_replaced n i w
+  pub number_old : (i : ℕ) → slot_in n.names name ≡ Some i → i < n.count → number_stored n name w ≡ number_replaced n i w
   number_old i e h = rw (e, lt-leb n.count i h)
 
-  pub number_new : (x : Slot) → slot_in n.names name ≡ x → Unfound n.count x → number_stored n name w ≡ number_appended n name w
-  number_new slot.None e u = rw e
-  number_new (slot.At i) e u = rw (e, le-leb n.count i u)
+  pub number_new : (x : Option ℕ) → slot_in n.names name ≡ x → Unfound n.count x → number_stored n name w ≡ number_appended n name w
+  number_new None e u = rw e
+  number_new (Some i) e u = rw (e, le-leb n.count i u)
 
 module _ (t : Strings) (used : ℕ) (name : Telling) (len : ℕ) where
-  pub string_old : (i : ℕ) → slot_in t.names name ≡ slot.At i → i < t.count → string_stored t used name len ≡ string_replaced t used i len
+  pub string_old : (i : ℕ) → slot_in t.names name ≡ Some i → i < t.count → string_stored t used name len ≡ string_replaced t used i len
   string_old i e h = rw (e, lt-leb t.count i h)
 
-  pub string_new : (x : Slot) → slot_in t.names name ≡ x → Unfound t.count x → string_stored t used name len ≡ string_appended t used name len
-  string_new slot.None e u = rw e
-  string_new (slot.At i) e u = rw (e, le-leb t.count i u)
+  pub string_new : (x : Option ℕ) → slot_in t.names name ≡ x → Unfound t.count x → string_stored t used name len ≡ string_appended t used name len
+  string_new None e u = rw e
+  string_new (Some i) e u = rw (e, le-leb t.count i u)
 
-  pub space_old : (space : List ℕ) (i : ℕ) → slot_in t.names name ≡ slot.At i → i < t.count
+  pub space_old : (space : List ℕ) (i : ℕ) → slot_in t.names name ≡ Some i → i < t.count
       → space_stored t used name space len ≡ space_replaced t.lengths used i space len
   space_old space i e h = rw (e, lt-leb t.count i h)
 
-  pub space_new : (space : List ℕ) (x : Slot) → slot_in t.names name ≡ x → Unfound t.count x → space_stored t used name space len ≡ space
-  space_new space slot.None e u = rw e
-  space_new space (slot.At i) e u = rw (e, le-leb t.count i u)
+  pub space_new : (space : List ℕ) (x : Option ℕ) → slot_in t.names name ≡ x → Unfound t.count x → space_stored t used name space len ≡ space
+  space_new space None e u = rw e
+  space_new space (Some i) e u = rw (e, le-leb t.count i u)

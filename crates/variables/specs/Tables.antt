@@ -1,12 +1,10 @@
 -- The variable tables that a host lends and gets back: both hold the variables in order of first assignment, and zeros after them.
-use Rattle.std.specs.Prelude.{cond, List, [], ◌∷◌, ◌++◌, map, ℕ, zero, suc, ◌+◌, ◌-◌, ◌*◌, length, drop, replicate}
+use Rattle.std.specs.Prelude.{cond, List, [], ◌∷◌, ◌++◌, map, ℕ, zero, suc, ◌+◌, ◌-◌, ◌*◌, length, drop, replicate, None, Option, Some}
 use Rattle.words.specs.Names.{Telling, name_width, telling, alike, entry_of}
 use Rattle.variables.specs.Variables.{NumberVariable, StringVariable, most_variables}
 use Rattle.variables.specs.declared.tables.Numbers.{Numbers}
 use Rattle.variables.specs.declared.tables.Strings.{Strings}
 use Rattle.variables.specs.declared.tables.Tables.{Tables}
-use Rattle.variables.specs.declared.tables.Slot.{Slot}
-use Rattle.variables.specs.declared.tables.Slot.TheVariants as slot
 
 -- ---- the tables that hold some variables
 
@@ -56,11 +54,11 @@ numbers_in (n ∷ ns) [] = []
 numbers_in (n ∷ ns) (w ∷ ws) = record { name = n; word = w } ∷ numbers_in ns ws
 
 -- the first entry with a name, counted from k
-unfoldable pub slot_from : ℕ → List Telling → Telling → Slot
-slot_from k [] name = slot.None
-slot_from k (n ∷ ns) name = cond (alike n name) (slot.At k) (slot_from (suc k) ns name)
+unfoldable pub slot_from : ℕ → List Telling → Telling → Option ℕ
+slot_from k [] name = None
+slot_from k (n ∷ ns) name = cond (alike n name) (Some k) (slot_from (suc k) ns name)
 
-abbrev pub slot_in : List ℕ → Telling → Slot
+abbrev pub slot_in : List ℕ → Telling → Option ℕ
 slot_in names name = slot_from 0 (names_in names) name
 
 unfoldable pub sum_of : List ℕ → ℕ

@@ -5,6 +5,6 @@ mod assigning;
 mod tables;
 mod values;
 
-pub use assigning::{NumberPut, StringPut, clean_up, store_number, store_string};
-pub use tables::{NameTable, Numbers, Slot, Strings, Tables, offset_of, slot_of, wide};
+pub use assigning::clean_up;
+pub use tables::{NameTable, Numbers, Strings, Tables, offset_of, slot_of};
 pub use values::{Worked, answered, has_room, mismatch, text_length};

@@ -1,5 +1,5 @@
 // The variables: tables of names in the order of first assignment, unused entries zero.
-ghost use Rattle.std.specs.Prelude.{◌≡◌, ◌<◌, min, take};
+ghost use Rattle.std.specs.Prelude.{◌≡◌, ◌<◌, ◌≤◌, min, sum, length, take};
 ghost use Rattle.words.specs.Names.{name_bytes, telling_of};
 ghost use Rattle.variables.specs.Tables.{slot_in, sum_of, empty_tables};
 ghost use Rattle.variables.specs.Variables.{most_variables};
@@ -56,46 +56,31 @@ impl Tables {
     }
 }
 
-#[derive(Clone, Copy)]
-pub enum Slot {
-    At(usize),
-    None,
-}
-
 // The entry with a name that stands in a line; most others begin otherwise.
-pub fn slot_of(names: &NameTable, line: &[u8], name: Name) -> Slot
+pub fn slot_of(names: &NameTable, line: &[u8], name: Name) -> Option<usize>
     ensures { result ≡ slot_in names.now (telling_of (name_bytes line.now name)) }
 {
     let first = character(line, name, 0);
-    let mut i = 0;
-    while i < Tables::MOST {
-        let from = Name::WIDTH * i;
-        if names[from] == first {
-            if is_told(names, from as u16, line, name) {
-                return Slot::At(i);
-            }
+    for slot in 0..Tables::MOST {
+        let from = Name::WIDTH * slot;
+        if names[from] == first && is_told(names, from as u16, line, name) {
+            return Some(slot);
         }
-        i += 1;
     }
-    Slot::None
+    None
 }
 
-// A byte that counts something, as a number to reckon with.
-pub fn wide(byte: u8) -> usize
-    ensures { (result ≡ byte) × (result < 256) }
+// How many bytes strings of some lengths have together.
+fn total(lengths: &[u8]) -> usize
+    requires { length lengths.now ≤ most_variables }
+    ensures { result ≡ sum lengths.now }
 {
-    byte as usize
+    lengths.iter().map(|&len| usize::from(len)).sum()
 }
 
 // Where the string of an entry begins: as far in as those before it have bytes together.
 pub fn offset_of(lengths: &[u8; Tables::MOST], slot: usize) -> Offset
     ensures { result.0 ≡ sum_of (take (min slot most_variables) lengths.now) }
 {
-    let mut sum = 0;
-    let mut i = 0;
-    while i < slot && i < Tables::MOST {
-        sum += wide(lengths[i]);
-        i += 1;
-    }
-    Offset(sum)
+    Offset(total(&lengths[..slot.min(Tables::MOST)]))
 }

@@ -3,46 +3,40 @@ ghost use Rattle.std.specs.Prelude.{◌≡◌, ◌+◌, leb, length};
 ghost use Rattle.variables.specs.bridge.Memory.{answered_as, mismatch_of, text_length};
 
 use space::{Offset, fits};
-use whole::{Answer, Error};
+use whole::Error;
 use words::Scanned;
 
-// A whole number, or a text of so many bytes that stands from the old `used` on, and the token that follows; or an error.
+// A whole number, or a text of so many bytes that stands from the old `used` on, and the token that follows.
 #[derive(Clone, Copy)]
 pub enum Worked {
     Whole(u16, Scanned),
     Text(usize, Scanned),
-    Fault(Error),
 }
 
 // A whole number or its error, and the token that follows.
-pub fn answered(answer: Answer, ahead: Scanned) -> Worked
+pub fn answered(answer: Result<u16, Error>, ahead: Scanned) -> Result<Worked, Error>
     ensures { result ≡ answered_as answer ahead }
 {
-    match answer {
-        Answer::Whole(word) => Worked::Whole(word, ahead),
-        Answer::Fault(error) => Worked::Fault(error),
-    }
+    Ok(Worked::Whole(answer?, ahead))
 }
 
 // Where an answer is not of the type that is wanted: its own error, or 13.
-pub fn mismatch(worked: Worked) -> Error
+pub fn mismatch(worked: Result<Worked, Error>) -> Error
     ensures { result ≡ mismatch_of worked }
 {
     match worked {
-        Worked::Whole(_, _) => Error::TypeMismatch,
-        Worked::Text(_, _) => Error::TypeMismatch,
-        Worked::Fault(error) => error,
+        Ok(_) => Error::TypeMismatch,
+        Err(error) => error,
     }
 }
 
 // How many bytes of text an answer has.
-pub fn text_length(worked: Worked) -> usize
+pub fn text_length(worked: Result<Worked, Error>) -> usize
     ensures { result ≡ text_length worked }
 {
     match worked {
-        Worked::Whole(_, _) => 0,
-        Worked::Text(len, _) => len,
-        Worked::Fault(_) => 0,
+        Ok(Worked::Text(len, _)) => len,
+        _ => 0,
     }
 }
 

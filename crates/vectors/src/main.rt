@@ -7,88 +7,64 @@ mod checks;
 mod runs;
 mod saying;
 
-ghost use Rattle.std.specs.Prelude.{◌≡◌, ◌<◌, length};
+ghost use Rattle.std.specs.Prelude.{◌≡◌, ◌≤◌, length};
 
+use runs::Lent;
+use std::io;
 use std::io::{Read, Stdin, Stdout};
-
-// More bytes than any stored case asks for.
-fn text_room() -> [u8; 20480]
-    ensures { 20480 ≡ length result }
-{
-    [0; 20480]
-}
-
-fn input_room() -> [u8; 20480]
-    ensures { 20480 ≡ length result }
-{
-    [0; 20480]
-}
 
 const CHECK: u8 = 0;
 
-fn wide(byte: u8) -> u32
-    ensures { result < 256 }
+// More bytes than any stored case asks for, all of them this one.
+pub(crate) fn room(byte: u8) -> [u8; 20480]
+    ensures { 20480 ≡ length result }
 {
-    byte as u32
+    [byte; 20480]
 }
 
 // The number at a place of a case's head.
-fn number_at(head: &[u8; 25], at: usize) -> u32 {
-    if 21 < at {
-        return 0;
-    }
-    let low = wide(head[at]) + wide(head[at + 1]) * 256;
-    let high = wide(head[at + 2]) + wide(head[at + 3]) * 256;
-    low + high * 65536
+fn number_at(head: &[u8; 25], at: usize) -> u32
+    requires { at ≤ 21 }
+{
+    u32::from_le_bytes([head[at], head[at + 1], head[at + 2], head[at + 3]])
 }
 
-// The bytes at the front of a buffer, as far as there is room.
-fn take_in(cases: &mut Stdin, bytes: &mut [u8], len: usize) {
-    if len <= bytes.len() {
-        let _ = cases.read_exact(&mut bytes[..len]);
-    }
+// The bytes of a case that stand next; none where there is no room for them.
+fn take_in<'a>(cases: &mut Stdin, room: &'a mut [u8], len: u32) -> Option<&'a [u8]> {
+    let bytes = room.get_mut(..len as usize)?;
+    let _ = cases.read_exact(bytes);
+    Some(bytes)
 }
 
-// Reads one case and writes its answer; false where none is left.
-fn next_case(cases: &mut Stdin, out: Stdout, text: &mut [u8], input: &mut [u8]) -> bool {
+// Reads one case and writes its answer; an error where none is left.
+fn next_case(cases: &mut Stdin, out: Stdout, text: &mut [u8], input: &mut [u8]) -> io::Result<()> {
     let mut head = [0u8; 25];
-    if cases.read_exact(&mut head).is_err() {
-        return false;
+    cases.read_exact(&mut head)?;
+    let text = take_in(cases, text, number_at(&head, 1));
+    let input = take_in(cases, input, number_at(&head, 5));
+    let lent = Lent {
+        space: number_at(&head, 9) as usize,
+        room: number_at(&head, 13) as usize,
+        budget: number_at(&head, 17),
+        records: number_at(&head, 21) as usize,
+    };
+    match (head[0], text, input) {
+        (CHECK, Some(text), _) => checks::answer(out, text),
+        (CHECK, None, _) => {}
+        (_, Some(text), Some(input)) => runs::answer(out, text, input, lent),
+        _ => {}
     }
-    let len = number_at(&head, 1) as usize;
-    let count = number_at(&head, 5) as usize;
-    take_in(cases, text, len);
-    take_in(cases, input, count);
-    if head[0] == CHECK {
-        checks::answer(out, text, len);
-    } else {
-        let space = number_at(&head, 9) as usize;
-        let room = number_at(&head, 13) as usize;
-        let records = number_at(&head, 21) as usize;
-        runs::answer(
-            out,
-            text,
-            len,
-            input,
-            count,
-            space,
-            room,
-            number_at(&head, 17),
-            records,
-        );
-    }
-    true
+    Ok(())
 }
 
 fn main(rt: HostRuntime) {
     let mut cases = rt.stdin();
     let out = rt.stdout();
-    let mut text = text_room();
-    let mut input = input_room();
-    let mut going = true;
-    let mut left: u32 = 60000;
-    while going && 0 < left {
-        left -= 1;
-        going = next_case(&mut cases, out, &mut text, &mut input);
+    let mut text = room(0);
+    let mut input = room(0);
+    for _ in 0..60000 {
+        if next_case(&mut cases, out, &mut text, &mut input).is_err() {
+            return;
+        }
     }
 }

@@ -1,7 +1,6 @@
 // The cases of runs: everything that a run answers and leaves in what is lent.
-ghost use Rattle.std.specs.Prelude.{◌≡◌, ◌<◌, length};
-
-use crate::saying::{front, line_end, number, others, tally, word};
+use crate::room;
+use crate::saying::{each, front, line_end, number, others, word};
 use runner::{Outcome, Ran, is_refused, run_with};
 use std::io::Stdout;
 use variables::{Numbers, Strings, Tables};
@@ -10,23 +9,20 @@ use words::Name;
 // What the lent bytes hold before a run.
 const OLD: u8 = 170;
 
-fn space_room() -> [u8; 20480]
-    ensures { 20480 ≡ length result }
-{
-    [OLD; 20480]
-}
-
-fn output_room() -> [u8; 20480]
-    ensures { 20480 ≡ length result }
-{
-    [OLD; 20480]
+// What a case lends: how many bytes of string space and of room for output, the budget, and how many records.
+#[derive(Clone, Copy)]
+pub(crate) struct Lent {
+    pub(crate) space: usize,
+    pub(crate) room: usize,
+    pub(crate) budget: u32,
+    pub(crate) records: usize,
 }
 
 // Outcome, number, line and place; what does not apply is 0.
 fn ending(out: Stdout, name: &[u8], fault: u8, line: u16, place: usize) {
     word(out, name);
-    number(out, fault as u64);
-    number(out, line as u64);
+    number(out, u64::from(fault));
+    number(out, u64::from(line));
     number(out, place as u64);
 }
 
@@ -46,29 +42,6 @@ fn show_outcome(out: Stdout, outcome: Outcome) {
     }
 }
 
-fn wide_word(word: u16) -> u64 {
-    word as u64
-}
-
-fn show_words(out: Stdout, words: &[u16], count: usize) {
-    let mut i = 0;
-    while i < count && i < words.len() {
-        number(out, wide_word(words[i]));
-        i += 1;
-    }
-}
-
-// How many words from a place on are not zero.
-fn other_words(out: Stdout, words: &[u16], from: usize) {
-    let mut unused: u64 = 0;
-    let mut i = from;
-    while i < words.len() {
-        unused = tally(unused, words[i] != 0);
-        i += 1;
-    }
-    number(out, unused);
-}
-
 // The names and words in use, and how many of the unused ones are not zero.
 fn show_numbers(out: Stdout, numbers: Numbers) {
     let names = numbers.names;
@@ -76,8 +49,8 @@ fn show_numbers(out: Stdout, numbers: Numbers) {
     let count = numbers.count % 65;
     front(out, &names, Name::WIDTH * count);
     others(out, &names, Name::WIDTH * count, 0);
-    show_words(out, &words, count);
-    other_words(out, &words, count);
+    each(out, &words, count);
+    others(out, &words, count, 0);
 }
 
 fn show_strings(out: Stdout, strings: Strings) {
@@ -90,20 +63,11 @@ fn show_strings(out: Stdout, strings: Strings) {
     others(out, &lengths, count, 0);
 }
 
-fn wide(byte: u8) -> usize
-    ensures { result < 256 }
-{
-    byte as usize
-}
-
 // How many bytes all strings have.
 fn string_bytes(strings: Strings) -> usize {
-    let lengths = strings.lengths;
     let mut sum = 0;
-    let mut i = 0;
-    while i < Tables::MOST {
-        sum += wide(lengths[i]);
-        i += 1;
+    for len in &strings.lengths {
+        sum += usize::from(*len);
     }
     sum
 }
@@ -121,7 +85,7 @@ fn show_space(out: Stdout, refused: bool, used: usize, space: &[u8]) {
 fn show(out: Stdout, ran: Ran, space: &[u8], room: &[u8]) {
     let outcome = ran.outcome;
     show_outcome(out, outcome);
-    number(out, ran.steps as u64);
+    number(out, u64::from(ran.steps));
     let written = ran.written;
     number(out, written as u64);
     number(out, ran.taken as u64);
@@ -161,68 +125,25 @@ fn old_tables() -> Tables {
     Tables { numbers, strings }
 }
 
-fn run_in(
-    out: Stdout,
-    text: &[u8],
-    input: &[u8],
-    space: &mut [u8],
-    room: &mut [u8],
-    budget: u32,
-    records: usize,
-) {
-    let ran = run_with(text, input, space, room, &[], records, budget, old_tables());
-    show(out, ran, space, room);
-}
-
 // Nothing where there is less room than asked for.
-fn run_case(
-    out: Stdout,
-    text: &[u8],
-    input: &[u8],
-    space_len: usize,
-    room_len: usize,
-    budget: u32,
-    records: usize,
-) {
-    let mut space = space_room();
-    let mut room = output_room();
-    if space_len <= 20480 {
-        if room_len <= 20480 {
-            run_in(
-                out,
-                text,
-                input,
-                &mut space[..space_len],
-                &mut room[..room_len],
-                budget,
-                records,
-            );
-        }
-    }
-}
-
-pub(crate) fn answer(
-    out: Stdout,
-    text: &[u8],
-    len: usize,
-    input: &[u8],
-    count: usize,
-    space_len: usize,
-    room_len: usize,
-    budget: u32,
-    records: usize,
-) {
-    if len <= text.len() {
-        if count <= input.len() {
-            run_case(
-                out,
-                &text[..len],
-                &input[..count],
-                space_len,
-                room_len,
-                budget,
-                records,
-            );
-        }
-    }
+pub(crate) fn answer(out: Stdout, text: &[u8], input: &[u8], lent: Lent) {
+    let mut strings = room(OLD);
+    let mut output = room(OLD);
+    let Some(space) = strings.get_mut(..lent.space) else {
+        return;
+    };
+    let Some(printed) = output.get_mut(..lent.room) else {
+        return;
+    };
+    let ran = run_with(
+        text,
+        input,
+        space,
+        printed,
+        &[],
+        lent.records,
+        lent.budget,
+        old_tables(),
+    );
+    show(out, ran, space, printed);
 }

@@ -1,34 +1,25 @@
 -- An item of DATA that is a number begins with a sign or a digit.
 use mathlib.Core.Path.{◌≡◌, refl}
-use mathlib.Core.Bool.{Bool, true, false, cond, ◌||◌, false≢true}
+use mathlib.Core.Logic.{◌⊎◌, ⊎_elim}
+use mathlib.Core.Bool.{Bool, true, false, false≢true}
 use mathlib.Core.List.{List, [], ◌∷◌}
-use Prim.Native.Nat.{ℕ, ◌≤◌, zero-le}
+use Prim.Native.Nat.{ℕ, ◌≤◌}
 use native.Mathlib.Omega.{arith}
-use borrow.Author.Tests.{lt-ltb, ne_eqb, eqb-true}
+use borrow.Author.Tests.{lt-ltb, eq-eqb, ne_eqb, eqb-true}
 use lib.ListN.{length, get_or, drop}
 use Rattle.whole.specs.Bytes.{is, leading}
 use Rattle.whole.specs.Digits.{is_digit, blanks_of, val_of, signed_value, sign_length, digits_only}
 
-sign_short : (t : Bool) → cond t 1 0 ≤ 1
-sign_short true = omega arith
-sign_short false = omega arith
-
--- a sign is a byte of the item
-pub sign_inside : (s : List ℕ) → sign_length s ≤ length s
+-- a sign is the first byte
+pub sign_first : (s : List ℕ) → 1 ≤ length s → (get_or s 0 0 ≡ 45) ⊎ (get_or s 0 0 ≡ 43) → sign_length s ≡ 1
 unfolding sign_length
-sign_inside [] = zero-le
-sign_inside (b ∷ s) = omega (arith, sign_short (is "-" b || is "+" b))
+sign_first [] h e = absurd (omega arith)
+sign_first (b ∷ s) h e = ⊎_elim (λ m. rw (eq-eqb b 45 m)) (λ p. rw p) e
 
--- it is the first byte
-pub no_sign : (s : List ℕ) → length s ≡ 0 → 0 ≡ sign_length s
+pub no_sign : (s : List ℕ) → (1 ≤ length s → get_or s 0 0 ≡ 45 → ⊥) → (1 ≤ length s → get_or s 0 0 ≡ 43 → ⊥) → sign_length s ≡ 0
 unfolding sign_length
-no_sign [] e = refl
-no_sign (b ∷ s) e = absurd (omega arith)
-
-pub sign_first : (s : List ℕ) → (length s ≡ 0 → ⊥) → sign_length s ≡ cond (is "-" (get_or s 0 0) || is "+" (get_or s 0 0)) 1 0
-unfolding sign_length
-sign_first [] h = absurd (h refl)
-sign_first (b ∷ s) h = refl
+no_sign [] m p = refl
+no_sign (b ∷ s) m p = rw (ne_eqb b 45 (m (omega arith)), ne_eqb b 43 (p (omega arith)))
 
 -- a blank is neither a sign nor a digit
 blank_first : (s : List ℕ) → digits_only (drop (sign_length (32 ∷ s)) (32 ∷ s)) ≡ false

@@ -1,21 +1,23 @@
 -- How a numeral grows: one digit where the number is below the base, else the digits of the quotient and then the last one.
 -- And how a text in its buffer grows.
-use mathlib.Core.Path.{◌≡◌, refl, ap, ◌∙◌}
+use mathlib.Core.Path.{◌≡◌, refl, sym, ap, ◌∙◌}
 use mathlib.Core.Logic.{⊎_elim}
-use mathlib.Core.List.{List, [], ◌∷◌, ◌++◌, map, map-append, append_assoc}
+use mathlib.Core.List.{List, [], ◌∷◌, ◌++◌, map, map-append, append_assoc, append-nil}
 use Prim.Native.Nat.{ℕ, zero, suc, ◌+◌, ◌-◌, ◌/◌, ◌%◌, ◌^◌, ◌≤◌, ◌<◌, zero-le, suc-le-suc}
 use native.Mathlib.Nat.{le_refl, le_step, zero-div, zero-mod, div-eq_of_lt, mod-eq_of_lt, div-lt_iff_lt-mul, le-div_iff_mul-le, pow-zero, pow-suc}
 use native.Mathlib.Omega.{arith}
 use native.Mathlib.Numerals.{add-one}
-use borrow.Author.Tests.{lt-ltb}
-use lib.IntN.{nat_abs}
+use borrow.Author.Tests.{lt-ltb, ltb-true}
+use lib.IntN.{ℤ, pos, negsuc, nat_abs}
+use lib.Signed.{lt_z}
+use mathlib.Core.Bool.{true, false}
 use lib.ListN.{length, take, replicate, length-append, length-map, replicate-append-replicate}
 use lib.Seq.{take-append_seam, set-append_seam, append_snoc}
 use Rattle.whole.specs.declared.texts.Text.{Text}
 use Rattle.whole.specs.Bytes.{blank}
-use Rattle.whole.specs.Texts.{longest_string, held, with_byte, places, trimmed, digit_byte, numeral, signed_numeral}
+use Rattle.whole.specs.Texts.{longest_string, held, with_byte, with_bytes, places, trimmed, digit_byte, numeral, sign_byte, signed_numeral}
 use Rattle.whole.specs.Whole.{num}
-use Rattle.whole.proofs.Numbers.{less, num_low, num_high}
+use Rattle.whole.proofs.Numbers.{less}
 
 -- ---- a text in its buffer
 
@@ -35,6 +37,21 @@ unfolding held with_byte
 held_put l b h =
     let room : longest_string - length l ≡ suc (longest_string - (length l + 1)) = omega arith in
     rw (lt-ltb (length l) longest_string h, length-append l (b ∷ []), room, set-append_seam l 0, append_snoc l b)
+
+-- as far as there is room, bytes stand after those before
+pub held_bytes : (l s : List ℕ) → length l + length s ≤ longest_string → with_bytes (held l) s ≡ held (l ++ s)
+unfolding with_bytes
+held_bytes l [] h = ap held (sym (append-nil l))
+held_bytes l (b ∷ s) h =
+    ap (λ t. with_bytes t s) (held_put l b (omega arith))
+    ∙ held_bytes (l ++ (b ∷ [])) s (omega (arith, length-append l (b ∷ [])))
+    ∙ ap held (append_assoc l (b ∷ []) s)
+
+-- bytes put one list after the other
+with_bytes-append : (t : Text) (a b : List ℕ) → with_bytes t (a ++ b) ≡ with_bytes (with_bytes t a) b
+unfolding with_bytes
+with_bytes-append t [] b = refl
+with_bytes-append t (x ∷ a) b = with_bytes-append (with_byte t x) a b
 
 -- ---- numerals
 
@@ -125,29 +142,30 @@ module _ (base : ℕ) where
         rw (trim_more (places base k (n / base)) (n % base) s, map-append digit_byte)
 
     -- the same of a text with a numeral after it, as `put_numeral` makes it
-    pub put_one : (l : List ℕ) (k n : ℕ) → n < base → length l + suc k ≤ longest_string
-        → with_byte (held l) (digit_byte n) ≡ held (l ++ numeral base (suc k) n)
-    put_one l k n h r = rw (numeral_one k n h) (held_put l (digit_byte n) (omega arith))
+    pub put_one : (t : Text) (k n : ℕ) → n < base → with_byte t (digit_byte (n % base)) ≡ with_bytes t (numeral base (suc k) n)
+    unfolding with_bytes
+    put_one t k n h = rw (numeral_one k n h, mod-eq_of_lt h)
 
-    pub put_more : (l : List ℕ) (k n : ℕ) (front : Text) → base ≤ n → n < base ^ suc k → length l + suc k ≤ longest_string
-        → ((j : ℕ) → n / base < base ^ suc j → length l + suc j ≤ longest_string → front ≡ held (l ++ numeral base (suc j) (n / base)))
-        → with_byte front (digit_byte (n % base)) ≡ held (l ++ numeral base (suc k) n)
-    put_more l zero n front m h r f = absurd (omega (arith, quotient_fits 0 n h, quotient_from n m, pow-zero base))
-    put_more l (suc j) n front m h r f =
-        let q = numeral base (suc j) (n / base) in
-        let s : length (l ++ q) < longest_string = omega (arith, length-append l q, numeral-length (suc j) (n / base)) in
-        rw (f j (quotient_fits (suc j) n h) (omega arith), numeral_more (suc j) n m h, ← append_assoc)
-        (held_put (l ++ q) (digit_byte (n % base)) s)
+    pub put_more : (t : Text) (k n : ℕ) (front : Text) → base ≤ n → n < base ^ suc k
+        → ((j : ℕ) → n / base < base ^ suc j → front ≡ with_bytes t (numeral base (suc j) (n / base)))
+        → with_byte front (digit_byte (n % base)) ≡ with_bytes t (numeral base (suc k) n)
+    unfolding with_bytes
+    put_more t zero n front m h f = absurd (omega (arith, quotient_fits 0 n h, quotient_from n m, pow-zero base))
+    put_more t (suc j) n front m h f = rw (f j (quotient_fits (suc j) n h), numeral_more (suc j) n m h, with_bytes-append)
 
--- ---- STR$, of a word that holds a number from 0 on, and of one that holds one below
+    -- as far as there is room, a numeral's digits stand after the bytes before
+    pub held_numeral : (l : List ℕ) (k n : ℕ) → length l + k ≤ longest_string → with_bytes (held l) (numeral base k n) ≡ held (l ++ numeral base k n)
+    held_numeral l k n h = held_bytes l (numeral base k n) (omega (arith, numeral-length k n))
 
-pub shown_low : (w : ℕ) → w < 32768 → signed_numeral w ≡ blank ∷ numeral 10 5 w
-unfolding signed_numeral
-shown_low w h = rw (num_low w h)
+-- ---- STR$: a minus for a number below zero, a blank for any other
 
-pub shown_high : (w : ℕ) → 32768 ≤ w → w < 65536 → signed_numeral w ≡ 45 ∷ numeral 10 5 (65535 - w + 1)
-unfolding signed_numeral
-shown_high w l h = rw (num_high w l h, add-one (65535 - w))
+pub shown_below : (z : ℤ) → lt_z z (pos 0) ≡ true → sign_byte z ≡ 45
+shown_below (pos n) e = let h = ltb-true n 0 e in absurd (omega arith)
+shown_below (negsuc n) e = refl
+
+pub shown_above : (z : ℤ) → lt_z z (pos 0) ≡ false → sign_byte z ≡ blank
+shown_above (pos n) e = refl
+shown_above (negsuc n) e = cc
 
 pub shown_length : (w : ℕ) → length (signed_numeral w) ≤ 6
 unfolding signed_numeral

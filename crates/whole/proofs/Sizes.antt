@@ -1,24 +1,28 @@
 -- How large a result is: it fits the 32 bits in which the code works, so that the code works on the numbers themselves.
-use mathlib.Core.Path.{◌≡◌, ap, ap₂, ◌∙◌}
+use Rattle.std.specs.Prelude.{Result, ℕ}
+use Rattle.whole.specs.declared.errors.Error.{Error}
+use borrow.Author.Tests.{lt-ltb, le-ltb}
+use mathlib.Core.Logic.{⊎_elim}
+use mathlib.Core.Path.{◌≡◌, refl, sym, ap, ap₂, ◌∙◌}
 use mathlib.Core.Bool.{Bool, true, false, cond}
 use Prim.Native.Nat.{ℕ, zero, suc, ◌+◌, ◌-◌, ◌*◌, ◌/◌, ◌^◌, ◌≤◌, ◌<◌, zero-le}
 use native.Mathlib.Nat.{le_refl, le_trans, div-le_self, mul-le-mul}
 use native.Mathlib.Omega.{arith}
 use lib.IntN.{ℤ, pos, negsuc, sub_ℕ, ◌+ℤ◌, ◌-ℤ◌, ◌*ℤ◌, neg_ℤ, nat_abs}
-use lib.Signed.{mag, quot_z, rem_z, mag_rem, nat_abs-le}
+use lib.Signed.{mag, quot_z, nat_abs-le}
 use lib.Dec.{ltb}
+use Rattle.std.specs.Int.{int_signum}
 use mir.Syntax.{w16, w32}
 use mir.Val.{Fits, SFits, to_z, of_z}
-use mir.Facts.{to_z-of_z, to_z_pos}
-use Rattle.whole.specs.declared.arithmetic.Answer.{Answer}
-use Rattle.whole.specs.Whole.{num, fit, say}
+use mir.Facts.{to_z-of_z}
+use Rattle.whole.specs.Whole.{num, word, fit, sign_of}
 use Rattle.whole.specs.bridge.Wide.{back}
-use Rattle.whole.proofs.Numbers.{num_either, num_small}
+use Rattle.whole.proofs.Numbers.{less, num_low, num_high, num_either, num_small}
 
 -- ---- how large a result is
 
 -- of -x, -n, a difference, a sum, a product, a quotient
-mag_neg : (x : ℤ) → mag (neg_ℤ x) ≤ mag x + 1
+pub mag_neg : (x : ℤ) → mag (neg_ℤ x) ≤ mag x + 1
 mag_neg (pos zero) = zero-le
 mag_neg (pos (suc n)) = omega arith
 mag_neg (negsuc n) = omega arith
@@ -70,20 +74,35 @@ mul_small x y p q =
 pub quot_small : Small quot_z
 quot_small x y p q = omega (arith, mag_quot x y, nat_abs-le x p)
 
-pub rem_small : Small rem_z
-rem_small x y p q = omega (arith, mag_rem x y)
-
 -- ---- a number in 32 bits
 
 pub back_is : (z : ℤ) → mag z < 2 ^ 31 → back z ≡ z
 back_is z h = to_z-of_z {w = w32} {z = z} (record { sfits = h })
 
--- a word is read as it is, and back
-pub word_read : (w : ℕ) → Fits w16 w → to_z w32 w ≡ pos w
-word_read w f = to_z_pos w32 (omega (arith, f.fits))
+-- the 16 bits of a word, read as signed, are its number
+pub signed_num : (w : ℕ) → w < 65536 → to_z w16 w ≡ num w
+signed_num w h =
+    ⊎_elim (λ l. simp (lt-ltb w 32768 l) (sym (num_low w l)))
+    (λ l. let bits : 65536 - suc w ≡ 65535 - w = omega arith in simp (le-ltb w 32768 l, bits) (sym (num_high w l h))) (less w 32768)
 
-pub word_back : (w : ℕ) → w < 65536 → back (pos w) ≡ pos w
-word_back w h = back_is (pos w) (omega arith)
+-- what 16 bits hold as signed comes back from them, and they are its word
+pub signed_back : (z : ℤ) → mag z < 32768 → to_z w16 (of_z w16 z) ≡ z
+signed_back z h = to_z-of_z {w = w16} {z = z} (record { sfits = h })
+
+pub signed_word : (z : ℤ) → mag z < 32768 → of_z w16 z ≡ word z
+signed_word (pos n) h = refl
+signed_word (negsuc n) h = omega arith
+
+-- of its sign, too
+pub sign_back : (z : ℤ) → mag (sign_of z) < 32768
+sign_back (pos zero) = omega arith
+sign_back (pos (suc n)) = omega arith
+sign_back (negsuc n) = omega arith
+
+pub sign_same : (z : ℤ) → int_signum z ≡ sign_of z
+sign_same (pos zero) = refl
+sign_same (pos (suc n)) = ap pos (omega arith)
+sign_same (negsuc n) = refl
 
 -- x is the number of a word
 pub record Of (w : ℕ) (x : ℤ) : Type 0 where
@@ -113,16 +132,12 @@ module _ {a b : ℕ} {x y : ℤ} (sides : Of a x × Of b y) where
     op_back : back (op (back x) (back y)) ≡ op (num a) (num b)
     op_back = ap back (ap₂ op (back-num sides.0) (back-num sides.1)) ∙ back_is (op (num a) (num b)) within
 
-    pub op_ends : {ans : Answer} → ans ≡ fit (back (op (back x) (back y))) → ans ≡ fit (op (num a) (num b))
+    pub op_ends : {ans : Result ℕ Error} → ans ≡ fit (back (op (back x) (back y))) → ans ≡ fit (op (num a) (num b))
     op_ends e = e ∙ ap fit op_back
 
     -- where a function of its own works it out
-    pub call_ends : {q : ℤ} → q ≡ back (op (back x) (back y)) → {ans : Answer} → ans ≡ fit (back q) → ans ≡ fit (op (num a) (num b))
+    pub call_ends : {q : ℤ} → q ≡ back (op (back x) (back y)) → {ans : Result ℕ Error} → ans ≡ fit (back q) → ans ≡ fit (op (num a) (num b))
     call_ends f e = e ∙ ap fit (ap back (f ∙ op_back) ∙ back_is (op (num a) (num b)) within)
-
-  -- a comparison says what it says of the numbers
-  pub test_ends : (test : ℤ → ℤ → Bool) {ans : Answer} → ans ≡ say (test (back x) (back y)) → ans ≡ say (test (num a) (num b))
-  test_ends test e = e ∙ ap say (ap₂ test (back-num sides.0) (back-num sides.1))
 
 -- the number of a word that is not 0 is a divisor
 pub divisor : {w : ℕ} {x : ℤ} → Of w x → (w ≡ 0 → ⊥) → 0 < of_z w32 x

@@ -1,4 +1,6 @@
 -- Two theorems of the operators: NOT (A AND B) = NOT A OR NOT B, and A = (A \ B) * B + A MOD B.
+use Rattle.std.specs.Prelude.{Err, Ok, Result, ℕ}
+use Rattle.whole.specs.declared.errors.Error.{Error}
 use mathlib.Core.Path.{◌≡◌, refl, sym, ap, ◌∙◌}
 use mathlib.Core.Logic.{⊎_elim}
 use Prim.Native.Nat.{ℕ, zero, suc, ◌+◌, ◌-◌, ◌*◌, ◌/◌, ◌%◌, ◌^◌, ◌≤◌, ◌<◌, zero-le, min, max}
@@ -9,16 +11,14 @@ use lib.Arith.{lt-one}
 use lib.Bits.{bit_and, bit_or, and_step, or_step, and_lt}
 use lib.IntN.{ℤ, pos, negsuc, ◌+ℤ◌, ◌*ℤ◌, neg_ℤ, neg_ℤ-+ℤ}
 use lib.Signed.{mag, quot_z, rem_z, mag_rem}
-use Rattle.whole.specs.declared.arithmetic.Answer.{Answer}
-use Rattle.whole.specs.declared.arithmetic.Answer.TheVariants.{Whole, Fault}
 use Rattle.whole.specs.declared.arithmetic.Operator.TheVariants.{Multiply, Divide, Modulo, Add, And, Or}
 use Rattle.whole.specs.Whole.{num, word, applied, flipped}
 use Rattle.whole.proofs.Numbers.{less, num_small, num-word, word-num, fit_in}
 
 -- an error ends what follows
-abbrev pub and_then : Answer → (ℕ → Answer) → Answer
-and_then (Whole w) f = f w
-and_then (Fault e) f = Fault e
+abbrev pub and_then : Result ℕ Error → (ℕ → Result ℕ Error) → Result ℕ Error
+and_then (Ok w) f = f w
+and_then (Err e) f = Err e
 
 -- ---- NOT (A AND B) = NOT A OR NOT B
 
@@ -51,8 +51,8 @@ demorgan (suc k) a b ha hb =
     (join p _ _ _ _ (and_lt k (a / 2) (b / 2) hx hy) (demorgan k (a / 2) (b / 2) hx hy) (digit (a % 2) (b % 2) (omega arith) (omega arith)))
 
 pub not_and : (a b : ℕ) → a < 65536 → b < 65536
-    → and_then (applied And a b) (λ w. Whole (flipped w)) ≡ applied Or (flipped a) (flipped b)
-not_and a b ha hb = ap Whole (demorgan 16 a b ha hb)
+    → and_then (applied And a b) (λ w. Ok (flipped w)) ≡ applied Or (flipped a) (flipped b)
+not_and a b ha hb = ap Ok (demorgan 16 a b ha hb)
 
 -- ---- A = (A \ B) * B + A MOD B, first of numbers
 
@@ -96,7 +96,7 @@ product_in (negsuc a) (negsuc b) = mag_minus (suc a / suc b * suc b) a (omega (a
 
 -- unless B is 0, or A is -32768 and B is -1
 pub division : (a b : ℕ) → a < 65536 → b < 65536 → (b ≡ 0 → ⊥) → (a ≡ 0x8000 → b ≡ 0xFFFF → ⊥)
-    → and_then (applied Divide a b) (λ q. and_then (applied Multiply q b) (λ p. and_then (applied Modulo a b) (applied Add p))) ≡ Whole a
+    → and_then (applied Divide a b) (λ q. and_then (applied Multiply q b) (λ p. and_then (applied Modulo a b) (applied Add p))) ≡ Ok a
 division a b ha hb nz ne =
     let x = num a in
     let y = num b in

@@ -1,13 +1,10 @@
 -- Digits read to a value, and VAL.
-use Rattle.std.specs.Prelude.{Bool, cond, ◌&&◌, ◌||◌, List, [], ◌∷◌, ℕ, ◌+◌, ◌-◌, ◌*◌, leb, ltb, eqb, pos, neg_ℤ, length, drop}
+use Rattle.whole.specs.declared.errors.Error.{Error}
+use Rattle.std.specs.Prelude.{Bool, cond, ◌&&◌, ◌||◌, List, [], ◌∷◌, ℕ, ◌+◌, ◌-◌, ◌*◌, leb, ltb, eqb, pos, neg_ℤ, length, drop, Err, None, Option, Result, Some}
 use Prim.Native.Char.{code}
 use Rattle.whole.specs.Bytes.{is, leading}
 use Rattle.whole.specs.Whole.{fit}
 use Rattle.whole.specs.declared.errors.Error.TheVariants.{IllegalFunctionCall}
-use Rattle.whole.specs.declared.arithmetic.Answer.{Answer}
-use Rattle.whole.specs.declared.arithmetic.Answer.TheVariants.{Fault}
-use Rattle.whole.specs.declared.digits.Magnitude.{Magnitude}
-use Rattle.whole.specs.declared.digits.Magnitude.TheVariants.{Fits, TooLarge}
 use Rattle.whole.specs.declared.digits.Digits.{Digits}
 
 -- ---- digits
@@ -29,8 +26,8 @@ abbrev pub leading_value : List ℕ → ℕ
 leading_value s = value_from 0 (leading_digits s)
 
 -- a value that 16 bits hold, or 'too large'
-unfoldable pub capped : ℕ → Magnitude
-capped n = cond (leb n 65535) (Fits n) TooLarge
+unfoldable pub capped : ℕ → Option ℕ
+capped n = cond (leb n 65535) (Some n) None
 
 -- how many digits bytes begin with, and what they are worth
 unfoldable pub digits_of : List ℕ → Digits
@@ -43,14 +40,14 @@ abbrev pub blanks_of : List ℕ → ℕ
 blanks_of s = length (leading (is " ") s)
 
 -- at most one + or -, then digits until something else; none: 0
-unfoldable pub signed_value : List ℕ → Answer
+unfoldable pub signed_value : List ℕ → Result ℕ Error
 signed_value [] = fit (pos 0)
 signed_value (b ∷ s) =
     cond (is "-" b) (fit (neg_ℤ (pos (leading_value s))))
     (cond (is "+" b) (fit (pos (leading_value s))) (fit (pos (leading_value (b ∷ s)))))
 
 -- leading blanks, then that
-abbrev pub val_of : List ℕ → Answer
+abbrev pub val_of : List ℕ → Result ℕ Error
 val_of s = signed_value (drop (blanks_of s) s)
 
 -- ---- a number read from an item of DATA
@@ -65,5 +62,5 @@ unfoldable pub digits_only : List ℕ → Bool
 digits_only s = ltb 0 (length s) && eqb (length (leading_digits s)) (length s)
 
 -- one optional sign and digits only, else error 5; out of range 6; no blanks are skipped
-unfoldable pub number_item : List ℕ → Answer
-number_item s = cond (digits_only (drop (sign_length s) s)) (signed_value s) (Fault IllegalFunctionCall)
+unfoldable pub number_item : List ℕ → Result ℕ Error
+number_item s = cond (digits_only (drop (sign_length s) s)) (signed_value s) (Err IllegalFunctionCall)

@@ -1,12 +1,11 @@
 -- Worked examples, computed by the checker.
-use Rattle.std.specs.Prelude.{◌≡◌, refl, List, [], ◌∷◌, map, ℕ, pos, neg_ℤ}
+use Rattle.whole.specs.declared.errors.Error.{Error}
+use Rattle.std.specs.Prelude.{◌≡◌, refl, List, [], ◌∷◌, map, ℕ, pos, neg_ℤ, Err, Ok, Result}
 use Rattle.whole.specs.Bytes.{bytes, leading}
 use Rattle.whole.specs.Whole.{num, word, fit, applied, negated, magnitude}
 use Rattle.whole.specs.Texts.{places, trimmed, digit_byte, numeral, signed_numeral, printed_number, hexadecimal}
 use Rattle.whole.specs.Digits.{is_digit, value_from, signed_value, val_of, sign_length, digits_only, number_item}
 use Rattle.whole.specs.declared.errors.Error.TheVariants.{IllegalFunctionCall, Overflow, DivisionByZero}
-use Rattle.whole.specs.declared.arithmetic.Answer.{Answer}
-use Rattle.whole.specs.declared.arithmetic.Answer.TheVariants.{Whole, Fault}
 use Rattle.whole.specs.declared.arithmetic.Operator.TheVariants.{Multiply, Divide, Modulo, Add, Less, And}
 
 -- the word of -n
@@ -24,27 +23,27 @@ a gives b = record { asked = a; answered = b }
 
 -- ---- document 01's starred examples of arithmetic, and some beside them
 
-pub arithmetic : List (Example Answer)
+pub arithmetic : List (Example (Result ℕ Error))
 arithmetic =
     -- -7\2 is -3, -7 MOD 2 is -1, 7 MOD -2 is 1
-    (applied Divide (minus 7) 2 gives Whole (minus 3))
-    ∷ (applied Modulo (minus 7) 2 gives Whole (minus 1))
-    ∷ (applied Modulo 7 (minus 2) gives Whole 1)
+    (applied Divide (minus 7) 2 gives Ok (minus 3))
+    ∷ (applied Modulo (minus 7) 2 gives Ok (minus 1))
+    ∷ (applied Modulo 7 (minus 2) gives Ok 1)
     -- 32767+1 is 6, &H8000\-1 is 6, &H8000 MOD -1 is 0
-    ∷ (applied Add 32767 1 gives Fault Overflow)
-    ∷ (applied Divide 0x8000 (minus 1) gives Fault Overflow)
-    ∷ (applied Modulo 0x8000 (minus 1) gives Whole 0)
+    ∷ (applied Add 32767 1 gives Err Overflow)
+    ∷ (applied Divide 0x8000 (minus 1) gives Err Overflow)
+    ∷ (applied Modulo 0x8000 (minus 1) gives Ok 0)
     -- -1 AND 8 is 8
-    ∷ (applied And (minus 1) 8 gives Whole 8)
-    ∷ (applied Divide 5 0 gives Fault DivisionByZero)
-    ∷ (applied Modulo 5 0 gives Fault DivisionByZero)
-    ∷ (applied Multiply (minus 256) 128 gives Whole 0x8000)
-    ∷ (applied Less (minus 1) 0 gives Whole (minus 1))
-    ∷ (negated 0x8000 gives Fault Overflow)
-    ∷ (magnitude 0x8000 gives Fault Overflow)
+    ∷ (applied And (minus 1) 8 gives Ok 8)
+    ∷ (applied Divide 5 0 gives Err DivisionByZero)
+    ∷ (applied Modulo 5 0 gives Err DivisionByZero)
+    ∷ (applied Multiply (minus 256) 128 gives Ok 0x8000)
+    ∷ (applied Less (minus 1) 0 gives Ok (minus 1))
+    ∷ (negated 0x8000 gives Err Overflow)
+    ∷ (magnitude 0x8000 gives Err Overflow)
     ∷ []
 
-pub arithmetic_holds : map (λ (e : Example Answer). e.asked) arithmetic ≡ map (λ (e : Example Answer). e.answered) arithmetic
+pub arithmetic_holds : map (λ (e : Example (Result ℕ Error)). e.asked) arithmetic ≡ map (λ (e : Example (Result ℕ Error)). e.answered) arithmetic
 unfolding arithmetic num fit
 arithmetic_holds = refl
 
@@ -66,46 +65,46 @@ texts_hold = refl
 
 -- ---- VAL
 
-pub values : List (Example Answer)
+pub values : List (Example (Result ℕ Error))
 values =
-    (val_of (bytes "") gives Whole 0)
-    ∷ (val_of (bytes "  -12X3") gives Whole (minus 12))
-    ∷ (val_of (bytes "+7") gives Whole 7)
-    ∷ (val_of (bytes "--7") gives Whole 0)
-    ∷ (val_of (bytes "-32768") gives Whole 0x8000)
-    ∷ (val_of (bytes "32768") gives Fault Overflow)
-    ∷ (val_of (bytes "99999999999999999999") gives Fault Overflow)
+    (val_of (bytes "") gives Ok 0)
+    ∷ (val_of (bytes "  -12X3") gives Ok (minus 12))
+    ∷ (val_of (bytes "+7") gives Ok 7)
+    ∷ (val_of (bytes "--7") gives Ok 0)
+    ∷ (val_of (bytes "-32768") gives Ok 0x8000)
+    ∷ (val_of (bytes "32768") gives Err Overflow)
+    ∷ (val_of (bytes "99999999999999999999") gives Err Overflow)
     ∷ []
 
-pub values_hold : map (λ (e : Example Answer). e.asked) values ≡ map (λ (e : Example Answer). e.answered) values
+pub values_hold : map (λ (e : Example (Result ℕ Error)). e.asked) values ≡ map (λ (e : Example (Result ℕ Error)). e.answered) values
 unfolding values fit bytes leading signed_value is_digit value_from
 values_hold = refl
 
 -- ---- numbers read from items of DATA
 
-pub items : List (Example Answer)
+pub items : List (Example (Result ℕ Error))
 items =
-    (number_item (bytes "0099") gives Whole 99)
-    ∷ (number_item (bytes "+5") gives Whole 5)
-    ∷ (number_item (bytes "-0") gives Whole 0)
-    ∷ (number_item (bytes "-32768") gives Whole 0x8000)
+    (number_item (bytes "0099") gives Ok 99)
+    ∷ (number_item (bytes "+5") gives Ok 5)
+    ∷ (number_item (bytes "-0") gives Ok 0)
+    ∷ (number_item (bytes "-32768") gives Ok 0x8000)
     -- out of range
-    ∷ (number_item (bytes "32768") gives Fault Overflow)
-    ∷ (number_item (bytes "-32769") gives Fault Overflow)
-    ∷ (number_item (bytes "99999999999999999999") gives Fault Overflow)
+    ∷ (number_item (bytes "32768") gives Err Overflow)
+    ∷ (number_item (bytes "-32769") gives Err Overflow)
+    ∷ (number_item (bytes "99999999999999999999") gives Err Overflow)
     -- the empty item, a lone sign, two signs
-    ∷ (number_item (bytes "") gives Fault IllegalFunctionCall)
-    ∷ (number_item (bytes "+") gives Fault IllegalFunctionCall)
-    ∷ (number_item (bytes "-") gives Fault IllegalFunctionCall)
-    ∷ (number_item (bytes "+-1") gives Fault IllegalFunctionCall)
+    ∷ (number_item (bytes "") gives Err IllegalFunctionCall)
+    ∷ (number_item (bytes "+") gives Err IllegalFunctionCall)
+    ∷ (number_item (bytes "-") gives Err IllegalFunctionCall)
+    ∷ (number_item (bytes "+-1") gives Err IllegalFunctionCall)
     -- blanks are no digits, and a byte that is none tells before the range does
-    ∷ (number_item (bytes " 1") gives Fault IllegalFunctionCall)
-    ∷ (number_item (bytes "1 ") gives Fault IllegalFunctionCall)
-    ∷ (number_item (bytes "1 2") gives Fault IllegalFunctionCall)
-    ∷ (number_item (bytes "&H1F") gives Fault IllegalFunctionCall)
-    ∷ (number_item (bytes "99999X") gives Fault IllegalFunctionCall)
+    ∷ (number_item (bytes " 1") gives Err IllegalFunctionCall)
+    ∷ (number_item (bytes "1 ") gives Err IllegalFunctionCall)
+    ∷ (number_item (bytes "1 2") gives Err IllegalFunctionCall)
+    ∷ (number_item (bytes "&H1F") gives Err IllegalFunctionCall)
+    ∷ (number_item (bytes "99999X") gives Err IllegalFunctionCall)
     ∷ []
 
-pub items_hold : map (λ (e : Example Answer). e.asked) items ≡ map (λ (e : Example Answer). e.answered) items
+pub items_hold : map (λ (e : Example (Result ℕ Error)). e.asked) items ≡ map (λ (e : Example (Result ℕ Error)). e.answered) items
 unfolding items fit bytes leading signed_value is_digit value_from sign_length digits_only number_item
 items_hold = refl

@@ -17,6 +17,11 @@ held l = record { bytes = l ++ replicate (longest_string - length l) 0; len = le
 unfoldable pub with_byte : Text → ℕ → Text
 with_byte t b = cond (ltb t.len longest_string) (record { bytes = set t.bytes t.len b; len = t.len + 1 }) t
 
+-- a string with bytes after it, one by one
+unfoldable pub with_bytes : Text → List ℕ → Text
+with_bytes t [] = t
+with_bytes t (b ∷ s) = with_bytes (with_byte t b) s
+
 -- ---- numerals
 
 -- the digits of n in a base, in so many places, the first place counting most

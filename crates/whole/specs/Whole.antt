@@ -1,12 +1,11 @@
--- Whole numbers are -32768 to 32767. A whole number is held as a word, a number below 65536, in two's complement.
+-- Ok numbers are -32768 to 32767. A whole number is held as a word, a number below 65536, in two's complement.
 -- What an operator answers is said over ℤ: `num` is the number that a word holds, `word` the word that holds a number,
 -- and `fit` the answer of an operation whose result is z.
-use Rattle.std.specs.Prelude.{Bool, true, false, not, cond, ℕ, zero, suc, ◌-◌, ℤ, pos, negsuc, ◌+ℤ◌, ◌-ℤ◌, ◌*ℤ◌, neg_ℤ, nat_abs, ltb, eqb}
+use Rattle.whole.specs.declared.errors.Error.{Error}
+use Rattle.std.specs.Prelude.{Bool, true, false, not, cond, ℕ, zero, suc, ◌-◌, ℤ, pos, negsuc, ◌+ℤ◌, ◌-ℤ◌, ◌*ℤ◌, neg_ℤ, nat_abs, ltb, eqb, Err, Ok, Result}
 use Rattle.std.specs.Int.Signed.{lt_z, le_z, quot_z, rem_z}
 use Rattle.std.specs.Int.Bits.{bit_and, bit_or, bit_xor}
 use Rattle.whole.specs.declared.errors.Error.TheVariants.{Overflow, DivisionByZero}
-use Rattle.whole.specs.declared.arithmetic.Answer.{Answer}
-use Rattle.whole.specs.declared.arithmetic.Answer.TheVariants.{Whole, Fault}
 use Rattle.whole.specs.declared.arithmetic.Operator.{Operator}
 use Rattle.whole.specs.declared.arithmetic.Operator.TheVariants.{
   Multiply,
@@ -37,17 +36,17 @@ word (pos n) = n
 word (negsuc n) = 65535 - n
 
 -- a result outside -32768 to 32767 is error 6
-unfoldable pub fit : ℤ → Answer
-fit z = cond (lt_z (pos 32767) z) (Fault Overflow) (cond (lt_z z (negsuc 32767)) (Fault Overflow) (Whole (word z)))
+unfoldable pub fit : ℤ → Result ℕ Error
+fit z = cond (lt_z (pos 32767) z) (Err Overflow) (cond (lt_z z (negsuc 32767)) (Err Overflow) (Ok (word z)))
 
 -- a zero right side is error 11
-abbrev pub unless_zero : ℕ → Answer → Answer
-unless_zero b answer = cond (eqb b 0) (Fault DivisionByZero) answer
+abbrev pub unless_zero : ℕ → Result ℕ Error → Result ℕ Error
+unless_zero b answer = cond (eqb b 0) (Err DivisionByZero) answer
 
 -- comparisons give -1 or 0
-abbrev pub say : Bool → Answer
-say true = Whole (word (negsuc 0))
-say false = Whole (word (pos 0))
+abbrev pub say : Bool → Result ℕ Error
+say true = Ok (word (negsuc 0))
+say false = Ok (word (pos 0))
 
 -- logic is on the 16 bits: the word with each of them turned
 abbrev pub flipped : ℕ → ℕ
@@ -55,7 +54,7 @@ flipped a = 65535 - a
 
 -- the two-sided operators, each at its left and right side
 -- `quot_z` cuts toward zero, `rem_z` has the sign of the left side; words are equal just where their numbers are
-abbrev pub applied : Operator → ℕ → ℕ → Answer
+abbrev pub applied : Operator → ℕ → ℕ → Result ℕ Error
 applied Multiply a b = fit (num a *ℤ num b)
 applied Divide a b = unless_zero b (fit (quot_z (num a) (num b)))
 applied Modulo a b = unless_zero b (fit (rem_z (num a) (num b)))
@@ -67,18 +66,18 @@ applied Less a b = say (lt_z (num a) (num b))
 applied Greater a b = say (lt_z (num b) (num a))
 applied AtMost a b = say (le_z (num a) (num b))
 applied AtLeast a b = say (le_z (num b) (num a))
-applied And a b = Whole (bit_and a b)
-applied Or a b = Whole (bit_or a b)
-applied Xor a b = Whole (bit_xor a b)
-applied Eqv a b = Whole (flipped (bit_xor a b))
-applied Imp a b = Whole (bit_or (flipped a) b)
+applied And a b = Ok (bit_and a b)
+applied Or a b = Ok (bit_or a b)
+applied Xor a b = Ok (bit_xor a b)
+applied Eqv a b = Ok (flipped (bit_xor a b))
+applied Imp a b = Ok (bit_or (flipped a) b)
 
 -- the minus sign
-abbrev pub negated : ℕ → Answer
+abbrev pub negated : ℕ → Result ℕ Error
 negated a = fit (neg_ℤ (num a))
 
 -- ABS
-abbrev pub magnitude : ℕ → Answer
+abbrev pub magnitude : ℕ → Result ℕ Error
 magnitude a = fit (pos (nat_abs (num a)))
 
 -- -1 below zero, 0 at zero, 1 above

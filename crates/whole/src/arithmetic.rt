@@ -6,15 +6,8 @@ ghost use Rattle.whole.specs.bridge.Wide.{back, Divides};
 
 use crate::errors::Error;
 
-// What an operation gives: a whole number, as its word, or the error that ends the run.
-#[derive(Clone, Copy)]
-pub enum Answer {
-    Whole(u16),
-    Fault(Error),
-}
-
 // The operators with two sides, in the order of the paper's list.
-#[derive(Clone, Copy)]
+#[derive(Clone, Copy, PartialEq, Eq)]
 pub enum Operator {
     Multiply,
     Divide,
@@ -38,39 +31,24 @@ pub enum Operator {
 fn number(word: u16) -> i32
     ensures { result ≡ num word }
 {
-    if word < 32768 {
-        word as i32
-    } else {
-        word as i32 - 65536
-    }
+    i32::from(word.cast_signed())
 }
 
 // A result outside -32768 to 32767 is overflow.
-fn fitted(z: i32) -> Answer
+fn fitted(z: i32) -> Result<u16, Error>
     ensures { result ≡ fit z }
 {
-    if z > 32767 {
-        return Answer::Fault(Error::Overflow);
-    }
-    if z < -32768 {
-        return Answer::Fault(Error::Overflow);
-    }
-    if z < 0 {
-        Answer::Whole((z + 65536) as u16)
-    } else {
-        Answer::Whole(z as u16)
-    }
+    let Ok(number) = i16::try_from(z) else {
+        return Err(Error::Overflow);
+    };
+    Ok(number.cast_unsigned())
 }
 
 // Comparisons give -1 or 0.
-fn truth(holds: bool) -> Answer
+pub fn truth(holds: bool) -> Result<u16, Error>
     ensures { result ≡ say holds }
 {
-    if holds {
-        Answer::Whole(65535)
-    } else {
-        Answer::Whole(0)
-    }
+    if holds { Ok(65535) } else { Ok(0) }
 }
 
 // Cut toward zero.
@@ -90,7 +68,7 @@ fn rest(x: i32, y: i32) -> i32
 }
 
 // The answer of an operator at its left and right sides.
-pub fn apply(operator: Operator, left: u16, right: u16) -> Answer
+pub fn apply(operator: Operator, left: u16, right: u16) -> Result<u16, Error>
     ensures { result ≡ applied operator left right }
 {
     let x = number(left);
@@ -98,12 +76,12 @@ pub fn apply(operator: Operator, left: u16, right: u16) -> Answer
     match operator {
         Operator::Multiply => fitted(x * y),
         Operator::Divide => if right == 0 {
-            Answer::Fault(Error::DivisionByZero)
+            Err(Error::DivisionByZero)
         } else {
             fitted(quotient(x, y))
         },
         Operator::Modulo => if right == 0 {
-            Answer::Fault(Error::DivisionByZero)
+            Err(Error::DivisionByZero)
         } else {
             fitted(rest(x, y))
         },
@@ -115,16 +93,16 @@ pub fn apply(operator: Operator, left: u16, right: u16) -> Answer
         Operator::Greater => truth(y < x),
         Operator::AtMost => truth(x <= y),
         Operator::AtLeast => truth(y <= x),
-        Operator::And => Answer::Whole(left & right),
-        Operator::Or => Answer::Whole(left | right),
-        Operator::Xor => Answer::Whole(left ^ right),
-        Operator::Eqv => Answer::Whole(!(left ^ right)),
-        Operator::Imp => Answer::Whole(!left | right),
+        Operator::And => Ok(left & right),
+        Operator::Or => Ok(left | right),
+        Operator::Xor => Ok(left ^ right),
+        Operator::Eqv => Ok(!(left ^ right)),
+        Operator::Imp => Ok(!left | right),
     }
 }
 
 // The minus sign before an operand.
-pub fn negative(word: u16) -> Answer
+pub fn negative(word: u16) -> Result<u16, Error>
     ensures { result ≡ negated word }
 {
     fitted(-number(word))
@@ -138,22 +116,15 @@ pub fn complement(word: u16) -> u16
 }
 
 // ABS.
-pub fn absolute(word: u16) -> Answer
+pub fn absolute(word: u16) -> Result<u16, Error>
     ensures { result ≡ magnitude word }
 {
-    if word < 32768 {
-        Answer::Whole(word)
-    } else {
-        negative(word)
-    }
+    fitted(number(word).abs())
 }
 
 // SGN.
 pub fn sign(word: u16) -> u16
     ensures { result ≡ signum word }
 {
-    if word == 0 {
-        return 0;
-    }
-    if word < 32768 { 1 } else { 65535 }
+    word.cast_signed().signum().cast_unsigned()
 }

@@ -3,170 +3,110 @@ ghost use Rattle.std.specs.Prelude.{◌≡◌, ℕ, ◌+◌, ◌*◌, ◌≤◌,
 ghost use Rattle.whole.specs.Digits.{is_digit, leading_value, capped, digits_of, blanks_of, val_of, sign_length, digits_only, number_item};
 ghost use Rattle.whole.specs.Whole.{fit};
 
-use crate::arithmetic::Answer;
 use crate::errors::Error;
-
-// A value that fits 16 bits, or 'too large'.
-#[derive(Clone, Copy)]
-pub enum Magnitude {
-    Fits(u16),
-    TooLarge,
-}
 
 // The digits that bytes begin with: how many, and their value.
 #[derive(Clone, Copy)]
 pub struct Digits {
     pub count: usize,
-    pub magnitude: Magnitude,
+    pub magnitude: Option<u16>,
 }
 
-// The largest value that fits.
-const LARGEST: u32 = 65535;
-
 // A byte of 0 to 9.
+#[tactic(auto, unfolding(crate::specs::Digits::is_digit))]
 pub fn is_digit(byte: u8) -> bool
     ensures { result ≡ is_digit byte }
 {
-    b'0' <= byte && byte <= b'9'
+    byte.is_ascii_digit()
 }
 
 // The value with one digit more after it: what is too large stays so.
-fn with_digit(magnitude: Magnitude, digit: u8) -> Magnitude
+fn with_digit(magnitude: Option<u16>, digit: u8) -> Option<u16>
     ensures { (n : ℕ) → magnitude ≡ capped n → result ≡ capped (n * 10 + digit) }
 {
-    let Magnitude::Fits(value) = magnitude else {
-        return Magnitude::TooLarge;
-    };
-    let more = value as u32 * 10 + digit as u32;
-    if more <= LARGEST {
-        Magnitude::Fits(more as u16)
-    } else {
-        Magnitude::TooLarge
-    }
+    magnitude?.checked_mul(10)?.checked_add(u16::from(digit))
 }
 
 // All digits up to the first byte that is none.
 pub fn leading_digits(bytes: &[u8]) -> Digits
     ensures { result ≡ digits_of bytes.now }
 {
-    let mut magnitude = Magnitude::Fits(0);
-    let mut count = 0;
-    while count < bytes.len() {
-        let byte = bytes[count];
-        if !is_digit(byte) {
+    let mut magnitude = Some(0);
+    for (count, byte) in bytes.iter().enumerate() {
+        if !is_digit(*byte) {
             return Digits { count, magnitude };
         }
-        magnitude = with_digit(magnitude, byte - b'0');
-        count += 1;
+        magnitude = with_digit(magnitude, *byte - b'0');
     }
-    Digits { count, magnitude }
+    Digits {
+        count: bytes.len(),
+        magnitude,
+    }
 }
 
 // How many blanks bytes begin with.
 pub fn leading_blanks(bytes: &[u8]) -> usize
     ensures { result ≡ blanks_of bytes.now }
 {
-    let mut count = 0;
-    while count < bytes.len() {
-        if bytes[count] != b' ' {
-            return count;
-        }
-        count += 1;
-    }
-    count
+    bytes.iter().take_while(|byte| **byte == b' ').count()
 }
 
 // Digits without a minus sign, as a whole number.
-fn from_zero(magnitude: Magnitude) -> Answer
+fn from_zero(magnitude: Option<u16>) -> Result<u16, Error>
     ensures { (n : ℕ) → magnitude ≡ capped n → result ≡ fit (pos n) }
 {
-    let Magnitude::Fits(value) = magnitude else {
-        return Answer::Fault(Error::Overflow);
-    };
-    if value <= 32767 {
-        Answer::Whole(value)
-    } else {
-        Answer::Fault(Error::Overflow)
+    match magnitude {
+        Some(value) if value <= 32767 => Ok(value),
+        _ => Err(Error::Overflow),
     }
 }
 
 // Digits after a minus sign, as a whole number.
-fn below_zero(magnitude: Magnitude) -> Answer
+fn below_zero(magnitude: Option<u16>) -> Result<u16, Error>
     ensures { (n : ℕ) → magnitude ≡ capped n → result ≡ fit (neg_ℤ (pos n)) }
 {
-    let Magnitude::Fits(value) = magnitude else {
-        return Answer::Fault(Error::Overflow);
-    };
-    if value == 0 {
-        return Answer::Whole(0);
+    match magnitude {
+        Some(value) if value <= 32768 => Ok(value.wrapping_neg()),
+        _ => Err(Error::Overflow),
     }
-    if value <= 32768 {
-        Answer::Whole(65535 - value + 1)
-    } else {
-        Answer::Fault(Error::Overflow)
-    }
-}
-
-// The value of the digits from a place on.
-fn magnitude_from(bytes: &[u8], start: usize) -> Magnitude
-    requires { start ≤ length bytes.now }
-    ensures { result ≡ capped (leading_value (drop start bytes.now)) }
-{
-    let digits = leading_digits(&bytes[start..]);
-    digits.magnitude
 }
 
 // VAL: leading blanks, at most one sign, digits until something else.
-pub fn val(bytes: &[u8]) -> Answer
+pub fn val(bytes: &[u8]) -> Result<u16, Error>
     ensures { result ≡ val_of bytes.now }
 {
     let start = leading_blanks(bytes);
-    if start == bytes.len() {
-        return Answer::Whole(0);
-    }
-    let first = bytes[start];
-    if first == b'-' {
-        return below_zero(magnitude_from(bytes, start + 1));
-    }
-    if first == b'+' {
-        return from_zero(magnitude_from(bytes, start + 1));
-    }
-    from_zero(magnitude_from(bytes, start))
-}
-
-// The length of the sign that bytes begin with: one, or none.
-fn sign_length(bytes: &[u8]) -> usize
-    ensures { result ≡ sign_length bytes.now }
-{
-    if bytes.len() == 0 {
-        return 0;
-    }
-    match bytes[0] {
-        b'-' => 1,
-        b'+' => 1,
-        _ => 0,
+    let rest = &bytes[start..];
+    match rest {
+        [b'-', digits @ ..] => below_zero(leading_digits(digits).magnitude),
+        [b'+', digits @ ..] => from_zero(leading_digits(digits).magnitude),
+        _ => from_zero(leading_digits(rest).magnitude),
     }
 }
 
-// Digits only from a place on, and at least one.
-fn digits_only(bytes: &[u8], start: usize) -> bool
-    requires { start ≤ length bytes.now }
-    ensures { result ≡ digits_only (drop start bytes.now) }
+// What follows the sign that bytes begin with; all of them where they begin with none.
+fn after_sign(bytes: &[u8]) -> &[u8]
+    ensures { result.now ≡ drop (sign_length bytes.now) bytes.now }
 {
-    if start == bytes.len() {
-        return false;
+    match bytes {
+        [b'-' | b'+', rest @ ..] => rest,
+        _ => bytes,
     }
-    let digits = leading_digits(&bytes[start..]);
-    digits.count == bytes.len() - start
+}
+
+// Digits only, and at least one.
+fn digits_only(bytes: &[u8]) -> bool
+    ensures { result ≡ digits_only bytes.now }
+{
+    !bytes.is_empty() && bytes.iter().all(|byte| is_digit(*byte))
 }
 
 // An item of DATA read as a number: one optional sign and digits only.
-pub fn number_item(bytes: &[u8]) -> Answer
+pub fn number_item(bytes: &[u8]) -> Result<u16, Error>
     ensures { result ≡ number_item bytes.now }
 {
-    let start = sign_length(bytes);
-    if !digits_only(bytes, start) {
-        return Answer::Fault(Error::IllegalFunctionCall);
+    if !digits_only(after_sign(bytes)) {
+        return Err(Error::IllegalFunctionCall);
     }
     // It begins with no blank, so VAL reads the same.
     val(bytes)

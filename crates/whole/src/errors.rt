@@ -2,52 +2,40 @@
 ghost use Rattle.std.specs.Prelude.{◌≡◌};
 ghost use Rattle.whole.specs.Errors.{error_number};
 
-#[derive(Clone, Copy)]
+#[derive(Clone, Copy, PartialEq, Eq)]
 pub enum Error {
-    NextWithoutFor,
-    Syntax,
-    ReturnWithoutGosub,
-    OutOfData,
-    IllegalFunctionCall,
-    Overflow,
-    OutOfMemory,
-    UndefinedLine,
-    DivisionByZero,
-    TypeMismatch,
-    OutOfStringSpace,
-    StringTooLong,
-    FormulaTooComplex,
-    LineBufferOverflow,
-    ForWithoutNext,
-    WhileWithoutWend,
-    WendWithoutWhile,
-    InputPastEnd,
-    OutputFull,
+    NextWithoutFor = 1,
+    Syntax = 2,
+    ReturnWithoutGosub = 3,
+    OutOfData = 4,
+    IllegalFunctionCall = 5,
+    Overflow = 6,
+    OutOfMemory = 7,
+    UndefinedLine = 8,
+    DivisionByZero = 11,
+    TypeMismatch = 13,
+    OutOfStringSpace = 14,
+    StringTooLong = 15,
+    FormulaTooComplex = 16,
+    LineBufferOverflow = 23,
+    ForWithoutNext = 26,
+    WhileWithoutWend = 29,
+    WendWithoutWhile = 30,
+    InputPastEnd = 62,
+    OutputFull = 110,
+}
+
+impl From<Error> for u8 {
+    ghost from_gives = { λ error number. number ≡ error_number error };
+
+    fn from(error: Error) -> u8 {
+        error as u8
+    }
 }
 
 // The number that the paper gives an error.
 pub fn number_of(error: Error) -> u8
     ensures { result ≡ error_number error }
 {
-    match error {
-        Error::NextWithoutFor => 1,
-        Error::Syntax => 2,
-        Error::ReturnWithoutGosub => 3,
-        Error::OutOfData => 4,
-        Error::IllegalFunctionCall => 5,
-        Error::Overflow => 6,
-        Error::OutOfMemory => 7,
-        Error::UndefinedLine => 8,
-        Error::DivisionByZero => 11,
-        Error::TypeMismatch => 13,
-        Error::OutOfStringSpace => 14,
-        Error::StringTooLong => 15,
-        Error::FormulaTooComplex => 16,
-        Error::LineBufferOverflow => 23,
-        Error::ForWithoutNext => 26,
-        Error::WhileWithoutWend => 29,
-        Error::WendWithoutWhile => 30,
-        Error::InputPastEnd => 62,
-        Error::OutputFull => 110,
-    }
+    u8::from(error)
 }

@@ -7,7 +7,7 @@ mod digits;
 mod errors;
 mod texts;
 
-pub use arithmetic::{Answer, Operator, absolute, apply, complement, negative, sign};
-pub use digits::{Digits, Magnitude, is_digit, leading_blanks, leading_digits, number_item, val};
+pub use arithmetic::{Operator, absolute, apply, complement, negative, sign, truth};
+pub use digits::{Digits, is_digit, leading_blanks, leading_digits, number_item, val};
 pub use errors::{Error, number_of};
-pub use texts::{Text, decimal_text, hex_digit, hex_text, print_text, str_text};
+pub use texts::{Text, decimal_text, hex_digit, hex_text, print_text, put_numeral, str_text};

@@ -1,6 +1,6 @@
 // The text of a whole number, built in a buffer by value.
-ghost use Rattle.std.specs.Prelude.{◌≡◌, List, [], ◌++◌, ℕ, suc, ◌+◌, ◌%◌, ◌^◌, ◌≤◌, ◌<◌, length};
-ghost use Rattle.whole.specs.Texts.{longest_string, held, with_byte, digit_byte, numeral, signed_numeral, printed_number, hexadecimal};
+ghost use Rattle.std.specs.Prelude.{◌≡◌, [], ℕ, suc, ◌%◌, ◌^◌, ◌≤◌, ◌<◌};
+ghost use Rattle.whole.specs.Texts.{held, with_byte, with_bytes, digit_byte, numeral, signed_numeral, printed_number, hexadecimal};
 
 // The bytes of a text stand first, zeros after them.
 #[derive(Clone, Copy)]
@@ -23,20 +23,15 @@ impl Text {
     }
 
     // The text with one byte more; a full one stays as it is.
-    pub fn put(self, byte: u8) -> Text
+    pub fn put(mut self, byte: u8) -> Text
         ensures { result ≡ with_byte self byte }
     {
-        let len = self.len;
-        let at = len as usize;
-        if at == Text::LONGEST {
-            return self;
+        let at = usize::from(self.len);
+        if at < Text::LONGEST {
+            self.bytes[at] = byte;
+            self.len += 1;
         }
-        let mut bytes = self.bytes;
-        bytes[at] = byte;
-        Text {
-            bytes,
-            len: len + 1,
-        }
+        self
     }
 }
 
@@ -60,54 +55,47 @@ pub fn hex_digit(number: u64) -> u8
 }
 
 // The text with the digits of a number after it, in a base of 2 to 16, without leading zeros.
-fn put_numeral(text: Text, base: u16, value: u16) -> Text
+pub fn put_numeral(text: Text, base: u64, value: u64) -> Text
     requires { (2 ≤ base) × (base ≤ 16) }
-    ensures { (l : List ℕ) (k : ℕ) → text ≡ held l → value < base ^ suc k → length l + suc k ≤ longest_string
-        → result ≡ held (l ++ numeral base (suc k) value) }
+    ensures { (k : ℕ) → value < base ^ suc k → result ≡ with_bytes text (numeral base (suc k) value) }
 {
+    let last = digit_byte((value % base) as u8);
     if value < base {
-        let last = digit_byte(value as u8);
         return text.put(last);
     }
-    let front = put_numeral(text, base, value / base);
-    let last = digit_byte((value % base) as u8);
-    front.put(last)
+    put_numeral(text, base, value / base).put(last)
 }
 
 // A blank or a minus, then the digits: what STR$ gives.
 pub fn str_text(word: u16) -> Text
     ensures { result ≡ held (signed_numeral word) }
 {
-    let empty = Text::empty();
-    if word < 32768 {
-        let signed = empty.put(b' ');
-        put_numeral(signed, 10, word)
-    } else {
-        let signed = empty.put(b'-');
-        put_numeral(signed, 10, 65535 - word + 1)
-    }
+    let number = word.cast_signed();
+    let sign = if number < 0 { b'-' } else { b' ' };
+    put_numeral(
+        Text::empty().put(sign),
+        10,
+        u64::from(number.unsigned_abs()),
+    )
 }
 
 // STR$'s text and a blank: what PRINT shows.
 pub fn print_text(word: u16) -> Text
     ensures { result ≡ held (printed_number word) }
 {
-    let signed = str_text(word);
-    signed.put(b' ')
+    str_text(word).put(b' ')
 }
 
 // The 16 bits in capitals, without leading zeros: what HEX$ gives.
 pub fn hex_text(word: u16) -> Text
     ensures { result ≡ held (hexadecimal word) }
 {
-    let empty = Text::empty();
-    put_numeral(empty, 16, word)
+    put_numeral(Text::empty(), 16, u64::from(word))
 }
 
 // The digits alone, of a number from 0 to 65535.
 pub fn decimal_text(value: u16) -> Text
     ensures { result ≡ held (numeral 10 5 value) }
 {
-    let empty = Text::empty();
-    put_numeral(empty, 10, value)
+    put_numeral(Text::empty(), 10, u64::from(value))
 }

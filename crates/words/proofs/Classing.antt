@@ -42,32 +42,23 @@ rank_back Other = refl
 pub same_rank : (j k : ByteClass) → rank j ≡ rank k → j ≡ k
 same_rank j k e = sym (rank_back j) ∙ ap ranked e ∙ rank_back k
 
--- what none of the first five numbers tells is another byte
-pub other_left : {n : ℕ} (k : ByteClass) → ((((Unit {0} × (n ≡ 0 → ⊥)) × (n ≡ 1 → ⊥)) × (n ≡ 2 → ⊥)) × (n ≡ 3 → ⊥)) × (n ≡ 4 → ⊥) → n ≡ rank k → Other ≡ k
-unfolding rank
-other_left Letter h e = absurd (h.0.0.0.0.1 e)
-other_left Digit h e = absurd (h.0.0.0.1 e)
-other_left Blank h e = absurd (h.0.0.1 e)
-other_left Sign h e = absurd (h.0.1 e)
-other_left Quote h e = absurd (h.1 e)
-other_left Other h e = refl
-
 -- ---- a table of them, by one test that antt computes, one entry after the other
 
 -- each entry, from the byte i on, is its byte's class
-unfoldable pub right_from : ℕ → List ℕ → Bool
+unfoldable pub right_from : ℕ → List ByteClass → Bool
 right_from i [] = true
-right_from i (x ∷ xs) = eqb x (rank (class_of i)) && right_from (suc i) xs
+right_from i (x ∷ xs) = eqb (rank x) (rank (class_of i)) && right_from (suc i) xs
 
-right_at : (xs : List ℕ) (i : ℕ) → right_from i xs ≡ true → (k : ℕ) → k < length xs → get_or xs k 0 ≡ rank (class_of (i + k))
+right_at : (xs : List ByteClass) (i : ℕ) → right_from i xs ≡ true → (k : ℕ) (d : ByteClass) → k < length xs → get_or xs k d ≡ class_of (i + k)
 unfolding right_from
-right_at [] i t k h = absurd (omega arith)
-right_at (x ∷ xs) i t zero h =
-    let e : i + 0 ≡ i = omega arith in rw e (eqb-true x (rank (class_of i)) (both (eqb x (rank (class_of i))) (right_from (suc i) xs) t).0)
-right_at (x ∷ xs) i t (suc k) h =
+right_at [] i t k d h = absurd (omega arith)
+right_at (x ∷ xs) i t zero d h =
+    let e : i + 0 ≡ i = omega arith in
+    rw e (same_rank x (class_of i) (eqb-true (rank x) (rank (class_of i)) (both (eqb (rank x) (rank (class_of i))) (right_from (suc i) xs) t).0))
+right_at (x ∷ xs) i t (suc k) d h =
     let e : i + suc k ≡ suc i + k = omega arith in
-    rw e (right_at xs (suc i) (both (eqb x (rank (class_of i))) (right_from (suc i) xs) t).1 k (omega arith))
+    rw e (right_at xs (suc i) (both (eqb (rank x) (rank (class_of i))) (right_from (suc i) xs) t).1 k d (omega arith))
 
 -- and so is what a look finds
-pub looked : (xs : List ℕ) → right_from 0 xs ≡ true → length xs ≡ 256 → (b : ℕ) → b < 256 → get_or xs b 0 ≡ rank (class_of b)
-looked xs t l b h = let e : 0 + b ≡ b = omega arith in rw e at (right_at xs 0 t b (omega arith))
+pub looked : (xs : List ByteClass) → right_from 0 xs ≡ true → length xs ≡ 256 → (b i : ℕ) → i ≡ b → b < 256 → (d : ByteClass) → get_or xs i d ≡ class_of b
+looked xs t l b i j h d = let e : 0 + b ≡ b = omega arith in rw j (rw e at (right_at xs 0 t b d (omega arith)))

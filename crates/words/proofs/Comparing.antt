@@ -1,10 +1,11 @@
 -- Bytes compared one by one.
-use mathlib.Core.Path.{◌≡◌}
-use mathlib.Core.Bool.{false}
-use mathlib.Core.List.{List}
+use mathlib.Core.Path.{◌≡◌, refl, ap}
+use mathlib.Core.Bool.{false, ◌&&◌}
+use mathlib.Core.List.{List, [], ◌∷◌}
 use Prim.Native.Nat.{ℕ, ◌+◌, ◌≤◌, ◌<◌}
 use borrow.Author.Tests.{leb-true, leb-false, eq-eqb, ne_eqb}
-use lib.Dec.{leb}
+use lib.Dec.{leb, eqb}
+use Rattle.std.specs.Cmp.Lexicographic.{pointwise}
 use lib.ListN.{length, get_or, drop, drop_of_length-le}
 use Rattle.whole.proofs.Reading.{drop_next}
 use Rattle.words.specs.Spellings.{same_bytes}
@@ -32,3 +33,11 @@ module _ (a b : List ℕ) (i : ℕ) where
   same_ended h =
       by_test (leb (length b) i) (λ e. rw (drop_of_length-le a h, drop_of_length-le b (leb-true _ _ e), e))
       (λ e. rw (drop_of_length-le a h, drop_next b i (leb-false _ _ e), e))
+
+-- the test of two texts is the slices' own
+pub same_pointwise : (a b : List ℕ) → same_bytes a b ≡ pointwise eqb a b
+unfolding same_bytes
+same_pointwise [] [] = refl
+same_pointwise [] (b ∷ t) = refl
+same_pointwise (a ∷ s) [] = refl
+same_pointwise (a ∷ s) (b ∷ t) = ap (λ x. eqb a b && x) (same_pointwise s t)

@@ -1,12 +1,13 @@
 -- Words as numbers: two words of bytes have one number only where they are the same word.
 use mathlib.Core.Path.{◌≡◌, refl, sym, ap, ◌∙◌}
 use mathlib.Core.Bool.{Bool, true, false, ◌&&◌, false≢true}
-use mathlib.Core.List.{List, [], ◌∷◌, ◌++◌, map}
-use Prim.Native.Nat.{ℕ, suc, ◌+◌, ◌*◌, ◌≤◌, ◌<◌}
+use mathlib.Core.List.{List, [], ◌∷◌, ◌++◌, map, append_assoc}
+use Prim.Native.Nat.{ℕ, suc, ◌+◌, ◌*◌, ◌^◌, ◌≤◌, ◌<◌}
+use native.Mathlib.Nat.{pow-le-pow_right, pow-succ'}
 use native.Mathlib.Omega.{arith}
 use borrow.Author.Tests.{lt-ltb, le-ltb, ltb-true, lt-leb, eq-eqb, eqb-true, ne_eqb, eqb-false}
 use lib.Dec.{eqb, leb, ltb}
-use lib.ListN.{length, get_or, length-map}
+use lib.ListN.{length, get_or, length-append, length-map}
 use Rattle.whole.specs.Bytes.{bytes}
 use Rattle.words.specs.Spellings.{Spelt, same_bytes, meaning}
 use Rattle.words.specs.Classes.{capital_of}
@@ -32,6 +33,24 @@ capitals_small : (s : List ℕ) → ((i : ℕ) → get_or s i 0 < 256) → small
 capitals_small [] h = refl
 capitals_small (b ∷ s) h =
     simp (lt-ltb (capital_of b) 256 (omega (arith, h 0, capital_below b)), capitals_small s (λ i. h (suc i)))
+
+-- ---- a byte for each of k letters below the 1
+
+abbrev pub Bound : ℕ → ℕ → Type 0
+Bound k x = x < 2 * 256 ^ k
+
+pub bound_room : (k x : ℕ) → k ≤ 6 → Bound k x → x < 2 ^ 49
+bound_room k x h b = omega (arith, pow-le-pow_right {n = 256} (omega arith) {i = k} {j = 6} h)
+
+pub bound_more : (k x b : ℕ) → b < 256 → Bound k x → Bound (suc k) (x * 256 + b)
+bound_more k x b h l = rw (pow-succ' 256 k) (omega arith)
+
+-- the last of what is left goes before what was passed
+pub passes_on : (all passed rest : List ℕ) {left : List ℕ} (x : ℕ) → all ≡ left ++ passed → left ≡ rest ++ (x ∷ []) → all ≡ rest ++ (x ∷ passed)
+passes_on all passed rest x e f = e ∙ ap (λ l. l ++ passed) f ∙ append_assoc rest (x ∷ []) passed
+
+pub passed_few : (all passed rest : List ℕ) {left : List ℕ} (x : ℕ) → all ≡ left ++ passed → left ≡ rest ++ (x ∷ []) → length all ≤ 7 → length passed ≤ 6
+passed_few all passed rest x e f h = omega (arith, simp length-append at (ap length (passes_on all passed rest x e f)))
 
 -- ---- a word's number tells the word
 

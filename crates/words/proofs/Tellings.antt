@@ -11,7 +11,7 @@ use Rattle.whole.specs.Bytes.{leading}
 use Rattle.words.specs.Classes.{capital_of}
 use Rattle.words.specs.Spellings.{same_bytes}
 use Rattle.words.specs.Names.{name_width, telling, telling_of, alike, entry_of}
-use lib.Seq.{take-take, drop-drop}
+use lib.Seq.{take-take, drop-drop, get_or-drop}
 use Rattle.words.proofs.Choices.{by_test, both}
 use Rattle.words.proofs.Runs.{front}
 
@@ -123,6 +123,10 @@ unfolding capital_of
 capital_at [] i = refl
 capital_at (b ∷ s) zero = refl
 capital_at (b ∷ s) (suc i) = capital_at s i
+
+-- the byte at a place of a name's entry
+pub entry_at : (s : List ℕ) (from i : ℕ) {f byte : ℕ} → f ≡ from → byte ≡ get_or s (f + i) 0 → byte ≡ get_or (drop from s) i 0
+entry_at s from i e h = h ∙ ap (λ k. get_or s (k + i) 0) e ∙ sym (get_or-drop from s i 0)
 
 -- ---- two names, compared character by character: what is left of both decides
 

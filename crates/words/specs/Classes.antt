@@ -1,13 +1,12 @@
 -- The classes of bytes, and the signs.
-use Rattle.std.specs.Prelude.{Bool, cond, ◌&&◌, ◌||◌, List, [], ◌∷◌, ℕ, ◌+◌, ◌-◌, leb}
+use Rattle.words.specs.declared.symbols.Token.{Token}
+use Rattle.std.specs.Prelude.{Bool, cond, ◌&&◌, ◌||◌, List, [], ◌∷◌, ℕ, ◌+◌, ◌-◌, leb, None, Option, Some}
 use Prim.Native.Char.{code}
 use Rattle.whole.specs.Bytes.{is}
 use Rattle.whole.specs.Digits.{is_digit}
 use Rattle.words.specs.Spellings.{Spelt, ◌means◌, meaning}
 use Rattle.words.specs.declared.classes.ByteClass.{ByteClass}
 use Rattle.words.specs.declared.classes.ByteClass.TheVariants as class
-use Rattle.words.specs.declared.classes.SignFound.{SignFound}
-use Rattle.words.specs.declared.classes.SignFound.TheVariants.{Is, None}
 use Rattle.whole.specs.declared.arithmetic.Operator.TheVariants.{
   Multiply,
   Divide,
@@ -49,41 +48,41 @@ hex_digit b = cond (is_digit b) (b - code "0") (capital_of b - code "A" + 10)
 -- ---- signs
 
 -- the signs of one byte
-unfoldable pub signs : List (Spelt SignFound)
+unfoldable pub signs : List (Spelt (Option Token))
 signs =
-    ("(" means Is (Symbol Open))
-    ∷ (")" means Is (Symbol Close))
-    ∷ ("," means Is (Symbol Comma))
-    ∷ (";" means Is (Symbol Semicolon))
-    ∷ (":" means Is (Symbol Colon))
-    ∷ ("?" means Is (Symbol Question))
-    ∷ ("=" means Is (Symbol Equal))
-    ∷ ("<" means Is (Infix Less))
-    ∷ (">" means Is (Infix Greater))
-    ∷ ("+" means Is (Infix Add))
-    ∷ ("-" means Is (Symbol Minus))
-    ∷ ("*" means Is (Infix Multiply))
-    ∷ ("\\" means Is (Infix Divide))
+    ("(" means Some (Symbol Open))
+    ∷ (")" means Some (Symbol Close))
+    ∷ ("," means Some (Symbol Comma))
+    ∷ (";" means Some (Symbol Semicolon))
+    ∷ (":" means Some (Symbol Colon))
+    ∷ ("?" means Some (Symbol Question))
+    ∷ ("=" means Some (Symbol Equal))
+    ∷ ("<" means Some (Infix Less))
+    ∷ (">" means Some (Infix Greater))
+    ∷ ("+" means Some (Infix Add))
+    ∷ ("-" means Some (Symbol Minus))
+    ∷ ("*" means Some (Infix Multiply))
+    ∷ ("\\" means Some (Infix Divide))
     ∷ []
 
 -- two-sign comparisons
-unfoldable pub pairs : List (Spelt SignFound)
+unfoldable pub pairs : List (Spelt (Option Token))
 pairs =
-    ("<>" means Is (Infix Unequal))
-    ∷ ("<=" means Is (Infix AtMost))
-    ∷ (">=" means Is (Infix AtLeast))
+    ("<>" means Some (Infix Unequal))
+    ∷ ("<=" means Some (Infix AtMost))
+    ∷ (">=" means Some (Infix AtLeast))
     ∷ []
 
-abbrev pub sign_of : ℕ → SignFound
+abbrev pub sign_of : ℕ → Option Token
 sign_of b = meaning signs None (b ∷ [])
 
-abbrev pub pair_of : ℕ → ℕ → SignFound
+abbrev pub pair_of : ℕ → ℕ → Option Token
 pair_of a b = meaning pairs None (a ∷ b ∷ [])
 
 -- ---- the class of a byte: letter, digit, blank, sign, quote or other
 
-abbrev pub of_sign : SignFound → ByteClass
-of_sign (Is s) = class.Sign
+abbrev pub of_sign : Option Token → ByteClass
+of_sign (Some s) = class.Sign
 of_sign None = class.Other
 
 unfoldable pub class_of : ℕ → ByteClass

@@ -4,11 +4,11 @@ ghost use Rattle.words.specs.Classes.{capital_of, is_letter, sign_of, class_of};
 
 use crate::places::Place;
 use crate::symbols::{Sign, Token};
-use crate::table::{BLANK, CLASSES, DIGIT, LETTER, QUOTE, SIGN};
+use crate::table::CLASSES;
 use whole::Operator;
 
 // What the reader tells a byte apart by.
-#[derive(Clone, Copy)]
+#[derive(Clone, Copy, PartialEq, Eq)]
 pub enum ByteClass {
     Letter,
     Digit,
@@ -18,43 +18,31 @@ pub enum ByteClass {
     Other,
 }
 
-// The token that signs are.
-#[derive(Clone, Copy)]
-pub enum SignFound {
-    Is(Token),
-    None,
-}
-
 // The byte at a place; 0 past the line's end.
 pub fn byte_at(line: &[u8], at: Place) -> u8
     ensures { result ≡ get_or line.now at.0 0 }
 {
-    let i = at.0;
-    if i < line.len() { line[i] } else { 0 }
+    line.get(at.0).copied().unwrap_or(0)
 }
 
-// How far a small letter stands above its capital.
-const FOLD: u8 = 32;
-
 // A letter's capital; any other byte as it is.
+#[tactic(auto, unfolding(crate::specs::Classes::capital_of))]
 pub fn capital(byte: u8) -> u8
     ensures { result ≡ capital_of byte }
 {
-    if byte < b'a' {
-        return byte;
-    }
-    if byte <= b'z' { byte - FOLD } else { byte }
+    byte.to_ascii_uppercase()
 }
 
+#[tactic(auto, unfolding(crate::specs::Classes::capital_of, crate::specs::Classes::is_letter))]
 pub fn is_letter(byte: u8) -> bool
     ensures { result ≡ is_letter byte }
 {
-    let letter = capital(byte);
-    b'A' <= letter && letter <= b'Z'
+    byte.is_ascii_alphabetic()
 }
 
 // The sign that a byte is by itself.
-pub fn sign_of(byte: u8) -> SignFound
+#[tactic(auto, unfolding(whole::specs::Bytes::bytes, crate::specs::Spellings::meaning, crate::specs::Spellings::same_bytes, crate::specs::Classes::signs))]
+pub fn sign_of(byte: u8) -> Option<Token>
     ensures { result ≡ sign_of byte }
 {
     let token = match byte {
@@ -71,22 +59,14 @@ pub fn sign_of(byte: u8) -> SignFound
         b'-' => Token::Symbol(Sign::Minus),
         b'*' => Token::Infix(Operator::Multiply),
         b'\\' => Token::Infix(Operator::Divide),
-        _ => return SignFound::None,
+        _ => return None,
     };
-    SignFound::Is(token)
+    Some(token)
 }
 
 // The class of a byte: one look into the table.
 pub fn class_of(byte: u8) -> ByteClass
     ensures { result ≡ class_of byte }
 {
-    let i = byte as usize;
-    match CLASSES[i] {
-        LETTER => ByteClass::Letter,
-        DIGIT => ByteClass::Digit,
-        BLANK => ByteClass::Blank,
-        SIGN => ByteClass::Sign,
-        QUOTE => ByteClass::Quote,
-        _ => ByteClass::Other,
-    }
+    CLASSES[usize::from(byte)]
 }

@@ -8,7 +8,7 @@ mod symbols;
 mod table;
 mod vocabulary;
 
-pub use classes::{ByteClass, SignFound, byte_at, capital, class_of, is_letter, sign_of};
+pub use classes::{ByteClass, byte_at, capital, class_of, is_letter, sign_of};
 pub use names::{Kind, Name, Telling, character, is_told, telling_of};
 pub use places::{LineNumber, Place};
 pub use symbols::{Function, Quotation, Scanned, Sign, Token, Word};

@@ -7,7 +7,7 @@ use crate::classes::{byte_at, capital};
 use crate::places::Place;
 
 // The two types of a value.
-#[derive(Clone, Copy)]
+#[derive(Clone, Copy, PartialEq, Eq)]
 pub enum Kind {
     Whole,
     Text,
@@ -33,24 +33,22 @@ pub type Telling = [u8; Name::WIDTH];
 pub fn character(line: &[u8], name: Name, index: usize) -> u8
     ensures { result ≡ capital_of (get_or (name_bytes line.now name) index 0) }
 {
-    if name.len as usize <= index {
+    if usize::from(name.len) <= index {
         return 0;
     }
-    capital(byte_at(line, Place(name.at as usize + index)))
+    capital(byte_at(line, Place(usize::from(name.at) + index)))
 }
 
 pub fn telling_of(line: &[u8], name: Name) -> Telling
     ensures { result ≡ entry_of (telling_of (name_bytes line.now name)) }
 {
     let mut telling = [0; Name::WIDTH];
-    let mut count = 0;
-    while count < Name::WIDTH {
+    for count in 0..Name::WIDTH {
         let letter = character(line, name, count);
         if letter == 0 {
             return telling;
         }
         telling[count] = letter;
-        count += 1;
     }
     telling
 }
@@ -59,16 +57,14 @@ pub fn telling_of(line: &[u8], name: Name) -> Telling
 pub fn is_told(tellings: &[u8], from: u16, line: &[u8], name: Name) -> bool
     ensures { result ≡ alike (drop from tellings.now) (telling_of (name_bytes line.now name)) }
 {
-    let mut i = 0;
-    while i < Name::WIDTH {
-        let letter = character(line, name, i);
-        if byte_at(tellings, Place(from as usize + i)) != letter {
+    for index in 0..Name::WIDTH {
+        let letter = character(line, name, index);
+        if byte_at(tellings, Place(usize::from(from) + index)) != letter {
             return false;
         }
         if letter == 0 {
             return true;
         }
-        i += 1;
     }
     true
 }

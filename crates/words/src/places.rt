@@ -1,7 +1,7 @@
 // Numbers of a kind of their own, so that a jump and a cursor can't be confused.
 
 // The number of a line.
-#[derive(Clone, Copy)]
+#[derive(Clone, Copy, PartialEq, Eq, PartialOrd, Ord)]
 pub struct LineNumber(pub u16);
 
 impl LineNumber {
@@ -9,7 +9,7 @@ impl LineNumber {
 }
 
 // The place of a byte, counted from 0.
-#[derive(Clone, Copy)]
+#[derive(Clone, Copy, PartialEq, Eq, PartialOrd, Ord)]
 pub struct Place(pub usize);
 
 impl Place {

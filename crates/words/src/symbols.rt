@@ -4,7 +4,7 @@ use crate::places::{LineNumber, Place};
 use whole::Operator;
 
 // The words of statements.
-#[derive(Clone, Copy)]
+#[derive(Clone, Copy, PartialEq, Eq)]
 pub enum Word {
     Let,
     Print,
@@ -31,7 +31,7 @@ pub enum Word {
 }
 
 // The functions; one whose name ends in `$` is named without it.
-#[derive(Clone, Copy)]
+#[derive(Clone, Copy, PartialEq, Eq)]
 pub enum Function {
     Len,
     Asc,
@@ -51,7 +51,7 @@ pub enum Function {
 }
 
 // The signs that are no operators, and the two that are not operators only.
-#[derive(Clone, Copy)]
+#[derive(Clone, Copy, PartialEq, Eq)]
 pub enum Sign {
     Open,
     Close,

@@ -1,17 +1,19 @@
-// The class of each of the 256 bytes, by numbers.
-pub(crate) const LETTER: u8 = 0;
+// The class of each of the 256 bytes.
+use crate::classes::ByteClass;
 
-pub(crate) const DIGIT: u8 = 1;
+const LETTER: ByteClass = ByteClass::Letter;
 
-pub(crate) const BLANK: u8 = 2;
+const DIGIT: ByteClass = ByteClass::Digit;
 
-pub(crate) const SIGN: u8 = 3;
+const BLANK: ByteClass = ByteClass::Blank;
 
-pub(crate) const QUOTE: u8 = 4;
+const SIGN: ByteClass = ByteClass::Sign;
 
-const OTHER: u8 = 5;
+const QUOTE: ByteClass = ByteClass::Quote;
 
-pub(crate) const CLASSES: [u8; 256] = [
+const OTHER: ByteClass = ByteClass::Other;
+
+pub(crate) const CLASSES: [ByteClass; 256] = [
     OTHER, OTHER, OTHER, OTHER, OTHER, OTHER, OTHER, OTHER, OTHER, OTHER, OTHER, OTHER, OTHER,
     OTHER, OTHER, OTHER, OTHER, OTHER, OTHER, OTHER, OTHER, OTHER, OTHER, OTHER, OTHER, OTHER,
     OTHER, OTHER, OTHER, OTHER, OTHER, OTHER, BLANK, OTHER, QUOTE, OTHER, OTHER, OTHER, OTHER,

@@ -24,93 +24,99 @@ const LONGEST: usize = 7;
 // The number of no letters. It ends up above the last letter, so that words of different lengths have different numbers.
 const NO_LETTERS: u64 = 1;
 
-const LET: u64 = 0x01_54_45_4C;
+// The number of a word, letter by letter, as `pack` makes it.
+macro_rules! spelt {
+    () => { NO_LETTERS };
+    ($first:literal $($rest:literal)*) => { spelt!($($rest)*) * 256 + $first as u64 };
+}
 
-const PRINT: u64 = 0x01_54_4E_49_52_50;
+const LET: u64 = spelt!(b'L' b'E' b'T');
 
-const IF: u64 = 0x01_46_49;
+const PRINT: u64 = spelt!(b'P' b'R' b'I' b'N' b'T');
 
-const THEN: u64 = 0x01_4E_45_48_54;
+const IF: u64 = spelt!(b'I' b'F');
 
-const ELSE: u64 = 0x01_45_53_4C_45;
+const THEN: u64 = spelt!(b'T' b'H' b'E' b'N');
 
-const GOTO: u64 = 0x01_4F_54_4F_47;
+const ELSE: u64 = spelt!(b'E' b'L' b'S' b'E');
 
-const GOSUB: u64 = 0x01_42_55_53_4F_47;
+const GOTO: u64 = spelt!(b'G' b'O' b'T' b'O');
 
-const RETURN: u64 = 0x01_4E_52_55_54_45_52;
+const GOSUB: u64 = spelt!(b'G' b'O' b'S' b'U' b'B');
 
-const FOR: u64 = 0x01_52_4F_46;
+const RETURN: u64 = spelt!(b'R' b'E' b'T' b'U' b'R' b'N');
 
-const TO: u64 = 0x01_4F_54;
+const FOR: u64 = spelt!(b'F' b'O' b'R');
 
-const STEP: u64 = 0x01_50_45_54_53;
+const TO: u64 = spelt!(b'T' b'O');
 
-const NEXT: u64 = 0x01_54_58_45_4E;
+const STEP: u64 = spelt!(b'S' b'T' b'E' b'P');
 
-const LINE: u64 = 0x01_45_4E_49_4C;
+const NEXT: u64 = spelt!(b'N' b'E' b'X' b'T');
 
-const INPUT: u64 = 0x01_54_55_50_4E_49;
+const LINE: u64 = spelt!(b'L' b'I' b'N' b'E');
 
-const END: u64 = 0x01_44_4E_45;
+const INPUT: u64 = spelt!(b'I' b'N' b'P' b'U' b'T');
 
-const STOP: u64 = 0x01_50_4F_54_53;
+const END: u64 = spelt!(b'E' b'N' b'D');
 
-const REM: u64 = 0x01_4D_45_52;
+const STOP: u64 = spelt!(b'S' b'T' b'O' b'P');
 
-const MOD: u64 = 0x01_44_4F_4D;
+const REM: u64 = spelt!(b'R' b'E' b'M');
 
-const NOT: u64 = 0x01_54_4F_4E;
+const MOD: u64 = spelt!(b'M' b'O' b'D');
 
-const AND: u64 = 0x01_44_4E_41;
+const NOT: u64 = spelt!(b'N' b'O' b'T');
 
-const OR: u64 = 0x01_52_4F;
+const AND: u64 = spelt!(b'A' b'N' b'D');
 
-const XOR: u64 = 0x01_52_4F_58;
+const OR: u64 = spelt!(b'O' b'R');
 
-const EQV: u64 = 0x01_56_51_45;
+const XOR: u64 = spelt!(b'X' b'O' b'R');
 
-const IMP: u64 = 0x01_50_4D_49;
+const EQV: u64 = spelt!(b'E' b'Q' b'V');
 
-const LEN: u64 = 0x01_4E_45_4C;
+const IMP: u64 = spelt!(b'I' b'M' b'P');
 
-const ASC: u64 = 0x01_43_53_41;
+const LEN: u64 = spelt!(b'L' b'E' b'N');
 
-const CHR: u64 = 0x01_52_48_43;
+const ASC: u64 = spelt!(b'A' b'S' b'C');
 
-const LEFT: u64 = 0x01_54_46_45_4C;
+const CHR: u64 = spelt!(b'C' b'H' b'R');
 
-const RIGHT: u64 = 0x01_54_48_47_49_52;
+const LEFT: u64 = spelt!(b'L' b'E' b'F' b'T');
 
-const MID: u64 = 0x01_44_49_4D;
+const RIGHT: u64 = spelt!(b'R' b'I' b'G' b'H' b'T');
 
-const SPACE: u64 = 0x01_45_43_41_50_53;
+const MID: u64 = spelt!(b'M' b'I' b'D');
 
-const STRING: u64 = 0x01_47_4E_49_52_54_53;
+const SPACE: u64 = spelt!(b'S' b'P' b'A' b'C' b'E');
 
-const INSTR: u64 = 0x01_52_54_53_4E_49;
+const STRING: u64 = spelt!(b'S' b'T' b'R' b'I' b'N' b'G');
 
-const STR: u64 = 0x01_52_54_53;
+const INSTR: u64 = spelt!(b'I' b'N' b'S' b'T' b'R');
 
-const HEX: u64 = 0x01_58_45_48;
+const STR: u64 = spelt!(b'S' b'T' b'R');
 
-const VAL: u64 = 0x01_4C_41_56;
+const HEX: u64 = spelt!(b'H' b'E' b'X');
 
-const ABS: u64 = 0x01_53_42_41;
+const VAL: u64 = spelt!(b'V' b'A' b'L');
 
-const SGN: u64 = 0x01_4E_47_53;
+const ABS: u64 = spelt!(b'A' b'B' b'S');
 
-const FRE: u64 = 0x01_45_52_46;
+const SGN: u64 = spelt!(b'S' b'G' b'N');
 
-const WHILE: u64 = 0x01_45_4C_49_48_57;
+const FRE: u64 = spelt!(b'F' b'R' b'E');
 
-const WEND: u64 = 0x01_44_4E_45_57;
+const WHILE: u64 = spelt!(b'W' b'H' b'I' b'L' b'E');
 
-const DATA: u64 = 0x01_41_54_41_44;
+const WEND: u64 = spelt!(b'W' b'E' b'N' b'D');
 
-const READ: u64 = 0x01_44_41_45_52;
+const DATA: u64 = spelt!(b'D' b'A' b'T' b'A');
 
-const RESTORE: u64 = 0x01_45_52_4F_54_53_45_52;
+const READ: u64 = spelt!(b'R' b'E' b'A' b'D');
+
+const RESTORE: u64 = spelt!(b'R' b'E' b'S' b'T' b'O' b'R' b'E');
 
 // The letters of a word, folded to capitals, as one number.
 fn pack(letters: &[u8]) -> u64
@@ -118,16 +124,14 @@ fn pack(letters: &[u8]) -> u64
     ensures { result ≡ packed (map capital_of letters.now) }
 {
     let mut number = NO_LETTERS;
-    let mut left = letters.len();
-    while 0 < left {
-        left -= 1;
-        let letter = capital(letters[left]);
-        number = number * 256 + letter as u64;
+    for letter in letters.iter().rev() {
+        number = number * 256 + u64::from(capital(*letter));
     }
     number
 }
 
 // The reserved word that is packed so: a statement's, or else a formula's. A function for each kind keeps the proofs small.
+#[tactic(auto, unfolding(whole::specs::Bytes::bytes, crate::specs::bridge::Packed::packed, crate::specs::bridge::Packed::unpacked_in, crate::specs::Vocabulary::reserved))]
 fn unpack(number: u64) -> WordFound
     ensures { result ≡ unpacked number }
 {
@@ -160,6 +164,7 @@ fn unpack(number: u64) -> WordFound
 }
 
 // The word of a formula that is packed so: an operator, or else a function.
+#[tactic(auto, unfolding(whole::specs::Bytes::bytes, crate::specs::bridge::Packed::packed, crate::specs::bridge::Packed::unpacked_in))]
 fn formula_word(number: u64) -> WordFound
     ensures { result ≡ unpacked_in formula_words number }
 {
@@ -177,6 +182,7 @@ fn formula_word(number: u64) -> WordFound
 }
 
 // The function that is packed so: one without a `$`, or else one with it.
+#[tactic(auto, unfolding(whole::specs::Bytes::bytes, crate::specs::bridge::Packed::packed, crate::specs::bridge::Packed::unpacked_in))]
 fn function_word(number: u64) -> WordFound
     ensures { result ≡ unpacked_in function_words number }
 {
@@ -194,6 +200,7 @@ fn function_word(number: u64) -> WordFound
 }
 
 // The function with a `$` that is packed so.
+#[tactic(auto, unfolding(whole::specs::Bytes::bytes, crate::specs::bridge::Packed::packed, crate::specs::bridge::Packed::unpacked_in))]
 fn dollar_function(number: u64) -> WordFound
     ensures { result ≡ unpacked_in dollar_functions number }
 {

@@ -1,19 +1,17 @@
 -- Bridge: by how a statement is led, whether it jumps on. The contracts of functions inside this crate cite it; no promise of `bound_of` rests
 -- on it.
-use Rattle.std.specs.Prelude.{Bool, true, false, ℕ, ltb}
+use Rattle.words.specs.declared.places.LineNumber.{LineNumber}
+use Rattle.std.specs.Prelude.{Bool, true, false, ℕ, ltb, None, Option, Some}
 use Rattle.words.specs.declared.symbols.Scanned.{Scanned}
 use Rattle.words.specs.declared.symbols.Word.{Word}
 use Rattle.words.specs.declared.symbols.Word.TheVariants.{Let, Print, If, Then, Else, Goto, Gosub, Return, For, To, Step, Next, Line, Input, End, Stop, Rem, While, Wend, Data, Read, Restore}
 use Rattle.grammar.specs.bridge.Answers.{line_of}
-use Rattle.grammar.specs.declared.tests.NamedLine.{NamedLine}
-use Rattle.grammar.specs.declared.tests.NamedLine.TheVariants.{Names, NoLine}
 use Rattle.statements.specs.declared.leading.Lead.{Lead}
-use Rattle.statements.specs.declared.leading.Lead.TheVariants.{By, Nothing}
 
 -- by the line that is named
-abbrev pub goes_on : ℕ → NamedLine → Bool
-goes_on n NoLine = true
-goes_on n (Names l) = ltb n l.0
+abbrev pub goes_on : ℕ → Option LineNumber → Bool
+goes_on n None = true
+goes_on n (Some l) = ltb n l.0
 
 -- by the word, and the token after it
 abbrev pub word_leads_on : ℕ → Word → Scanned → Bool
@@ -40,6 +38,6 @@ word_leads_on n Data t = true
 word_leads_on n Read t = true
 word_leads_on n Restore t = true
 
-abbrev pub leads_on : ℕ → Lead → Bool
-leads_on n (By w t) = word_leads_on n w t
-leads_on n Nothing = true
+abbrev pub leads_on : ℕ → Option Lead → Bool
+leads_on n (Some lead) = word_leads_on n lead.word lead.ahead
+leads_on n None = true

@@ -1,6 +1,7 @@
 -- Bridge: what the code of jumps, IF, FOR and NEXT is asked, and what it answers.
 -- The contracts of functions inside this crate cite it; no demand and no promise of run, check_recipe or ask rests on it.
-use Rattle.std.specs.Prelude.{◌≡◌, Bool, true, false, cond, List, ℕ, ◌≤◌, ltb, length, get_or, set}
+use Rattle.loader.specs.declared.lines.LineSpan.{LineSpan}
+use Rattle.std.specs.Prelude.{◌≡◌, Bool, true, false, cond, List, ℕ, ◌≤◌, ltb, length, get_or, set, None, Option, Some}
 use Rattle.whole.specs.declared.errors.Error.TheVariants.{OutOfMemory}
 use Rattle.words.specs.declared.names.Name.{Name}
 use Rattle.words.specs.Places.{place, longest_line}
@@ -15,8 +16,6 @@ use Rattle.expressions.specs.Types.{deepest_nesting, depth_of}
 use Rattle.statements.specs.Parts.{formulas_of, deepest}
 use Rattle.grammar.specs.Formulas.{Reading, good, after, formula_of}
 use Rattle.statements.specs.Statements.{done, variable_of, for_at}
-use Rattle.reader.specs.declared.branches.Start.{Start}
-use Rattle.reader.specs.declared.branches.Start.TheVariants as branch
 use Rattle.formulas.specs.bridge.Memory.{Scans}
 use Rattle.machine.specs.Machine.{passed}
 use Rattle.machine.specs.Machine as spec
@@ -24,36 +23,33 @@ use Rattle.machine.specs.bridge.Holding.{loop_record, State}
 use Rattle.machine.specs.declared.positions.Position.{Position}
 use Rattle.machine.specs.declared.positions.Next.{Next}
 use Rattle.machine.specs.declared.positions.Next.TheVariants as next
-use Rattle.machine.specs.declared.records.Found.{Found}
-use Rattle.machine.specs.declared.records.Found.TheVariants as found
+use Rattle.variables.specs.declared.tables.Numbers.{Numbers}
 use Rattle.variables.specs.Variables.{most_variables}
 use Rattle.variables.specs.bridge.Memory.{numbers_of}
-use Rattle.loader.specs.declared.lines.LineFound.{LineFound}
-use Rattle.loader.specs.declared.lines.LineFound.TheVariants as line
 use Rattle.control.specs.declared.jumping.Calling.{Calling}
 use Rattle.control.specs.declared.jumping.Calling.TheVariants as calling
 use Rattle.turns.specs.bridge.Turns.{Turn, turned_to, pushed_turn, with_tables, with_depth, number_set}
 
 -- what becomes of a GOSUB: its line is tested before room for a record
-abbrev pub calling_of : LineFound → Bool → Calling
-calling_of line.None full = calling.NoLine
-calling_of (line.Is span) true = calling.NoRecord
-calling_of (line.Is span) false = calling.Goes
+abbrev pub calling_of : Option LineSpan → Bool → Calling
+calling_of None full = calling.NoLine
+calling_of (Some span) true = calling.NoRecord
+calling_of (Some span) false = calling.Goes
 
 -- a part of the line is entered, or the line is over
-abbrev pub taken_turn : State → Place → Start → Turn
-taken_turn m line (branch.At at) = turned_to m (next.On (record { line = line; at = at; over = false }))
-taken_turn m line branch.None = turned_to m (next.On (record { line = line; at = place 0; over = true }))
+abbrev pub taken_turn : State → Place → Option Place → Turn
+taken_turn m line (Some at) = turned_to m (next.On (record { line = line; at = at; over = false }))
+taken_turn m line None = turned_to m (next.On (record { line = line; at = place 0; over = true }))
 
 -- ---- FOR
 
 -- an older loop of the variable is dropped with all above it
-abbrev pub dropped_to : State → Found → State
-dropped_to m (found.At i) = with_depth m i
-dropped_to m found.None = m
+abbrev pub dropped_to : State → Option ℕ → State
+dropped_to m (Some i) = with_depth m i
+dropped_to m None = m
 
 -- the variable is set, an older loop of it is dropped, then the body is skipped or a record is made
-abbrev pub loop_turn : State → Telling → ℕ → ℕ → ℕ → Position → Found → Next → Turn
+abbrev pub loop_turn : State → Telling → ℕ → ℕ → ℕ → Position → Option ℕ → Next → Turn
 loop_turn m name from limit step back f skip =
     let set = number_set m name from in
     let under = dropped_to set.state f in
@@ -71,10 +67,11 @@ word_in words slot = cond (ltb slot most_variables) (get_or words slot 0) 0
 abbrev pub words_set : ℕ → List ℕ → ℕ → ℕ → List ℕ
 words_set numbers words slot w = cond (ltb slot numbers) (cond (ltb slot most_variables) (set words slot w) words) words
 
+abbrev pub with_word : Numbers → ℕ → ℕ → Numbers
+with_word n slot w = numbers_of n.names (words_set n.count n.words slot w) n.count
+
 abbrev pub word_set : State → ℕ → ℕ → State
-word_set m slot w =
-    let n = m.tables.numbers in
-    with_tables m (record { numbers = numbers_of n.names (words_set n.count n.words slot w) n.count; strings = m.tables.strings }) m.used
+word_set m slot w = with_tables m (record { numbers = with_word m.tables.numbers slot w; strings = m.tables.strings }) m.used
 
 -- a test that no GOSUB's record passes, and no WHILE's
 abbrev pub LoopsOnly : (spec.Record → Bool) → Type 0

@@ -1,6 +1,6 @@
 -- Bridge: what the code of a PRINT is asked, and what it leaves, item by item.
 -- The contracts of functions that crates use among themselves cite it; no demand and no promise of run, check_recipe or ask rests on it.
-use Rattle.std.specs.Prelude.{◌≡◌, Bool, true, false, cond, List, [], ◌∷◌, ℕ, ◌≤◌, length, take, drop}
+use Rattle.std.specs.Prelude.{◌≡◌, Bool, true, false, cond, List, [], ◌∷◌, ℕ, ◌≤◌, length, take, drop, Result, Ok, Err}
 use Rattle.whole.specs.Texts as texts
 use Rattle.whole.specs.declared.errors.Error.TheVariants.{OutputFull}
 use Rattle.words.specs.declared.places.Place.{Place}
@@ -29,22 +29,21 @@ use Rattle.machine.specs.declared.records.Record.{Record}
 use Rattle.turns.specs.Steps as step
 use Rattle.turns.specs.Steps.{fails, written, shown_value}
 use Rattle.turns.specs.bridge.Turns.{Turn, turned_to, after_of, Leads, with_printer}
-use Rattle.dialogue.specs.declared.outputting.Shown.{Shown}
-use Rattle.dialogue.specs.declared.outputting.Shown.TheVariants as answer
+use Rattle.whole.specs.declared.errors.Error.{Error}
 
 -- some bytes are written, if there is room for all
 abbrev pub Writes : Printer → List ℕ → List ℕ → Printed → List ℕ → Type 0
 Writes p room bytes r room' = (r ≡ printed_as p (length room) bytes) × (room' ≡ copied room p.written bytes)
 
-abbrev pub shown_as : Printed → Scanned → Shown
-shown_as p t = cond p.ok (answer.On p.printer t) (answer.Fault OutputFull)
+abbrev pub shown_as : Printed → Scanned → Result (Printer × Scanned) Error
+shown_as p t = cond p.ok (Ok (p.printer, t)) (Err OutputFull)
 
 -- what was worked out is shown, where a text stands from `used` on
-abbrev pub ShowsWorked : Worked → ℕ → Printer → List ℕ → List ℕ → Shown → List ℕ → Type 0
-ShowsWorked (worked.Fault e) used p space room r room' = (r ≡ answer.Fault e) × (room' ≡ room)
-ShowsWorked (worked.Whole w t) used p space room r room' =
+abbrev pub ShowsWorked : Result Worked Error → ℕ → Printer → List ℕ → List ℕ → Result (Printer × Scanned) Error → List ℕ → Type 0
+ShowsWorked (Err e) used p space room r room' = (r ≡ Err e) × (room' ≡ room)
+ShowsWorked (Ok (worked.Whole w t)) used p space room r room' =
     (r ≡ shown_as (printed_as p (length room) (texts.printed_number w)) t) × (room' ≡ copied room p.written (texts.printed_number w))
-ShowsWorked (worked.Text len t) used p space room r room' =
+ShowsWorked (Ok (worked.Text len t)) used p space room r room' =
     (r ≡ shown_as (printed_as p (length room) (take len (drop used space))) t)
     × (room' ≡ copied room p.written (take len (drop used space)))
 
@@ -73,20 +72,20 @@ show_item semicolon m go = go m
 show_item (shown f) m go = step.worked m (value_of f m.variables (room_of m)) (λ v n. written n (shown_value v) go)
 
 -- by the code's answer: what is done next, the printer then, and the token that it goes on with
-abbrev pub shown_met : Shown → (spec.Machine → step.Next) → spec.Machine → step.Next
-shown_met (answer.On p t) go = go
-shown_met (answer.Fault e) go = fails e
+abbrev pub shown_met : Result (Printer × Scanned) Error → (spec.Machine → step.Next) → spec.Machine → step.Next
+shown_met (Ok (p, t)) go = go
+shown_met (Err e) go = fails e
 
-abbrev pub printer_of : Printer → Shown → Printer
-printer_of p (answer.On q t) = q
-printer_of p (answer.Fault e) = p
+abbrev pub printer_of : Printer → Result (Printer × Scanned) Error → Printer
+printer_of p (Ok (q, t)) = q
+printer_of p (Err e) = p
 
-abbrev pub Onward : Shown → Scanned → Type 0
-Onward (answer.On p t) u = t ≡ u
-Onward (answer.Fault e) u = Unit {0}
+abbrev pub Onward : Result (Printer × Scanned) Error → Scanned → Type 0
+Onward (Ok (p, t)) u = t ≡ u
+Onward (Err e) u = Unit {0}
 
 -- the memory and the machine after it
-pub record Shows (m : State) (i : Item) (u : Scanned) (space room : List ℕ) (r : Shown) (space' room' : List ℕ) : Type 0 where
+pub record Shows (m : State) (i : Item) (u : Scanned) (space room : List ℕ) (r : Result (Printer × Scanned) Error) (space' room' : List ℕ) : Type 0 where
   pub space_long : length space' ≡ length space
   pub room_long : length room' ≡ length room
   pub fitting : Fitting (printer_of m.printer r) room'

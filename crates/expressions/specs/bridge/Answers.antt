@@ -1,6 +1,6 @@
 -- Bridge: how the readers' answers stand to the formulas that are read.
 -- The contracts of functions that crates use among themselves cite it; no demand and no promise of run, check_recipe or ask rests on it.
-use Rattle.std.specs.Prelude.{◌≡◌, cond, List, [], ◌∷◌, ◌++◌, ℕ, ◌+◌, min, max, leb, ltb, length}
+use Rattle.std.specs.Prelude.{◌≡◌, Option, Some, None, cond, List, [], ◌∷◌, ◌++◌, ℕ, ◌+◌, min, max, leb, ltb, length}
 use Rattle.words.specs.declared.symbols.Function.{Function}
 use Rattle.words.specs.declared.symbols.Scanned.{Scanned}
 use Rattle.words.specs.declared.symbols.Sign.TheVariants.{Open, Close}
@@ -11,17 +11,19 @@ use Rattle.grammar.specs.Trees.{Formula, Arguments, none, also}
 use Rattle.grammar.specs.Functions.{takes}
 use Rattle.grammar.specs.Formulas as formulas
 use Rattle.grammar.specs.Formulas.{Reading, after, called, formula_at, arguments_at}
-use Rattle.skimming.specs.declared.skims.Skimmed.{Skimmed}
-use Rattle.skimming.specs.declared.skims.Skimmed.TheVariants as skimmed
 use Rattle.expressions.specs.Types.{whole_only, joined_sort, call_sort, sort_of, depth_of, deepest_of, deepest_nesting}
 use Rattle.expressions.specs.declared.calls.Sorts.{Sorts}
 use Rattle.expressions.specs.declared.calls.Sorts.TheVariants as sorts
-use Rattle.expressions.specs.declared.calls.Fit.{Fit}
-use Rattle.expressions.specs.declared.calls.Fit.TheVariants.{Gives, NoForm}
 use Rattle.expressions.specs.declared.sorts.Sort.{Sort}
 use Rattle.expressions.specs.declared.sorts.Sort.TheVariants.{Wrong}
 use Rattle.expressions.specs.declared.readers.FormulaRead.{FormulaRead}
-use Rattle.expressions.specs.declared.readers.FormulaRead.TheVariants as formula
+
+-- what is read, by its parts
+abbrev pub read_as : Scanned → Sort → ℕ → FormulaRead
+read_as t k d = record { ahead = t; sort = k; deepest = d }
+
+abbrev pub Good : Scanned → Sort → ℕ → Option FormulaRead
+Good t k d = Some (read_as t k d)
 
 abbrev pub sorts_by : List Sort → Sorts
 sorts_by [] = sorts.Zero
@@ -30,8 +32,8 @@ sorts_by (a ∷ b ∷ []) = sorts.Two a b
 sorts_by (a ∷ b ∷ c ∷ []) = sorts.Three a b c
 sorts_by (a ∷ b ∷ c ∷ d ∷ l) = sorts.Many
 
-abbrev pub fit_of : Function → List Sort → Fit
-fit_of f l = cond (takes f (length l)) (Gives (call_sort f (length l) l)) NoForm
+abbrev pub fit_of : Function → List Sort → Option Sort
+fit_of f l = cond (takes f (length l)) (Some (call_sort f (length l) l)) None
 
 -- ---- formulas: the depth is counted up to nine
 
@@ -53,33 +55,38 @@ sorts_in room (also a f) = sorts_in room a ++ (sort_in room f ∷ [])
 abbrev pub depth_in : ℕ → ℕ → ℕ
 depth_in room d = capped_depth (min room d)
 
-abbrev pub answer_in : ℕ → Reading → FormulaRead
-answer_in room formulas.bad = formula.Bad
-answer_in room (formulas.good f t) = formula.Good t (sort_in room f) (depth_in room (depth_of f))
+abbrev pub answer_in : ℕ → Reading → Option FormulaRead
+answer_in room formulas.bad = None
+answer_in room (formulas.good f t) = Good t (sort_in room f) (depth_in room (depth_of f))
 
 -- eight may nest
-abbrev pub answer_of : Reading → FormulaRead
+abbrev pub answer_of : Reading → Option FormulaRead
 answer_of x = answer_in 9 x
 
 -- what was skimmed, where there is no room
-abbrev pub deep_read : Skimmed → FormulaRead
-deep_read skimmed.Bad = formula.Bad
-deep_read (skimmed.Good t) = formula.Good t Wrong 0
+abbrev pub deep_read : Option Scanned → Option FormulaRead
+deep_read None = None
+deep_read (Some t) = Good t Wrong 0
 
 -- what each reader makes of what it is handed
 
-abbrev pub fronted_read : FormulaRead → FormulaRead
-fronted_read formula.Bad = formula.Bad
-fronted_read (formula.Good t k d) = formula.Good t (whole_only k) d
+abbrev pub fronted : FormulaRead → FormulaRead
+fronted r = read_as r.ahead (whole_only r.sort) r.deepest
 
-abbrev pub joined_read : Operator → Sort → ℕ → FormulaRead → FormulaRead
-joined_read op k d formula.Bad = formula.Bad
-joined_read op k d (formula.Good t j e) = formula.Good t (joined_sort op k j) (max d e)
+abbrev pub fronted_read : Option FormulaRead → Option FormulaRead
+fronted_read None = None
+fronted_read (Some r) = Some (fronted r)
 
-abbrev pub closed_read : List ℕ → FormulaRead → FormulaRead
-closed_read s formula.Bad = formula.Bad
-closed_read s (formula.Good t k d) =
-    cond (is_symbol Close t.token) (formula.Good (token_at s t.next) k (deeper d)) formula.Bad
+abbrev pub joined : Operator → Sort → ℕ → FormulaRead → FormulaRead
+joined op k d r = read_as r.ahead (joined_sort op k r.sort) (max d r.deepest)
+
+abbrev pub joined_read : Operator → Sort → ℕ → Option FormulaRead → Option FormulaRead
+joined_read op k d None = None
+joined_read op k d (Some r) = Some (joined op k d r)
+
+abbrev pub closed_read : List ℕ → Option FormulaRead → Option FormulaRead
+closed_read s None = None
+closed_read s (Some r) = cond (is_symbol Close r.ahead.token) (Good (token_at s r.ahead.next) r.sort (deeper r.deepest)) None
 
 -- the arguments that were read, as the code keeps them
 pub record Kept (room : ℕ) (types : Sorts) (depth : ℕ) (a : Arguments) : Type 0 where

@@ -1,6 +1,7 @@
 -- Bridge: what the code of a READ is asked, and what it leaves, variable by variable.
 -- The contracts of functions that crates use among themselves cite it; no demand and no promise of run, check_recipe or ask rests on it.
-use Rattle.std.specs.Prelude.{◌≡◌, cond, List, ℕ, length}
+use Rattle.whole.specs.declared.errors.Error.{Error}
+use Rattle.std.specs.Prelude.{◌≡◌, cond, List, ℕ, length, Err, Ok, Result}
 use Rattle.whole.specs.declared.errors.Error.TheVariants.{OutOfMemory}
 use Rattle.words.specs.declared.symbols.Scanned.{Scanned}
 use Rattle.grammar.specs.Trees.{Variable}
@@ -14,8 +15,6 @@ use Rattle.turns.specs.Steps as step
 use Rattle.turns.specs.Steps.{fails}
 use Rattle.turns.specs.bridge.Turns.{Leads}
 use Rattle.turns.specs.declared.setting.Stored.{Stored}
-use Rattle.feeding.specs.declared.reading.Given.{Given}
-use Rattle.feeding.specs.declared.reading.Given.TheVariants as given
 
 -- the variables of a READ that read from a token of the line on
 pub record Listed (line : List ℕ) (first : Scanned) : Type 0 where
@@ -24,17 +23,17 @@ pub record Listed (line : List ℕ) (first : Scanned) : Type 0 where
   pub is : names_at (enough line) line first ≡ listed all end
 
 -- room for a new variable is tested last
-abbrev pub set_as : Stored → Given
-set_as s = cond s.ok (given.On s.machine) (given.Fails s.machine OutOfMemory)
+abbrev pub set_as : Stored → Result Machine (Machine × Error)
+set_as s = cond s.ok (Ok s.machine) (Err (s.machine, OutOfMemory))
 
 -- by the code's answer: the machine, and what is done next
-abbrev pub machine_of : Given → Machine
-machine_of (given.On m) = m
-machine_of (given.Fails m e) = m
+abbrev pub machine_of : Result Machine (Machine × Error) → Machine
+machine_of (Ok m) = m
+machine_of (Err (m, e)) = m
 
-abbrev pub given_met : Given → (spec.Machine → step.Next) → spec.Machine → step.Next
-given_met (given.On m) go = go
-given_met (given.Fails m e) go = fails e
+abbrev pub given_met : Result Machine (Machine × Error) → (spec.Machine → step.Next) → spec.Machine → step.Next
+given_met (Ok m) go = go
+given_met (Err (m, e)) go = fails e
 
 -- one variable was set, or the run ends: other tables and other bytes in the space, and all else is as it was
 pub record Sets (m : State) (space : List ℕ) (m' : State) (space' : List ℕ) : Type 0 where
@@ -47,7 +46,7 @@ pub record Sets (m : State) (space : List ℕ) (m' : State) (space' : List ℕ) 
   pub long : length space' ≡ length space
 
 -- what the definition does with a variable comes to what is done next
-abbrev pub Gives : List ℕ → State → List ℕ → (spec.Machine → (spec.Machine → step.Next) → step.Next) → Given → State → List ℕ → Type 0
+abbrev pub Gives : List ℕ → State → List ℕ → (spec.Machine → (spec.Machine → step.Next) → step.Next) → Result Machine (Machine × Error) → State → List ℕ → Type 0
 Gives text m space does r m' space' =
     (rs : List Record) (input room : List ℕ) (n : spec.Machine) → Same text rs m input space room n → (go : spec.Machine → step.Next)
     → Leads text rs m' input space' room (does n go) (given_met r go)

@@ -1,6 +1,6 @@
 -- Bridge: what working out a formula begins and ends with in memory.
 -- The contracts of functions that crates use among themselves cite it; no demand and no promise of run, check_recipe or ask rests on it.
-use Rattle.std.specs.Prelude.{◌≡◌, List, ℕ, zero, suc, ◌≤◌, length}
+use Rattle.std.specs.Prelude.{◌≡◌, List, ℕ, zero, suc, ◌≤◌, length, Result, Ok, Err}
 use Rattle.variables.specs.Strings.{Room, longest_space}
 use Rattle.variables.specs.Variables.{Variables}
 use Rattle.whole.specs.Whole.{flipped}
@@ -18,6 +18,8 @@ use Rattle.variables.specs.declared.values.Worked.{Worked}
 use Rattle.variables.specs.declared.values.Worked.TheVariants as worked
 use Rattle.variables.specs.bridge.Memory.{Agrees, Framed, GoesOn, Held, Looked}
 use Rattle.variables.specs.Tables.{sum_of}
+use Rattle.variables.specs.declared.tables.Tables.{Tables}
+use Rattle.whole.specs.declared.errors.Error.{Error}
 
 -- ---- formulas
 
@@ -46,25 +48,25 @@ pub record Ready (line lengths space : List ℕ) (used : ℕ) : Type 0 where
   pub short : length line ≤ longest_line
 
 -- what it ends with: the answer agrees with the formula's value
-pub record Evaluated (number_names words string_names lengths : List ℕ) (f : Formula) (u : Scanned) (before : List ℕ) (used : ℕ) (r : Worked) (after : List ℕ) : Type 0 where
+pub record Evaluated (tables : Tables) (f : Formula) (u : Scanned) (before : List ℕ) (used : ℕ) (r : Result Worked Error) (after : List ℕ) : Type 0 where
   pub framed : Framed before used r after
-  pub agrees : (vars : Variables) → Looked vars number_names words string_names lengths before
+  pub agrees : (vars : Variables) → Looked vars tables before
       → (room : Room) → Held room before used → Agrees r after used (value_of f vars room)
   pub goes : GoesOn r u
 
 -- what NOT and the minus sign make of what is behind them, and a parenthesis of what it closes
 
-abbrev pub whole_as : Worked → (ℕ → Scanned → Worked) → Worked
-whole_as (worked.Whole w t) go = go w t
-whole_as (worked.Text n t) go = worked.Fault TypeMismatch
-whole_as (worked.Fault e) go = worked.Fault e
+abbrev pub whole_as : Result Worked Error → (ℕ → Scanned → Result Worked Error) → Result Worked Error
+whole_as (Ok (worked.Whole w t)) go = go w t
+whole_as (Ok (worked.Text n t)) go = Err TypeMismatch
+whole_as (Err e) go = Err e
 
 -- a word turned so many times
 unfoldable pub flipped_by : ℕ → ℕ → ℕ
 flipped_by zero w = w
 flipped_by (suc n) w = flipped (flipped_by n w)
 
-abbrev pub closed_as : List ℕ → Worked → Worked
-closed_as line (worked.Whole w t) = worked.Whole w (token_at line t.next)
-closed_as line (worked.Text n t) = worked.Text n (token_at line t.next)
-closed_as line (worked.Fault e) = worked.Fault e
+abbrev pub closed_as : List ℕ → Result Worked Error → Result Worked Error
+closed_as line (Ok (worked.Whole w t)) = Ok (worked.Whole w (token_at line t.next))
+closed_as line (Ok (worked.Text n t)) = Ok (worked.Text n (token_at line t.next))
+closed_as line (Err e) = Err e

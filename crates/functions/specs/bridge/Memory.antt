@@ -1,7 +1,7 @@
 -- Bridge: how the code takes an argument, and how it holds a number that a function gives.
 -- The contracts of functions that crates use among themselves cite it; no demand and no promise of run, check_recipe or ask rests on it.
-use Rattle.std.specs.Prelude.{Bool, true, false, cond, ◌&&◌, List, ℕ, eqb}
-use Rattle.whole.specs.declared.arithmetic.Answer.{Answer}
+use Rattle.whole.specs.declared.errors.Error.{Error}
+use Rattle.std.specs.Prelude.{Bool, true, false, cond, ◌&&◌, List, ℕ, eqb, Result, Ok, Err}
 use Rattle.whole.specs.declared.errors.Error.TheVariants.{TypeMismatch}
 use Rattle.words.specs.declared.symbols.Function.{Function}
 use Rattle.words.specs.declared.symbols.Function.TheVariants as function
@@ -68,19 +68,19 @@ abbrev pub gone_on : Given → Argument → Scanned → Taken
 gone_on g a t = cond (is_symbol Comma t.token) (taken.More (with_argument g a) t.next) (taken.All (with_argument g a) t.next)
 
 -- an argument is tested as soon as it is worked out
-abbrev pub taken_before : Want → Given → Argument → Scanned → Taken
-taken_before w g a t = cond (meets_want w a) (gone_on g a t) (taken.Fault TypeMismatch)
+abbrev pub taken_before : Want → Given → Argument → Scanned → Result Taken Error
+taken_before w g a t = cond (meets_want w a) (Ok (gone_on g a t)) (Err TypeMismatch)
 
-abbrev pub taken_wanted : Want → Given → Worked → Taken
-taken_wanted w g (worked.Whole x t) = taken_before w g (argument.Whole x) t
-taken_wanted w g (worked.Text n t) = taken_before w g (argument.Text n) t
-taken_wanted w g (worked.Fault e) = taken.Fault e
+abbrev pub taken_wanted : Want → Given → Result Worked Error → Result Taken Error
+taken_wanted w g (Ok (worked.Whole x t)) = taken_before w g (argument.Whole x) t
+taken_wanted w g (Ok (worked.Text n t)) = taken_before w g (argument.Text n) t
+taken_wanted w g (Err e) = Err e
 
-abbrev pub taken_as : Function → Bool → Given → Worked → Taken
+abbrev pub taken_as : Function → Bool → Given → Result Worked Error → Result Taken Error
 taken_as f three g x = taken_wanted (want_by f three (count_of g)) g x
 
 -- ---- a number
 
 -- what a function that gives a number makes of the arguments: it leaves the space as it was, whatever token follows
-abbrev pub NumberOf : (List Value → Room → Outcome) → List ℕ → ℕ → Given → Answer → Type 0
+abbrev pub NumberOf : (List Value → Room → Outcome) → List ℕ → ℕ → Given → Result ℕ Error → Type 0
 NumberOf outcome space used g x = (ahead : Scanned) → MadeOf outcome space used g ahead (answered_as x ahead) space

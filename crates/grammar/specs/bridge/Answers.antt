@@ -1,6 +1,7 @@
 -- Bridge: how the code answers which line a token numbers, and what a function wants.
 -- The contracts of functions that crates use among themselves cite it; no demand and no promise of run, check_recipe or ask rests on it.
-use Rattle.std.specs.Prelude.{Bool, true, false, List, [], ◌∷◌, ℕ}
+use Rattle.words.specs.declared.places.LineNumber.{LineNumber}
+use Rattle.std.specs.Prelude.{Bool, true, false, List, [], ◌∷◌, ℕ, None, Option, Some}
 use Rattle.words.specs.declared.symbols.Function.{Function}
 use Rattle.words.specs.declared.symbols.Token.{Token}
 use Rattle.grammar.specs.Tests.{on_line}
@@ -8,13 +9,11 @@ use Rattle.grammar.specs.Functions.{forms_of, form_for, any_for}
 use Rattle.grammar.specs.declared.wanting.Want.{Want}
 use Rattle.grammar.specs.declared.wanting.Wanted.{Wanted}
 use Rattle.grammar.specs.declared.wanting.Wanted.TheVariants as wanted
-use Rattle.grammar.specs.declared.tests.NamedLine.{NamedLine}
-use Rattle.grammar.specs.declared.tests.NamedLine.TheVariants.{Names, NoLine}
 
 -- ---- the line that a token numbers
 
-abbrev pub line_of : Token → NamedLine
-line_of t = on_line t Names NoLine
+abbrev pub line_of : Token → Option LineNumber
+line_of t = on_line t Some None
 
 -- ---- a function's arguments
 

@@ -1,14 +1,12 @@
 -- Bridge: the pairs while they are noted, as words. The contracts of functions inside this crate cite it; no promise of `index_of`,
 -- `is_index_of`, `line_in` or `callers_in` rests on it.
-use Rattle.std.specs.Prelude.{◌≡◌, Bool, false, ◌||◌, List, [], ◌∷◌, ℕ, zero, suc, ◌*◌, ◌≤◌, ◌<◌, eqb, length, get_or, drop}
+use Rattle.std.specs.Prelude.{◌≡◌, Bool, false, ◌||◌, List, [], ◌∷◌, ℕ, zero, suc, ◌*◌, ◌≤◌, ◌<◌, eqb, length, get_or, drop, None, Option, Some}
 use Rattle.whole.specs.Digits.{leading_value}
 use Rattle.space.specs.Moves.{overlaid}
 use Rattle.loader.specs.Lines.{Line, after_number}
 use Rattle.reader.specs.Lines.{judgement}
 use Rattle.index.specs.Pairs.{Pair, named_in, pairs_with}
 use Rattle.index.specs.Index.{pair_words, most_pairs, blank}
-use Rattle.index.specs.declared.pairs.Noted.{Noted}
-use Rattle.index.specs.declared.pairs.Noted.TheVariants.{Count, Full}
 
 -- whether a line is named in so many pairs
 unfoldable pub named_among : ℕ → ℕ → List ℕ → Bool
@@ -25,14 +23,14 @@ pub record Held (pairs : List ℕ) (count : ℕ) (ps : List Pair) : Type 0 where
   pub few : length ps ≤ most_pairs
 
 -- all pairs are noted, or there are too many
-abbrev pub NotedAs : Noted → List ℕ → List Pair → Type 0
-NotedAs (Count k) pairs ps = Held pairs k ps
-NotedAs Full pairs ps = most_pairs < length ps
+abbrev pub NotedAs : Option ℕ → List ℕ → List Pair → Type 0
+NotedAs (Some k) pairs ps = Held pairs k ps
+NotedAs None pairs ps = most_pairs < length ps
 
 -- there is room for those that are counted
-abbrev pub Within : Noted → Type 0
-Within (Count k) = k ≤ most_pairs
-Within Full = Unit {0}
+abbrev pub Within : Option ℕ → Type 0
+Within (Some k) = k ≤ most_pairs
+Within None = Unit {0}
 
 -- the pairs of the first of some lines
 abbrev pub first_pairs : List Line → List Pair

@@ -11,7 +11,7 @@ use Rattle.loader.specs.Lines.{Line, lines_from, lines_of, after_number, next_li
 use Rattle.grammar.specs.Trees.{Part}
 use Rattle.statements.specs.Statements.{PartReading, bad_part, good_part, part_of}
 use Rattle.variables.specs.Variables.{Variables}
-use Rattle.variables.specs.bridge.Memory.{name_at, numbers_of, strings_of, numbers_held, strings_held, TidyNumbers, TidyStrings}
+use Rattle.variables.specs.bridge.Memory.{name_at, numbers_held, strings_held, TidyNumbers, TidyStrings}
 use Rattle.variables.specs.Tables.{sum_of}
 use Rattle.variables.specs.declared.tables.Tables.{Tables}
 use Rattle.variables.specs.Strings.{longest_space}
@@ -203,8 +203,6 @@ pub record Fed (text : List ℕ) (f : Feed) : Type 0 where
 
 abbrev pub fresh_machine : ℕ → Machine
 fresh_machine records = record {
-  numbers = 0;
-  strings = 0;
   used = record { 0 = 0 };
   printer = record { column = 0; written = 0 };
   taken = place 0;
@@ -226,10 +224,9 @@ pub record State : Type 0 where
   -- how many records there can be
   pub records : ℕ
 
--- number variables' names and words, string variables' names and lengths
-abbrev pub state_of : Machine → List ℕ → List ℕ → List ℕ → List ℕ → State
-state_of m names words labels lengths = record {
-  tables = record { numbers = numbers_of names words m.numbers; strings = strings_of labels lengths m.strings };
+abbrev pub state_of : Machine → Tables → State
+state_of m tables = record {
+  tables = tables;
   used = m.used.0;
   printer = m.printer;
   taken = m.taken.0;

@@ -1,6 +1,6 @@
 -- Bridge: the record that a statement asks for: the definition's test, and what the code looks for.
 -- The contracts of functions that crates use among themselves cite it; no demand and no promise of run, check_recipe or ask rests on it.
-use Rattle.std.specs.Prelude.{◌≡◌, Bool, false, cond, List, ℕ, ltb}
+use Rattle.std.specs.Prelude.{◌≡◌, Bool, false, cond, List, ℕ, ltb, None, Option, Some}
 use Rattle.words.specs.Places.{place}
 use Rattle.words.specs.Names.{Telling}
 use Rattle.words.specs.declared.places.Place.{Place}
@@ -10,8 +10,6 @@ use Rattle.grammar.specs.Trees as tree
 use Rattle.grammar.specs.Trees.{Statement}
 use Rattle.statements.specs.Statements.{Begun, bad, done, choice, variable_of}
 use Rattle.variables.specs.Tables.{slot_in}
-use Rattle.variables.specs.declared.tables.Slot.{Slot}
-use Rattle.variables.specs.declared.tables.Slot.TheVariants as slot
 use Rattle.machine.specs.Machine as spec
 use Rattle.machine.specs.Machine.{is_call, is_loop, is_loop_of}
 use Rattle.machine.specs.Repeats.{is_while, is_while_of}
@@ -61,9 +59,9 @@ test_of (while_at line at) r = is_while line at r
 test_of (while_of line at) r = is_while_of line at r
 
 -- what the code looks for: a variable that was never assigned has no loop
-abbrev pub by_slot : ℕ → Slot → Sought
-by_slot numbers slot.None = sought.Nothing
-by_slot numbers (slot.At i) = cond (ltb i numbers) (sought.LoopOf i) sought.Nothing
+abbrev pub by_slot : ℕ → Option ℕ → Sought
+by_slot numbers None = sought.Nothing
+by_slot numbers (Some i) = cond (ltb i numbers) (sought.LoopOf i) sought.Nothing
 
 abbrev pub loop_sought : List ℕ → ℕ → Telling → Sought
 loop_sought names numbers name = by_slot numbers (slot_in names name)

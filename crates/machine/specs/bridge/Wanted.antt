@@ -1,14 +1,12 @@
 -- Bridge: what a statement asks the records for, as plain numbers, and the search that the code makes for it.
 -- The contracts of functions that crates use among themselves cite it; no demand and no promise of run, check_recipe or ask rests on it.
-use Rattle.std.specs.Prelude.{◌≡◌, Bool, true, false, cond, not, ◌&&◌, List, ℕ, zero, suc, ◌<◌, eqb, ltb, get_or}
+use Rattle.std.specs.Prelude.{◌≡◌, Bool, true, false, cond, not, ◌&&◌, List, ℕ, zero, suc, ◌<◌, eqb, ltb, get_or, None, Option, Some}
 use Rattle.words.specs.Places.{place}
 use Rattle.words.specs.declared.places.Place.{Place}
 use Rattle.machine.specs.Machine as spec
 use Rattle.machine.specs.Machine.{missing, sought}
 use Rattle.machine.specs.bridge.Holding.{blank_record, counts, repeats, passes, record_of, records_in}
 use Rattle.machine.specs.declared.records.Record.{Record}
-use Rattle.machine.specs.declared.records.Found.{Found}
-use Rattle.machine.specs.declared.records.Found.TheVariants as found
 use Rattle.machine.specs.declared.records.Sought.{Sought}
 
 -- none, the nearest GOSUB's, the topmost FOR's, and that of the loop of the variable at an entry
@@ -49,16 +47,16 @@ abbrev pub is_sought : Sought → Record → Bool
 is_sought k e = cond (eqb k.kind 1) (not (passes e)) (cond (ltb 3 k.kind) (is_while_sought k e) (is_loop_sought k e))
 
 -- the search down from a depth
-unfoldable pub found_in : Sought → List Record → ℕ → Found
-found_in k rs zero = found.None
+unfoldable pub found_in : Sought → List Record → ℕ → Option ℕ
+found_in k rs zero = None
 found_in k rs (suc d) =
-    cond (is_sought k (get_or rs d blank_record)) (found.At d)
-    (cond (passes (get_or rs d blank_record)) (found_in k rs d) found.None)
+    cond (is_sought k (get_or rs d blank_record)) (Some d)
+    (cond (passes (get_or rs d blank_record)) (found_in k rs d) None)
 
 -- the one found, or a blank one
-abbrev pub entry_at : Found → List Record → Record
-entry_at (found.At i) rs = get_or rs i blank_record
-entry_at found.None rs = blank_record
+abbrev pub entry_at : Option ℕ → List Record → Record
+entry_at (Some i) rs = get_or rs i blank_record
+entry_at None rs = blank_record
 
 -- ---- what a statement was told of the records: the one that passes the definition's test was looked up
 
@@ -69,6 +67,6 @@ pub record FoundAt (text names : List ℕ) (test : spec.Record → Bool) (depth 
   pub passes : test (record_of text names entry) ≡ true
   pub is : sought test (records_in text names rs depth) ≡ spec.found (record_of text names entry) (records_in text names rs i)
 
-abbrev pub Told : List ℕ → List ℕ → (spec.Record → Bool) → ℕ → Found → Record → List Record → Type 0
-Told text names test depth (found.At i) entry rs = FoundAt text names test depth i entry rs
-Told text names test depth found.None entry rs = sought test (records_in text names rs depth) ≡ missing
+abbrev pub Told : List ℕ → List ℕ → (spec.Record → Bool) → ℕ → Option ℕ → Record → List Record → Type 0
+Told text names test depth (Some i) entry rs = FoundAt text names test depth i entry rs
+Told text names test depth None entry rs = sought test (records_in text names rs depth) ≡ missing

@@ -1,6 +1,6 @@
 -- Bridge: how the code's spots stand to the statements of a text. Contracts between crates cite it; no demand and no promise of `run`,
 -- `check_recipe` or `ask` rests on it: `Order` says which statements there are.
-use Rattle.std.specs.Prelude.{◌≡◌, Bool, true, cond, not, List, [], ◌∷◌, ◌++◌, ℕ, zero, suc, ◌+◌, ◌-◌, ◌*◌, length}
+use Rattle.std.specs.Prelude.{◌≡◌, Bool, true, cond, not, List, [], ◌∷◌, ◌++◌, ℕ, zero, suc, ◌+◌, ◌-◌, ◌*◌, length, None, Ok, Option, Some}
 use Rattle.words.specs.Places.{place}
 use Rattle.words.specs.declared.places.Place.{Place}
 use Rattle.words.specs.declared.symbols.Sign.TheVariants.{Colon}
@@ -9,14 +9,11 @@ use Rattle.words.specs.declared.symbols.Word.{Word}
 use Rattle.scanner.specs.Tokens.{token_at}
 use Rattle.loader.specs.Lines.{Line, lines_of, line_at, next_line}
 use Rattle.loader.specs.Loading.{load_of}
-use Rattle.loader.specs.declared.lines.LineFound.TheVariants.{Is}
-use Rattle.loader.specs.declared.loading.Loaded.TheVariants.{Fine}
 use Rattle.skimming.specs.bridge.Remaining.{weight}
 use Rattle.grammar.specs.Tests.{is_symbol, is_keyword}
 use Rattle.grammar.specs.Trees.{Part}
 use Rattle.statements.specs.Statements.{lead_of}
 use Rattle.statements.specs.declared.leading.Lead.{Lead}
-use Rattle.statements.specs.declared.leading.Lead.TheVariants.{By, Nothing}
 use Rattle.statements.specs.declared.reading.StatementRead.{StatementRead}
 use Rattle.statements.specs.declared.reading.StatementRead.TheVariants as statement
 use Rattle.reader.specs.Lines.{holds, judgement}
@@ -27,11 +24,7 @@ use Rattle.machine.specs.Order as order
 use Rattle.machine.specs.Order.{Stand, parts_held, parts_in, placed, stands, Partner, none, some}
 use Rattle.order.specs.declared.partners.Bracket.{Bracket}
 use Rattle.order.specs.declared.partners.Bracket.TheVariants.{Opens, Closes, Neither}
-use Rattle.order.specs.declared.partners.Waiting.{Waiting}
-use Rattle.order.specs.declared.partners.Waiting.TheVariants.{Here, Still}
 use Rattle.order.specs.declared.texts.Spot.{Spot}
-use Rattle.order.specs.declared.texts.Walk.{Walk}
-use Rattle.order.specs.declared.texts.Walk.TheVariants as walk
 
 -- ---- within a line
 
@@ -47,13 +40,13 @@ PassesIf s b = cond b (Passes s) (parts_held (judgement s) ≡ [])
 
 -- the lines from a place on are the last of its lines
 pub record Reached (text : List ℕ) (p : ℕ) : Type 0 where
-  pub loads : load_of text ≡ Fine
+  pub loads : load_of text ≡ Ok tt
   pub before : List Line
   pub all : lines_of text ≡ before ++ lines_at text p
 
 -- a line of it begins at a place
 pub record Lined (text : List ℕ) (p : ℕ) : Type 0 where
-  pub loads : load_of text ≡ Fine
+  pub loads : load_of text ≡ Ok tt
   pub begins : Begins text p
 
 -- the lines from a spot's line on
@@ -62,9 +55,9 @@ lines_from text spot = lines_at text spot.line.place.0
 
 -- a statement of the text stands at a spot, and from it on the text has these: of its line all but those before it, and the lines after
 pub record Ahead (text : List ℕ) (spot : Spot) (xs : List Stand) : Type 0 where
-  pub loads : load_of text ≡ Fine
+  pub loads : load_of text ≡ Ok tt
   pub begins : Begins text spot.line.place.0
-  pub spans : line_at text spot.line.place ≡ Is spot.line
+  pub spans : line_at text spot.line.place ≡ Some spot.line
   pub before : List Part
   pub parts : List Part
   pub whole : parts_in (lines_from text spot) ≡ before ++ parts
@@ -72,7 +65,7 @@ pub record Ahead (text : List ℕ) (spot : Spot) (xs : List Stand) : Type 0 wher
   pub all : xs ≡ placed (lines_from text spot) parts ++ stands (next_line (lines_from text spot))
 
 -- how that statement is led
-abbrev pub lead_at : List ℕ → Spot → Lead
+abbrev pub lead_at : List ℕ → Spot → Option Lead
 lead_at text spot = lead_of (body_of (lines_from text spot)) true (token_at (body_of (lines_from text spot)) spot.at)
 
 -- a statement stands there
@@ -81,9 +74,9 @@ pub record Spotted (text : List ℕ) (spot : Spot) : Type 0 where
   pub ahead : Ahead text spot xs
 
 -- from where a walk is the text has these
-abbrev pub Walks : List ℕ → Walk → List Stand → Type 0
-Walks text (walk.At spot) xs = Ahead text spot xs
-Walks text walk.Over xs = xs ≡ []
+abbrev pub Walks : List ℕ → Option Spot → List Stand → Type 0
+Walks text (Some spot) xs = Ahead text spot xs
+Walks text None xs = xs ≡ []
 
 -- how much is left of the text; a line has at most 255 bytes, so what is left of one weighs at most 1,024
 abbrev pub left_at : List ℕ → Spot → ℕ
@@ -94,22 +87,22 @@ left_at text spot =
 abbrev pub left_from : List ℕ → ℕ → ℕ
 left_from text p = 1032 * (length text - p) + 1024
 
-abbrev pub left_of : List ℕ → Walk → ℕ
-left_of text (walk.At spot) = left_at text spot
-left_of text walk.Over = 0
+abbrev pub left_of : List ℕ → Option Spot → ℕ
+left_of text (Some spot) = left_at text spot
+left_of text None = 0
 
 -- a walk stands somewhere
-pub record Walking (text : List ℕ) (w : Walk) : Type 0 where
+pub record Walking (text : List ℕ) (w : Option Spot) : Type 0 where
   pub xs : List Stand
   pub walks : Walks text w xs
 
 -- ---- where a run goes on after a statement
 
 -- after a colon at what stands there; otherwise the line is over
-abbrev pub past_read : Place → StatementRead → Position
-past_read line statement.Bad = record { line = line; at = line; over = true }
-past_read line (statement.Done own) = record { line = line; at = own.ahead.next; over = not (is_symbol Colon own.ahead.token) }
-past_read line (statement.Choice own) = record { line = line; at = line; over = true }
+abbrev pub past_read : Place → Option StatementRead → Position
+past_read line None = record { line = line; at = line; over = true }
+past_read line (Some (statement.Done own)) = record { line = line; at = own.ahead.next; over = not (is_symbol Colon own.ahead.token) }
+past_read line (Some (statement.Choice own)) = record { line = line; at = line; over = true }
 
 -- ---- partners
 
@@ -120,24 +113,25 @@ bracket_of Closes = order.closes
 bracket_of Neither = order.neither
 
 -- by the word that leads a statement
-abbrev pub marked_by : Word → Word → Lead → Bracket
-marked_by first second Nothing = Neither
-marked_by first second (By w t) = cond (is_keyword first (Keyword w)) Opens (cond (is_keyword second (Keyword w)) Closes Neither)
+abbrev pub marked_by : Word → Word → Option Lead → Bracket
+marked_by first second None = Neither
+marked_by first second (Some lead) =
+    cond (is_keyword first (Keyword lead.word)) Opens (cond (is_keyword second (Keyword lead.word)) Closes Neither)
 
 -- how many wait after a statement; or it is the partner
-abbrev pub counted_by : Bracket → ℕ → Waiting
-counted_by Opens k = Still (k + 1)
-counted_by Closes zero = Here
-counted_by Closes (suc k) = Still k
-counted_by Neither k = Still k
+abbrev pub counted_by : Bracket → ℕ → Option ℕ
+counted_by Opens k = Some (k + 1)
+counted_by Closes zero = None
+counted_by Closes (suc k) = Some k
+counted_by Neither k = Some k
 
 -- the statement at a spot, as the text has it from there on
 pub record StandsAs (text : List ℕ) (spot : Spot) (x : Stand) : Type 0 where
   pub rest : List Stand
   pub ahead : Ahead text spot (x ∷ rest)
 
-abbrev pub PartnerAs : List ℕ → Walk → Partner → Type 0
-PartnerAs text (walk.At spot) (some x) = StandsAs text spot x
-PartnerAs text (walk.At spot) none = ⊥
-PartnerAs text walk.Over (some x) = ⊥
-PartnerAs text walk.Over none = Unit {0}
+abbrev pub PartnerAs : List ℕ → Option Spot → Partner → Type 0
+PartnerAs text (Some spot) (some x) = StandsAs text spot x
+PartnerAs text (Some spot) none = ⊥
+PartnerAs text None (some x) = ⊥
+PartnerAs text None none = Unit {0}

@@ -1,4 +1,7 @@
 -- What the check has found of a recipe: of its lines, its statements, and so of each place where a run of it can stand.
+use Rattle.checker.specs.declared.checking.Fault.{Fault}
+use Rattle.std.specs.Prelude.{Err, Ok, Result}
+use Rattle.whole.specs.declared.errors.Error.{Error}
 use mathlib.Core.Path.{◌≡◌, refl, sym}
 use mathlib.Core.Bool.{Bool, true, false, ◌||◌, false≢true}
 use mathlib.Core.List.{List, [], ◌∷◌, ◌++◌}
@@ -10,10 +13,6 @@ use Rattle.statements.specs.Parts.{rightly_typed, named_line, head_of, tail_of, 
 use Rattle.reader.specs.Lines.{Judgement, unreadable, too_deep, holds, judgement}
 use Rattle.statements.proofs.Depths.{heads_append}
 use Rattle.checker.specs.Check.{missing, any_missing, fault_in, or_else, first_fault}
-use Rattle.checker.specs.declared.checking.Soundness.{Soundness}
-use Rattle.checker.specs.declared.checking.Soundness.TheVariants.{Sound, Fault}
-use Rattle.checker.specs.declared.checking.Verdict.{Verdict}
-use Rattle.checker.specs.declared.checking.Verdict.TheVariants.{Passed}
 use Rattle.machine.specs.Machine.{Position, Record, back_of}
 use Rattle.order.proofs.Laws.{Every, every_front, every_back, LinesThroughout}
 use Rattle.runner.specs.Run.{Entered, over, faulty, opened, judged_line, enter}
@@ -58,7 +57,7 @@ module _ (all : List Line) where
 
   abbrev pub LinesChecked : List Line → Type 0
   LinesChecked [] = Unit {0}
-  LinesChecked (l ∷ ls) = (fault_in all (judgement (after_number l)) ≡ Sound) × LinesChecked ls
+  LinesChecked (l ∷ ls) = (fault_in all (judgement (after_number l)) ≡ Ok tt) × LinesChecked ls
 
   abbrev pub RestChecked : Rest → Type 0
   RestChecked nothing = Unit {0}
@@ -82,11 +81,11 @@ module _ (all : List Line) where
   -- ---- lines
 
   -- a recipe that passes has no faulty line
-  sound_later : (s : Soundness) (n : LineNumber) (later : Unit {0} → Verdict) → or_else s n later ≡ Passed → (s ≡ Sound) × (later tt ≡ Passed)
-  sound_later Sound n later e = (refl, e)
-  sound_later (Fault error) n later e = never (cc)
+  sound_later : (s : Result (Unit {0}) Error) (n : LineNumber) (later : Unit {0} → Result (Unit {0}) Fault) → or_else s n later ≡ Ok tt → (s ≡ Ok tt) × (later tt ≡ Ok tt)
+  sound_later (Ok _) n later e = (refl, e)
+  sound_later (Err error) n later e = never (cc)
 
-  pub passed_lines : (ls : List Line) → first_fault all ls ≡ Passed → LinesChecked ls
+  pub passed_lines : (ls : List Line) → first_fault all ls ≡ Ok tt → LinesChecked ls
   unfolding first_fault
   passed_lines [] e = tt
   passed_lines (l ∷ ls) e =
@@ -99,7 +98,7 @@ module _ (all : List Line) where
   EnteredChecked (faulty e) = Allowed e
   EnteredChecked (opened p) = PartChecked p
 
-  sound_reads : (g : Judgement) → fault_in all g ≡ Sound → EnteredChecked (judged_line g)
+  sound_reads : (g : Judgement) → fault_in all g ≡ Ok tt → EnteredChecked (judged_line g)
   sound_reads unreadable e = never (cc)
   sound_reads too_deep e = never (cc)
   sound_reads (holds p) e =

@@ -1,4 +1,5 @@
 -- What operators and functions come to: a value of the type that they give, or an error that is none of 2, 8, 13 and 16.
+use Rattle.std.specs.Prelude.{Err, Ok, Result, ℕ}
 use mathlib.Core.Path.{◌≡◌, refl}
 use mathlib.Core.Bool.{Bool, true, false, cond, not, ◌&&◌}
 use mathlib.Core.List.{List, [], ◌∷◌, ◌++◌}
@@ -11,8 +12,6 @@ use Rattle.whole.specs.Bytes.{is}
 use Rattle.whole.specs.Digits.{signed_value, val_of, sign_length, digits_only, number_item}
 use Rattle.whole.specs.Texts.{signed_numeral, hexadecimal, longest_string}
 use Rattle.whole.specs.Whole.{num, fit, say, unless_zero, applied, magnitude}
-use Rattle.whole.specs.declared.arithmetic.Answer.{Answer}
-use Rattle.whole.specs.declared.arithmetic.Answer.TheVariants as answer
 use Rattle.whole.specs.declared.arithmetic.Operator.{Operator}
 use Rattle.whole.specs.declared.arithmetic.Operator.TheVariants as operator
 use Rattle.whole.specs.declared.errors.Error.{Error}
@@ -41,9 +40,9 @@ Allowed e = one_of spared_numbers (error_number e) ≡ false
 
 -- ---- whole numbers
 
-abbrev pub Answers : Answer → Type 0
-Answers (answer.Whole w) = Unit {0}
-Answers (answer.Fault e) = Allowed e
+abbrev pub Answers : Result ℕ Error → Type 0
+Answers (Ok w) = Unit {0}
+Answers (Err e) = Allowed e
 
 pub fit_answers : (z : ℤ) → Answers (fit z)
 unfolding fit
@@ -102,9 +101,9 @@ fault_fits Whole e room h = h
 fault_fits Text e room h = h
 fault_fits Wrong e room h = tt
 
-pub answered_fits : (a : Answer) (operands : List Value) (room : Room) → Answers a → Fits Whole (answered a operands room)
-answered_fits (answer.Whole w) operands room h = tt
-answered_fits (answer.Fault e) operands room h = h
+pub answered_fits : (a : Result ℕ Error) (operands : List Value) (room : Room) → Answers a → Fits Whole (answered a operands room)
+answered_fits (Ok w) operands room h = tt
+answered_fits (Err e) operands room h = h
 
 pub make_fits : (bytes : List ℕ) (room : Room) → Fits Text (make bytes room)
 unfolding make
@@ -206,7 +205,7 @@ sides_fit operator.Imp = whole_fits operator.Imp
 text_ranged : (right : Bool) (bytes : List ℕ) (vs : List Value) (room : Room) → Fits Text (ranged right room (produced bytes vs room))
 text_ranged right bytes vs room = by_choice (Fits Text) right (produced_fits bytes vs room) refl
 
-word_ranged : (right : Bool) (w : ℕ) (vs : List Value) (room : Room) → Fits Whole (ranged right room (answered (answer.Whole w) vs room))
+word_ranged : (right : Bool) (w : ℕ) (vs : List Value) (room : Room) → Fits Whole (ranged right room (answered (Ok w) vs room))
 word_ranged right w vs room = by_choice (Fits Whole) right tt refl
 
 pub called_fits : (f : Function) (vs : List Value) (room : Room) → Fits (of_kind (gives f)) (called f vs room)

@@ -1,4 +1,6 @@
 -- A statement that the check has found right does not end in 2, 8, 13 or 16, and the run goes on at a place that it has found right.
+use Rattle.std.specs.Prelude.{Err, Ok, Result, ℕ}
+use Rattle.whole.specs.declared.errors.Error.{Error}
 use mathlib.Core.Path.{◌≡◌, refl}
 use mathlib.Core.Bool.{Bool, true, false, false≢true}
 use mathlib.Core.List.{List, [], ◌∷◌}
@@ -8,8 +10,6 @@ use lib.Dec.{ltb, leb, eqb}
 use lib.ListN.{length}
 use Rattle.whole.specs.Digits.{number_item}
 use Rattle.whole.specs.Whole.{applied}
-use Rattle.whole.specs.declared.arithmetic.Answer.{Answer}
-use Rattle.whole.specs.declared.arithmetic.Answer.TheVariants as answer
 use Rattle.whole.specs.declared.arithmetic.Operator.TheVariants.{Add}
 use Rattle.words.specs.declared.names.Kind.{Kind}
 use Rattle.words.specs.declared.names.Kind.TheVariants as kind
@@ -179,13 +179,13 @@ module _ (all : List Line) where
       (skipped_checked name (next_for at after.lines) (past_checked (pairs_by word.For word.Next) at after.lines p.0) (cleared name n) clear)
       (pushed_checked (cleared name n) (loop name limit step after) (λ o. goes_on o after) clear p (goes_on_lem after p)))
 
-  turned_checked : (m : Machine) (v : Telling) (limit step : ℕ) (back : Position) (under : List Record) (after : Position) (a : Answer)
+  turned_checked : (m : Machine) (v : Telling) (limit step : ℕ) (back : Position) (under : List Record) (after : Position) (a : Result ℕ Error)
       → PositionChecked all back → RecordsChecked all under → PositionChecked all after → Answers a
       → NextChecked (turned m v limit step back under after a)
-  turned_checked m v limit step back under after (answer.Whole w) b u p h =
+  turned_checked m v limit step back under after (Ok w) b u p h =
       by_choice NextChecked (numbers_full m.variables.numbers v) refl
       (by_choice NextChecked (passed w limit step) (u, p) ((b, u), b))
-  turned_checked m v limit step back under after (answer.Fault e) b u p h = h
+  turned_checked m v limit step back under after (Err e) b u p h = h
 
   found_checked : (m : Machine) (s : Search) (after : Position) → SearchChecked s → PositionChecked all after → NextChecked (next_on m s after)
   found_checked m missing after h p = refl
@@ -248,9 +248,9 @@ module _ (all : List Line) where
       → NextChecked (given k name b m go)
   given_checked kind.Whole name b m go r k = by_number (number_item b) (number_answers b)
     where
-      by_number : (a : Answer) → Answers a → NextChecked (given_number a name m go)
-      by_number (answer.Whole w) h = number_stored m name w go r k
-      by_number (answer.Fault e) h = h
+      by_number : (a : Result ℕ Error) → Answers a → NextChecked (given_number a name m go)
+      by_number (Ok w) h = number_stored m name w go r k
+      by_number (Err e) h = h
   given_checked kind.Text name b m go r k = worked-text m (make b _) _ (make_fits b _) r (λ c n q. string_stored n name b go q k)
 
   read_checked : (vs : List Variable) (m : Machine) (go : Machine → Next) → MachineChecked m → Continues go → NextChecked (read_items vs m go)

@@ -1,4 +1,6 @@
 -- The most unfinished strings that there ever were never become fewer.
+use Rattle.std.specs.Prelude.{Err, Ok, Result, ℕ}
+use Rattle.whole.specs.declared.errors.Error.{Error}
 use mathlib.Core.Path.{◌≡◌, refl}
 use mathlib.Core.List.{List, [], ◌∷◌, ◌++◌}
 use Prim.Native.Nat.{ℕ, ◌+◌, ◌≤◌}
@@ -7,8 +9,6 @@ use lib.Dec.{ltb}
 use lib.ListN.{length}
 use Rattle.whole.specs.Texts.{longest_string}
 use Rattle.whole.specs.Whole.{applied, negated, flipped, say}
-use Rattle.whole.specs.declared.arithmetic.Answer.{Answer}
-use Rattle.whole.specs.declared.arithmetic.Answer.TheVariants.{Whole, Fault}
 use Rattle.whole.specs.declared.arithmetic.Operator.{Operator}
 use Rattle.words.specs.declared.names.Kind.{Kind}
 use Rattle.words.specs.declared.names.Kind.TheVariants as kind
@@ -49,9 +49,9 @@ produced_rises b vs room =
     by_test (ltb longest_string (length b)) (λ e. rw e (omega arith)) λ e. rw e
     (by_test (ltb room.limit (room.live + length b)) (λ f. rw f (omega arith)) (λ f. rw f (rw let_go_highest (omega arith))))
 
-pub answered_same : (a : Answer) (vs : List Value) (room : Room) → highest_of (answered a vs room) ≡ room.highest
-answered_same (Whole w) vs room = let_go_highest vs room
-answered_same (Fault e) vs room = omega arith
+pub answered_same : (a : Result ℕ Error) (vs : List Value) (room : Room) → highest_of (answered a vs room) ≡ room.highest
+answered_same (Ok w) vs room = let_go_highest vs room
+answered_same (Err e) vs room = omega arith
 
 called_rises : (f : Function) (vs : List Value) (room : Room) → CallView f vs → room.highest ≤ highest_of (called f vs room)
 called_rises f vs room (rooms.makes b p) = rw (p room) (produced_rises b vs room)

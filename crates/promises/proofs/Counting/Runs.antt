@@ -1,4 +1,5 @@
 -- Every request of a run has at most 28 strings unfinished, and the most that the machine notes is the largest count of those granted.
+use Rattle.std.specs.Prelude.{Ok}
 use mathlib.Core.Path.{◌≡◌, refl, ◌∙◌}
 use mathlib.Core.List.{List, []}
 use mathlib.Core.Logic.{inl, inr}
@@ -8,7 +9,6 @@ use borrow.Author.Tests.{le-ltb}
 use Rattle.whole.specs.Bytes.{bytes}
 use Rattle.loader.specs.Lines.{Line, lines_of}
 use Rattle.loader.specs.Loading.{load_of}
-use Rattle.loader.specs.declared.loading.Loaded.TheVariants.{Fine}
 use Rattle.grammar.specs.Trees.{Statement, Part}
 use Rattle.variables.specs.Strings.{longest_space}
 use Rattle.variables.specs.Variables.{string_bytes}
@@ -136,7 +136,7 @@ module _ (text input : List ℕ) (lent : Lent) (budget : ℕ) where
       rw (le-ltb longest_space lent.space q.small, le-ltb most_records lent.records q.few, q.loads)
       (running_counts text budget start q.from q.place q.statement q.machine q.asking q.ask q.begins q.asks (rw same h))
 
-  reached_by : lent.space ≤ longest_space → lent.records ≤ most_records → load_of text ≡ Fine
+  reached_by : lent.space ≤ longest_space → lent.records ≤ most_records → load_of text ≡ Ok tt
       → {h : ℕ} → Raised (Counted text lent.space budget start) (highest_at text start) h → Reached text input lent budget h
   reached_by small few loads (inl e) =
       requests.never (e ∙ stands_highest text (λ h. h ≡ 0) start (entering_stands (λ m. m.highest ≡ 0) (fresh text input lent) (lines_of text) refl))

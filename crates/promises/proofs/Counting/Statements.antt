@@ -1,4 +1,6 @@
 -- Whatever a statement notes was noted before, or is the count of a request that it was granted.
+use Rattle.std.specs.Prelude.{Err, Ok, Result, ℕ}
+use Rattle.whole.specs.declared.errors.Error.{Error}
 use mathlib.Core.Path.{◌≡◌, refl}
 use mathlib.Core.Bool.{Bool, true, false, cond}
 use mathlib.Core.List.{List, [], ◌∷◌}
@@ -9,8 +11,6 @@ use borrow.Author.Tests.{ltb-false}
 use lib.Dec.{ltb, eqb}
 use lib.ListN.{length}
 use Rattle.whole.specs.Digits.{number_item}
-use Rattle.whole.specs.declared.arithmetic.Answer.{Answer}
-use Rattle.whole.specs.declared.arithmetic.Answer.TheVariants.{Whole, Fault}
 use Rattle.words.specs.declared.names.Kind.{Kind}
 use Rattle.words.specs.declared.names.Kind.TheVariants as kind
 use Rattle.words.proofs.Choices.{by_test}
@@ -85,11 +85,11 @@ module _ (exact : LiveIsExactFacts) (X : ℕ → Type 0) (first : ℕ) where
         → Q m.highest → ((n : Machine) → Gave v b m n → n.space ≡ space → Q n.highest → Notes Q (go n)) → Notes Q (given v.kind v.telling b m go)
     given_raises v b m go s give q next = by_kind v.kind refl
       where
-        by_number : (a : Answer) → number_item b ≡ a → v.kind ≡ kind.Whole → Notes Q (given_number a v.telling m go)
-        by_number (Whole w) e t =
+        by_number : (a : Result ℕ Error) → number_item b ≡ a → v.kind ≡ kind.Whole → Notes Q (given_number a v.telling m go)
+        by_number (Ok w) e t =
             by_test (numbers_full m.variables.numbers v.telling) (λ f. rw f q)
             (λ f. rw f (next (with_number m v.telling w) (λ g. rw (t, e, f)) s q))
-        by_number (Fault x) e t = q
+        by_number (Err x) e t = q
 
         by_kind : (k : Kind) → v.kind ≡ k → Notes Q (given k v.telling b m go)
         by_kind kind.Whole t = by_number (number_item b) refl t

@@ -1,4 +1,6 @@
 -- A formula ends in 14 exactly when it asks for more than the space holds besides what is live.
+use Rattle.std.specs.Prelude.{Err, Ok, Result, ℕ}
+use Rattle.whole.specs.declared.errors.Error.{Error}
 use mathlib.Core.Path.{◌≡◌, refl, sym, ◌∙◌}
 use mathlib.Core.Bool.{true}
 use mathlib.Core.List.{List, [], ◌∷◌, ◌++◌}
@@ -8,8 +10,6 @@ use borrow.Author.Tests.{ltb-true, ltb-false, lt-ltb, le-ltb}
 use lib.Dec.{ltb}
 use lib.ListN.{length}
 use Rattle.whole.specs.Whole.{say, applied, negated}
-use Rattle.whole.specs.declared.arithmetic.Answer.{Answer}
-use Rattle.whole.specs.declared.arithmetic.Answer.TheVariants.{Whole, Fault}
 use Rattle.whole.specs.declared.arithmetic.Operator.{Operator}
 use Rattle.whole.specs.declared.errors.Error.TheVariants.{OutOfStringSpace}
 use Rattle.whole.specs.Texts.{longest_string}
@@ -90,9 +90,9 @@ produced_refused b vs room s h = rw (le-ltb _ _ s, make_refused b room h)
 
 -- ---- what asks for nothing never gives 14
 
-answered_never : (a : Answer) → Spares a → (vs : List Value) (room : Room) {after : Room} → answered a vs room ≡ fault OutOfStringSpace after → ⊥
-answered_never (Whole w) h vs room e = never (cc)
-answered_never (Fault x) h vs room e = h (cc)
+answered_never : (a : Result ℕ Error) → Spares a → (vs : List Value) (room : Room) {after : Room} → answered a vs room ≡ fault OutOfStringSpace after → ⊥
+answered_never (Ok w) h vs room e = never (cc)
+answered_never (Err x) h vs room e = h (cc)
 
 whole_over : (o : Outcome) (go : ℕ → Room → Outcome) {after : Room} → ((w : ℕ) (r : Room) → go w r ≡ fault OutOfStringSpace after → ⊥)
     → whole_then o go ≡ fault OutOfStringSpace after → o ≡ fault OutOfStringSpace after

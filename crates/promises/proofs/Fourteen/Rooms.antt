@@ -1,4 +1,6 @@
 -- The room of the string space: what an operator or a function does with it, and that a text that was made lies in it.
+use Rattle.std.specs.Prelude.{Err, Ok, Result, ℕ}
+use Rattle.whole.specs.declared.errors.Error.{Error}
 use mathlib.Core.Path.{◌≡◌, refl}
 use mathlib.Core.Bool.{Bool, true, false, cond, not, ◌&&◌}
 use mathlib.Core.List.{List, [], ◌∷◌, ◌++◌}
@@ -13,8 +15,6 @@ use Rattle.whole.specs.Bytes.{is, blank}
 use Rattle.whole.specs.Digits.{leading_value, signed_value, val_of, sign_length, digits_only, number_item}
 use Rattle.whole.specs.Texts.{signed_numeral, hexadecimal, longest_string}
 use Rattle.whole.specs.Whole.{num, fit, unless_zero, say, applied, negated, magnitude, signum}
-use Rattle.whole.specs.declared.arithmetic.Answer.{Answer}
-use Rattle.whole.specs.declared.arithmetic.Answer.TheVariants.{Whole, Fault}
 use Rattle.whole.specs.declared.arithmetic.Operator.{Operator}
 use Rattle.whole.specs.declared.arithmetic.Operator.TheVariants as operator
 use Rattle.whole.specs.declared.errors.Error.TheVariants.{IllegalFunctionCall, DivisionByZero, TypeMismatch, OutOfStringSpace}
@@ -36,9 +36,9 @@ use Rattle.whole.proofs.Never.{never}
 
 -- ---- an answer of the arithmetic is never 14
 
-abbrev pub Spares : Answer → Type 0
-Spares (Whole w) = Unit {0}
-Spares (Fault e) = e ≡ OutOfStringSpace → ⊥
+abbrev pub Spares : Result ℕ Error → Type 0
+Spares (Ok w) = Unit {0}
+Spares (Err e) = e ≡ OutOfStringSpace → ⊥
 
 fit_spares : (z : ℤ) → Spares (fit z)
 unfolding fit
@@ -47,12 +47,12 @@ fit_spares z =
     (λ e. by_test (lt_z z (negsuc 32767)) (λ f. rw (e, f) (λ x. never (cc))) (λ f. rw (e, f) tt))
 
 -- any test, and two answers
-cond_spares : (t : Bool) (a b : Answer) → Spares a → Spares b → Spares (cond t a b)
+cond_spares : (t : Bool) (a b : Result ℕ Error) → Spares a → Spares b → Spares (cond t a b)
 cond_spares true a b h k = h
 cond_spares false a b h k = k
 
-zero_spares : (b : ℕ) (a : Answer) → Spares a → Spares (unless_zero b a)
-zero_spares b a h = cond_spares (eqb b 0) (Fault DivisionByZero) a (λ x. never (cc)) h
+zero_spares : (b : ℕ) (a : Result ℕ Error) → Spares a → Spares (unless_zero b a)
+zero_spares b a h = cond_spares (eqb b 0) (Err DivisionByZero) a (λ x. never (cc)) h
 
 pub say_spares : (t : Bool) → Spares (say t)
 say_spares true = tt
@@ -89,13 +89,13 @@ signed_spares (b ∷ s) =
 pub number_spares : (s : List ℕ) → Spares (number_item s)
 unfolding number_item
 number_spares s =
-    cond_spares (digits_only (drop (sign_length s) s)) (signed_value s) (Fault IllegalFunctionCall) (signed_spares s) (λ x. never (cc))
+    cond_spares (digits_only (drop (sign_length s) s)) (signed_value s) (Err IllegalFunctionCall) (signed_spares s) (λ x. never (cc))
 
 -- ---- a function of some arguments: its result is a text, in any room; or it is no text; or an argument is out of range
 
 -- a whole number or its error, and never 14
 pub record Answers (f : Function) (vs : List Value) (room : Room) : Type 0 where
-  pub answer : Answer
+  pub answer : Result ℕ Error
   pub spares : Spares answer
   pub is : called f vs room ≡ answered answer vs room
 
@@ -106,10 +106,10 @@ pub data CallView (f : Function) (vs : List Value) : Type 0 where
 
 module _ (vs : List Value) where
   -- a whole number, where the arguments are in range
-  whole_view : (f : Function) (w : ℕ) → ((room : Room) → called f vs room ≡ answered (Whole w) vs room) → CallView f vs
-  whole_view f w e = answers (λ room. record { answer = Whole w; spares = tt; is = e room })
+  whole_view : (f : Function) (w : ℕ) → ((room : Room) → called f vs room ≡ answered (Ok w) vs room) → CallView f vs
+  whole_view f w e = answers (λ room. record { answer = Ok w; spares = tt; is = e room })
 
-  answer_view : (f : Function) (a : Answer) → Spares a → ((room : Room) → called f vs room ≡ answered a vs room) → CallView f vs
+  answer_view : (f : Function) (a : Result ℕ Error) → Spares a → ((room : Room) → called f vs room ≡ answered a vs room) → CallView f vs
   answer_view f a h e = answers (λ room. record { answer = a; spares = h; is = e room })
 
   pub call_view : (f : Function) → CallView f vs
@@ -213,9 +213,9 @@ produced_fits : (b : List ℕ) (vs : List Value) (room : Room) → TextFits (pro
 unfolding produced
 produced_fits b vs room = by_test (ltb longest_string (length b)) (λ e. rw e tt) (λ e. rw e (let_go_fits vs (make b room) (make_fits b room)))
 
-answered_fits : (a : Answer) (vs : List Value) (room : Room) → TextFits (answered a vs room)
-answered_fits (Whole w) vs room = tt
-answered_fits (Fault e) vs room = tt
+answered_fits : (a : Result ℕ Error) (vs : List Value) (room : Room) → TextFits (answered a vs room)
+answered_fits (Ok w) vs room = tt
+answered_fits (Err e) vs room = tt
 
 called_fits : (f : Function) (vs : List Value) (room : Room) → CallView f vs → TextFits (called f vs room)
 called_fits f vs room (makes b e) = rw (e room) (produced_fits b vs room)

@@ -1,4 +1,6 @@
 -- A run ends in 14 exactly when a statement of it asks for more than the space holds besides what is live.
+use Rattle.std.specs.Prelude.{Err, Ok, Result, ℕ}
+use Rattle.whole.specs.declared.errors.Error.{Error}
 use mathlib.Core.Path.{◌≡◌, refl, ap, ◌∙◌}
 use mathlib.Core.Bool.{Bool, true, false, cond}
 use mathlib.Core.List.{List, [], ◌∷◌, ◌++◌}
@@ -9,8 +11,6 @@ use lib.Dec.{ltb, leb, eqb}
 use lib.ListN.{length}
 use Rattle.whole.specs.Digits.{number_item}
 use Rattle.whole.specs.Whole.{applied}
-use Rattle.whole.specs.declared.arithmetic.Answer.{Answer}
-use Rattle.whole.specs.declared.arithmetic.Answer.TheVariants.{Whole, Fault}
 use Rattle.whole.specs.declared.arithmetic.Operator.TheVariants.{Add}
 use Rattle.whole.specs.declared.errors.Error.TheVariants.{OutOfStringSpace}
 use Rattle.words.specs.declared.names.Kind.{Kind}
@@ -142,13 +142,13 @@ module _ (X : Type 0) where
       (λ e. rw e (skipped_tells name (next_for at after.lines) (cleared name n)))
       (λ e. rw e (pushed_tells (cleared name n) (loop name limit step after) (λ o. goes_on o after) (λ o. tt))))
 
-  turned_tells : (m : Machine) (v : Telling) (limit step : ℕ) (back : Position) (under : List Record) (after : Position) (a : Answer) → Spares a
+  turned_tells : (m : Machine) (v : Telling) (limit step : ℕ) (back : Position) (under : List Record) (after : Position) (a : Result ℕ Error) → Spares a
       → Tells X (turned m v limit step back under after a)
-  turned_tells m v limit step back under after (Whole w) h =
+  turned_tells m v limit step back under after (Ok w) h =
       number_tells m v w
       (λ n. cond (passed w limit step) (goes_on (with_records n under) after) (goes_on (with_records n (loop v limit step back ∷ under)) back))
       (λ n. by_test (passed w limit step) (λ e. rw e tt) (λ e. rw e tt))
-  turned_tells m v limit step back under after (Fault x) h = λ t. absurd (h t)
+  turned_tells m v limit step back under after (Err x) h = λ t. absurd (h t)
 
   next_tells : (m : Machine) (s : Search) (after : Position) → Tells X (next_on m s after)
   next_tells m missing after = λ t. never (cc)
@@ -200,9 +200,9 @@ SpaceIs s (stops m) = m.space ≡ s
 SpaceIs s (fails e m) = m.space ≡ s
 
 module _ (m : Machine) (name : Telling) (b : List ℕ) where
-  number_space : (a : Answer) → SpaceIs m.space (given_number a name m ends)
-  number_space (Whole w) = by_test (numbers_full m.variables.numbers name) (λ t. rw t refl) (λ t. rw t refl)
-  number_space (Fault e) = refl
+  number_space : (a : Result ℕ Error) → SpaceIs m.space (given_number a name m ends)
+  number_space (Ok w) = by_test (numbers_full m.variables.numbers name) (λ t. rw t refl) (λ t. rw t refl)
+  number_space (Err e) = refl
 
   made_space : (o : Outcome) → SpaceIs m.space (worked m o (λ x n. store_string n name b ends))
   made_space (value y room) = by_test (strings_full m.variables.strings name) (λ t. rw t refl) (λ t. rw t refl)
@@ -261,11 +261,11 @@ module _ (exact : LiveIsExactFacts) where
         → ((n : Machine) → Gave v b m n → n.space ≡ space → Tells X (go n)) → Tells X (given v.kind v.telling b m go)
     given_tells v b m go s over h = by_kind v.kind refl
       where
-        by_number : (a : Answer) → number_item b ≡ a → Spares a → v.kind ≡ kind.Whole → Tells X (given_number a v.telling m go)
-        by_number (Whole w) e p q =
+        by_number : (a : Result ℕ Error) → number_item b ≡ a → Spares a → v.kind ≡ kind.Whole → Tells X (given_number a v.telling m go)
+        by_number (Ok w) e p q =
             by_test (numbers_full m.variables.numbers v.telling) (λ t. rw t (λ x. never (cc)))
             (λ t. rw t (h (with_number m v.telling w) (λ g. rw (q, e, t)) s))
-        by_number (Fault x) e p q = λ t. absurd (p t)
+        by_number (Err x) e p q = λ t. absurd (p t)
 
         by_made : (o : Outcome) → make b (room_of m) ≡ o → v.kind ≡ kind.Text → Tells X (worked m o (λ x n. store_string n v.telling b go))
         by_made (value y room) e q =

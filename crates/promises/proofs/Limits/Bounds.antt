@@ -1,4 +1,7 @@
 -- What a run never exceeds: its budget, the room for output, the input and the string space.
+use Rattle.std.specs.Prelude.{Err, Ok, Result}
+use Rattle.loader.specs.declared.refusals.RefusedAt.{RefusedAt}
+use Rattle.loader.specs.Refusals.{refused_at}
 use mathlib.Core.Path.{◌≡◌, refl}
 use mathlib.Core.Bool.{false}
 use mathlib.Core.List.{List}
@@ -13,8 +16,6 @@ use Rattle.words.specs.declared.places.Place.{Place}
 use Rattle.words.proofs.Choices.{by_test}
 use Rattle.loader.specs.Lines.{Line, lines_of, next_line}
 use Rattle.loader.specs.Loading.{load_of}
-use Rattle.loader.specs.declared.loading.Loaded.{Loaded}
-use Rattle.loader.specs.declared.loading.Loaded.TheVariants as loaded
 use Rattle.loader.specs.declared.refusals.Refusal.{Refusal}
 use Rattle.loader.specs.declared.refusals.Refusal.TheVariants.{SpaceTooLong, StackTooLong}
 use Rattle.grammar.specs.Trees.{Formula, Part}
@@ -82,9 +83,9 @@ pub data RunView (text input : List ℕ) (lent : Lent) (budget : ℕ) : Type 0 w
       → RunView text input lent budget
   tall : lent.space ≤ longest_space → most_records < lent.records → run_of text input lent budget ≡ ends_with (Refused StackTooLong (place 0)) (fresh text input lent)
       → RunView text input lent budget
-  unloaded : (r : Refusal) (p : Place) → lent.space ≤ longest_space → lent.records ≤ most_records → load_of text ≡ loaded.Refused r p
+  unloaded : (r : Refusal) (p : Place) → lent.space ≤ longest_space → lent.records ≤ most_records → load_of text ≡ refused_at r p
       → run_of text input lent budget ≡ ends_with (Refused r p) (fresh text input lent) → RunView text input lent budget
-  runs : lent.space ≤ longest_space → lent.records ≤ most_records → load_of text ≡ loaded.Fine
+  runs : lent.space ≤ longest_space → lent.records ≤ most_records → load_of text ≡ Ok tt
       → run_of text input lent budget ≡ running budget text (entering (fresh text input lent) (lines_of text))
       → RunView text input lent budget
 
@@ -94,9 +95,9 @@ run_view text input lent budget =
     by_test (ltb longest_space lent.space) (λ t. long (ltb-true _ _ t) (rw t)) λ t.
     by_test (ltb most_records lent.records) (λ u. tall (ltb-false _ _ t) (ltb-true _ _ u) (rw (t, u))) (λ u. loads (load_of text) refl t u)
   where
-    loads : (x : Loaded) → load_of text ≡ x → ltb longest_space lent.space ≡ false → ltb most_records lent.records ≡ false → RunView text input lent budget
-    loads loaded.Fine e t u = runs (ltb-false _ _ t) (ltb-false _ _ u) e (rw (t, u, e))
-    loads (loaded.Refused r p) e t u = unloaded r p (ltb-false _ _ t) (ltb-false _ _ u) e (rw (t, u, e))
+    loads : (x : Result (Unit {0}) RefusedAt) → load_of text ≡ x → ltb longest_space lent.space ≡ false → ltb most_records lent.records ≡ false → RunView text input lent budget
+    loads (Ok _) e t u = runs (ltb-false _ _ t) (ltb-false _ _ u) e (rw (t, u, e))
+    loads (Err x) e t u = unloaded x.refusal x.place (ltb-false _ _ t) (ltb-false _ _ u) e (rw (t, u, e))
 
 run_from : (P : Machine → Type 0) (text input : List ℕ) (lent : Lent) (budget : ℕ) → RunView text input lent budget
     → P (fresh text input lent) → P (running budget text (entering (fresh text input lent) (lines_of text))).machine

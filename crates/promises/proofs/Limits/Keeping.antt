@@ -1,4 +1,6 @@
 -- What each statement keeps: a property of machines that every change of a machine keeps is kept by a whole run.
+use Rattle.std.specs.Prelude.{Err, Ok, Result, ℕ}
+use Rattle.whole.specs.declared.errors.Error.{Error}
 use mathlib.Core.Path.{◌≡◌, refl}
 use mathlib.Core.Bool.{Bool, true, false, cond}
 use mathlib.Core.List.{List, [], ◌∷◌, ◌++◌}
@@ -9,8 +11,6 @@ use lib.Dec.{ltb, leb, eqb}
 use lib.ListN.{length, length-drop}
 use Rattle.whole.specs.Digits.{number_item}
 use Rattle.whole.specs.Whole.{applied}
-use Rattle.whole.specs.declared.arithmetic.Answer.{Answer}
-use Rattle.whole.specs.declared.arithmetic.Answer.TheVariants.{Whole, Fault}
 use Rattle.whole.specs.declared.arithmetic.Operator.TheVariants.{Add}
 use Rattle.words.specs.declared.names.Kind.{Kind}
 use Rattle.words.specs.declared.names.Kind.TheVariants as kind
@@ -126,14 +126,14 @@ module _ (P : Machine → Type 0) (k : Changes P) where
       cleared_roomy : (n : Machine) → Roomy n (cleared name n).records
       cleared_roomy n l = omega (arith, below_fewer n.records (sought (is_loop_of name) n.records) (sought_fewer (is_loop_of name) n.records))
 
-  pub turned_keeps : (m : Machine) (v : Telling) (limit step : ℕ) (back : Position) (under : List Record) (after : Position) (a : Answer)
+  pub turned_keeps : (m : Machine) (v : Telling) (limit step : ℕ) (back : Position) (under : List Record) (after : Position) (a : Result ℕ Error)
       → length under < length m.records → P m → Leaves P (turned m v limit step back under after a)
-  turned_keeps m v limit step back under after (Whole w) f p =
+  turned_keeps m v limit step back under after (Ok w) f p =
       stored_keeps m v w
       (λ n. cond (passed w limit step) (goes_on (with_records n under) after) (goes_on (with_records n (loop v limit step back ∷ under)) back)) p (λ q.
       by_test (passed w limit step) (λ e. rw e (k.records (with_number m v w) under (λ l. omega arith) q))
       (λ e. rw e (k.records (with_number m v w) (loop v limit step back ∷ under) (λ l. omega arith) q)))
-  turned_keeps m v limit step back under after (Fault e) f p = p
+  turned_keeps m v limit step back under after (Err e) f p = p
 
   pub next_keeps : (m : Machine) (s : Search) (after : Position) → Fewer (length m.records) s → P m → Leaves P (next_on m s after)
   next_keeps m missing after f p = p
@@ -235,9 +235,9 @@ module _ (P : Machine → Type 0) (k : Keeps P) where
       → Leaves P (given sort name b m go)
   given_keeps kind.Whole name b m go p h = by_number (number_item b)
     where
-      by_number : (a : Answer) → Leaves P (given_number a name m go)
-      by_number (Whole w) = number_keeps P k.changes m name w go p h
-      by_number (Fault e) = p
+      by_number : (a : Result ℕ Error) → Leaves P (given_number a name m go)
+      by_number (Ok w) = number_keeps P k.changes m name w go p h
+      by_number (Err e) = p
   given_keeps kind.Text name b m go p h =
       worked_keeps m (make b (room_of m)) _ (make_rises b (room_of m)) p (λ v room e q.
       string_keeps P k.changes (noting m room) name b go q (λ full. k.strings m name (tree.text b) b room (made_text b m.variables (room_of m) v room e) full p) h)

@@ -1,4 +1,5 @@
 -- A run is refused exactly for its string space, its records or its text: one that was begun never is.
+use Rattle.loader.specs.Refusals.{refused_at}
 use mathlib.Core.Path.{◌≡◌, refl, ap}
 use mathlib.Core.Bool.{false}
 use mathlib.Core.List.{List}
@@ -11,7 +12,6 @@ use Rattle.words.specs.declared.places.Place.{Place}
 use Rattle.loader.specs.Lines.{Line, lines_of, next_line}
 use Rattle.loader.specs.Loading.{load_of}
 use Rattle.loader.specs.Refusals.{refusal_number}
-use Rattle.loader.specs.declared.loading.Loaded.TheVariants as loaded
 use Rattle.loader.specs.declared.refusals.Refusal.{Refusal}
 use Rattle.loader.specs.declared.refusals.Refusal.TheVariants.{SpaceTooLong, StackTooLong}
 use Rattle.machine.specs.Items.{fresh}
@@ -69,7 +69,7 @@ running_begun (suc n) program (at m lines p) h =
 pub data RefusedFor (text : List ℕ) (lent : Lent) : Refusal → Place → Type 0 where
   long_space : longest_space < lent.space → RefusedFor text lent SpaceTooLong (place 0)
   long_stack : lent.space ≤ longest_space → most_records < lent.records → RefusedFor text lent StackTooLong (place 0)
-  not_loaded : {r : Refusal} {p : Place} → lent.space ≤ longest_space → lent.records ≤ most_records → load_of text ≡ loaded.Refused r p → RefusedFor text lent r p
+  not_loaded : {r : Refusal} {p : Place} → lent.space ≤ longest_space → lent.records ≤ most_records → load_of text ≡ refused_at r p → RefusedFor text lent r p
 
 -- by its case, and by its number and place
 refused_for : {text : List ℕ} {lent : Lent} {r : Refusal} {p : Place} → RefusedFor text lent r p → demands.RefusedFor text lent (refusal_number r) p.0

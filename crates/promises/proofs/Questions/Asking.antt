@@ -1,4 +1,5 @@
 -- Asking after a run is asking for the value of a variable.
+use Rattle.std.specs.Prelude.{Result, Err}
 use mathlib.Core.Path.{◌≡◌, refl, sym, ap, ◌∙◌}
 use mathlib.Core.Bool.{Bool, true, false, cond, not, ◌&&◌}
 use mathlib.Core.List.{List, [], ◌∷◌}
@@ -19,7 +20,8 @@ use Rattle.variables.specs.Variables.{NumberVariable, StringVariable, string_byt
 use Rattle.machine.specs.Machine.{Machine, Lent, lent_by}
 use Rattle.asking.specs.Asking.{is_whole_name, ask_of}
 use Rattle.asking.specs.declared.questions.Asked.{Asked}
-use Rattle.asking.specs.declared.questions.Asked.TheVariants.{Refused}
+use Rattle.loader.specs.declared.refusals.Refusal.{Refusal}
+use Rattle.loader.specs.declared.refusals.Refusal.TheVariants.{NoVariable}
 use Rattle.runner.specs.Run as run
 use Rattle.runner.specs.Run.{is_refused, tables_of, answer_of, run_of}
 use Rattle.runner.specs.declared.running.Ran.{Ran}
@@ -31,12 +33,12 @@ use Rattle.promises.proofs.Questions.Layout.{value_said}
 
 -- ---- what is given
 
-either_said : (t : Bool) (space : List ℕ) (a : Asked) (r : Reply) → Says space a r → Says space (cond t a Refused) (cond t r no_name)
+either_said : (t : Bool) (space : List ℕ) (a : Result Asked Refusal) (r : Reply) → Says space a r → Says space (cond t a (Err NoVariable)) (cond t r no_name)
 either_said true space a r h = h
 either_said false space a r h = refused
 
-name_said : (t : Token) (space : List ℕ) (ask : Name → Asked) (reply : Name → Reply) → ((v : Name) → Says space (ask v) (reply v))
-    → Says space (on_name t ask Refused) (on_name t reply no_name)
+name_said : (t : Token) (space : List ℕ) (ask : Name → Result Asked Refusal) (reply : Name → Reply) → ((v : Name) → Says space (ask v) (reply v))
+    → Says space (on_name t ask (Err NoVariable)) (on_name t reply no_name)
 name_said token.EndOfLine space ask reply h = refused
 name_said (token.Keyword w) space ask reply h = refused
 name_said token.Not space ask reply h = refused
@@ -57,7 +59,7 @@ asked_over_variables vars space given h =
     either_said (is_whole_name given (token_at given (place 0)) v) space _ _ (value_said vars space h (telling_of (name_bytes given v)) v.kind))
 
 -- of what is equal to it
-said_as : {space left : List ℕ} {x y : Asked} {r : Reply} → space ≡ left → x ≡ y → Says left y r → Says space x r
+said_as : {space left : List ℕ} {x y : Result Asked Refusal} {r : Reply} → space ≡ left → x ≡ y → Says left y r → Says space x r
 said_as e f h = rw (e, f) h
 
 -- ---- a run has at most 64 variables of each kind

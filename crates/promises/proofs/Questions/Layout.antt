@@ -1,4 +1,5 @@
 -- The tables that hold some variables, entry by entry: a name reads there as it does among the variables.
+use Rattle.std.specs.Prelude.{None, Option, Some, ℕ, Ok, Err}
 use mathlib.Core.Path.{◌≡◌, refl, sym, ap, ◌∙◌}
 use mathlib.Core.Bool.{cond}
 use mathlib.Core.List.{List, [], ◌∷◌, ◌++◌, map, append_assoc}
@@ -13,14 +14,13 @@ use Rattle.words.specs.declared.names.Kind.TheVariants as kind
 use Rattle.words.proofs.Choices.{by_test}
 use Rattle.variables.specs.Variables.{NumberVariable, StringVariable, Variables, word_of, bytes_of, joined_strings, most_variables}
 use Rattle.variables.specs.Tables.{names_long, name_bytes, strings_table, names_from, names_in, numbers_in, slot_from, slot_in, sum_of}
-use Rattle.variables.specs.declared.tables.Slot.{Slot}
-use Rattle.variables.specs.declared.tables.Slot.TheVariants as slot
 use Rattle.variables.proofs.Lookups as lookups
 use Rattle.variables.proofs.Lookups.{First, slot_first}
 use Rattle.variables.proofs.Names.{alike-telling}
 use Rattle.variables.proofs.Naming.{names_laid}
 use Rattle.asking.specs.Asking.{string_asked, asked}
-use Rattle.asking.specs.declared.questions.Asked.TheVariants.{Text, Refused}
+use Rattle.asking.specs.declared.questions.Asked.TheVariants.{Text}
+use Rattle.loader.specs.declared.refusals.Refusal.TheVariants.{NoVariable}
 use Rattle.runner.specs.Run.{tables_of}
 use Rattle.promises.specs.Questions.{string, value_for, Says, its_word, its_part, Holds}
 use Rattle.whole.proofs.Never.{never}
@@ -114,14 +114,14 @@ string_found (v ∷ vs) (suc n) m i zeros back name h f =
     (λ j g. string_found vs n m j zeros back name (omega arith) g)
 
 string_missing : (vs : List StringVariable) (k n : ℕ) (zeros : List ℕ) (name : Telling) → length vs ≤ n
-    → slot_from k (names_from n (names_of vs ++ zeros)) name ≡ slot.None → bytes_of vs name ≡ []
+    → slot_from k (names_from n (names_of vs ++ zeros)) name ≡ None → bytes_of vs name ≡ []
 unfolding bytes_of slot_from name_bytes
 string_missing [] k n zeros name h e = refl
 string_missing (v ∷ vs) k zero zeros name h e = absurd (omega arith)
 string_missing (v ∷ vs) k (suc n) zeros name h e =
     let x = rw (names_laid n v.name (map (λ (v : StringVariable). v.name) vs) zeros, alike-telling v.name name) at e in
     by_test (alike v.name name)
-    (λ t. let s : slot.At k ≡ slot.None = rw t at x in never (cc))
+    (λ t. let s : Some k ≡ None = rw t at x in never (cc))
     (λ t. rw t (string_missing vs (suc k) n zeros name (omega arith) (rw t at x)))
 
 -- ---- both
@@ -134,7 +134,7 @@ module _ (vars : Variables) (space : List ℕ) (h : Holds vars space) (name : Te
   lengths = (strings_table vars.strings).lengths
 
   part_said : {from len : ℕ} → Stands space (bytes_of vars.strings name) from len
-      → Says space (cond (leb (from + len) (length space)) (Text (record { 0 = from }) len) Refused) (string (bytes_of vars.strings name))
+      → Says space (cond (leb (from + len) (length space)) (Ok (Text (record { 0 = from }) len)) (Err NoVariable)) (string (bytes_of vars.strings name))
   part_said {from} {len} s =
       let b = bytes_of vars.strings name in
       let l = ap length s.there ∙ length-append s.front (b ++ s.back) in
@@ -142,12 +142,12 @@ module _ (vars : Variables) (space : List ℕ) (h : Holds vars space) (name : Te
       let inside : from + len ≤ length space = omega (arith, l, k, s.before, s.long) in
       rw (le-leb (from + len) (length space) inside, ← s.before, ← s.long) (its_part s.front b s.back s.there)
 
-  string_said : (x : Slot) → slot_in table name ≡ x → Says space (string_asked x lengths (length space)) (string (bytes_of vars.strings name))
+  string_said : (x : Option ℕ) → slot_in table name ≡ x → Says space (string_asked x lengths (length space)) (string (bytes_of vars.strings name))
   unfolding names_in
-  string_said slot.None e =
+  string_said None e =
       rw (string_missing vars.strings 0 most_variables (replicate (names_long - name_width * length vars.strings) 0) name h.strings e)
       (its_part [] [] space refl)
-  string_said (slot.At i) e =
+  string_said (Some i) e =
       let s = string_found vars.strings most_variables (most_variables - length vars.strings) i
       (replicate (names_long - name_width * length vars.strings) 0) h.unused name h.strings (slot_first table name i e) in
       part_said (rw h.joined s)

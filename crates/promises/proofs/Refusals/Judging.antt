@@ -1,4 +1,7 @@
 -- A line is judged by the first row of the table that applies to it.
+use Rattle.std.specs.Prelude.{Err, Ok, Result}
+use Rattle.words.specs.declared.places.LineNumber.{LineNumber}
+use Rattle.loader.specs.declared.refusals.RefusedAt.{RefusedAt}
 use mathlib.Core.Path.{◌≡◌, refl, sym, ap, ◌∙◌}
 use mathlib.Core.Bool.{true, false≢true}
 use mathlib.Core.List.{List, ◌∷◌, ◌++◌}
@@ -14,8 +17,6 @@ use Rattle.words.specs.declared.places.Place.{Place}
 use Rattle.words.proofs.Choices.{by_test}
 use Rattle.loader.specs.Lines.{Line, number_of}
 use Rattle.loader.specs.Loading.{is_plain, most_lines, numbered, with_number, judged}
-use Rattle.loader.specs.declared.loading.Judged.{Judged}
-use Rattle.loader.specs.declared.loading.Judged.TheVariants.{Good, Bad}
 use Rattle.loader.specs.declared.refusals.Refusal.{Refusal}
 use Rattle.loader.specs.declared.refusals.Refusal.TheVariants.{NoVariable, SpaceTooLong, StackTooLong, TextTooLong, LineTooLong, ForeignByte, BadNumber, NotRising, TooManyLines, ShortGroup, TooManyPairs, NoRoom}
 use Rattle.promises.specs.Refusals.{Plain, AllPlain, begins_with_digit, Applies, too_long, foreign, unnumbered, number_too_large, not_rising, too_many, row_of, NoneApplies}
@@ -24,10 +25,10 @@ use Rattle.promises.proofs.Refusals.Rows.{front_of, front_counted, digits_first,
 -- ---- a line
 
 -- what judging a line comes to, by the table
-abbrev pub Judges : List Line → Line → Judged → Type 0
-Judges before l (Good n) = (n.0 ≡ leading_value l.bytes) × NoneApplies before l
-Judges before l (Bad r q) =
-    Applies before l r (place (l.start + q.0)) × ((s : Refusal) (p : Place) → Applies before l s p → row_of r ≤ row_of s)
+abbrev pub Judges : List Line → Line → Result LineNumber RefusedAt → Type 0
+Judges before l (Ok n) = (n.0 ≡ leading_value l.bytes) × NoneApplies before l
+Judges before l (Err e) =
+    Applies before l e.refusal (place (l.start + e.place.0)) × ((s : Refusal) (p : Place) → Applies before l s p → row_of e.refusal ≤ row_of s)
 
 -- how far from its line's first byte a row's place is
 abbrev pub offset_in : Line → Refusal → ℕ

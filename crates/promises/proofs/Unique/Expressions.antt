@@ -7,9 +7,6 @@ use Rattle.promises.proofs.Unique.{same}
 pub formula_at : Unique expressions.formula_at.Kinds.ps expressions.formula_at.Kinds.r expressions.formula_at.Reads.Pre expressions.formula_at.Reads.Post
 formula_at κs a p z z' ws ws' e e' = (same e e', refl)
 
-pub larger : Unique expressions.larger.Kinds.ps expressions.larger.Kinds.r expressions.larger.Reads.Pre expressions.larger.Reads.Post
-larger κs a p z z' ws ws' e e' = (same e e', refl)
-
 pub of_kind : Unique expressions.of_kind.Kinds.ps expressions.of_kind.Kinds.r expressions.of_kind.Reads.Pre expressions.of_kind.Reads.Post
 of_kind κs a p z z' ws ws' e e' = (same e e', refl)
 

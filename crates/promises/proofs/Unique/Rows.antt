@@ -4,6 +4,9 @@ use Rattle.rows.proofs as rows
 use Rattle.promises.specs.Calls.{Unique}
 use Rattle.promises.proofs.Unique.{same}
 
+pub count_of : Unique rows.count_of.Kinds.ps rows.count_of.Kinds.r rows.count_of.Reads.Pre rows.count_of.Reads.Post
+count_of κs a p z z' ws ws' e e' = (same e e', refl)
+
 pub has_row : Unique rows.has_row.Kinds.ps rows.has_row.Kinds.r rows.has_row.Reads.Pre rows.has_row.Reads.Post
 has_row κs a p z z' ws ws' e e' = (same e e', refl)
 

@@ -18,19 +18,10 @@ run κs a p z z' ws ws' e e' = (
 -- over tables that are lent
 pub run_lent : Unique runner.run_lent.Kinds.ps runner.run_lent.Kinds.r runner.run_lent.Reads.Pre runner.run_lent.Reads.Post
 run_lent κs a p z z' ws ws' e e' =
-    let told : Done → Lasts contracts.run_lent.ended κs a → Ran = λ d l. ran_of d l.1.1.1.1.1.1.1.0 l.1.1.1.1.1.1.1.1.0 l.1.1.1.1.1.1.1.1.1.0 l.1.1.1.1.1.1.1.1.1.1.0 in
+    let told : Done → Lasts contracts.run_lent.ended κs a → Ran = λ d l. ran_of d l.1.1.1.1.1.1.1.0 in
     let q : told z ws ≡ told z' ws' = same e.0 e'.0 in (
-      λ i. record {
-        outcome = (q i).outcome;
-        steps = (q i).steps;
-        written = (q i).written;
-        taken = (q i).taken;
-        numbers = (q i).tables.numbers.count;
-        strings = (q i).tables.strings.count;
-      },
-      pair refl (pair refl (pair (same e.1.0 e'.1.0) (pair (same e.1.1.0 e'.1.1.0) (pair refl (pair (same e.1.1.1 e'.1.1.1) (pair refl
-          (pair (λ i. (q i).tables.numbers.names) (pair (λ i. (q i).tables.numbers.words)
-          (pair (λ i. (q i).tables.strings.names) (pair (λ i. (q i).tables.strings.lengths) refl)))))))))),
+      λ i. record { outcome = (q i).outcome; steps = (q i).steps; written = (q i).written; taken = (q i).taken },
+      pair refl (pair refl (pair (same e.1.0 e'.1.0) (pair (same e.1.1.0 e'.1.1.0) (pair refl (pair (same e.1.1.1 e'.1.1.1) (pair refl (pair (λ i. (q i).tables) refl))))))),
     )
 
 pub run_with : Unique runner.run_with.Kinds.ps runner.run_with.Kinds.r runner.run_with.Reads.Pre runner.run_with.Reads.Post

@@ -12,3 +12,6 @@ statement_led κs a p z z' ws ws' e e' = (same e e', refl)
 
 pub lead_at : Unique statements.lead_at.Kinds.ps statements.lead_at.Kinds.r statements.lead_at.Reads.Pre statements.lead_at.Reads.Post
 lead_at κs a p z z' ws ws' e e' = (same e e', refl)
+
+pub own : Unique statements.reading.StatementRead.own.Kinds.ps statements.reading.StatementRead.own.Kinds.r statements.reading.StatementRead.own.Reads.Pre statements.reading.StatementRead.own.Reads.Post
+own κs a p z z' ws ws' e e' = (same e e', refl)

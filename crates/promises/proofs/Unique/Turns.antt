@@ -1,6 +1,6 @@
 -- The public functions of `turns`.
 use mathlib.Core.Path.{◌≡◌, refl}
-use mathlib.Core.List.{[]}
+use Rattle.variables.specs.Tables.{empty_tables}
 use Rattle.turns.proofs as turns
 use Rattle.machine.specs.bridge.Holding.{State}
 use Rattle.machine.specs.declared.positions.Turned.{Turned}
@@ -13,8 +13,6 @@ use Rattle.promises.proofs.Unique.{same, pair}
 -- the code's machine, told by the state that it is
 abbrev machine_from : State → Machine
 machine_from s = record {
-  numbers = s.tables.numbers.count;
-  strings = s.tables.strings.count;
   used = record { 0 = s.used };
   printer = s.printer;
   taken = record { 0 = s.taken };
@@ -46,22 +44,18 @@ goes_on κs a p z z' ws ws' e e' = (same e e', refl)
 -- whatever tables there are, and so where they are none
 pub push : Unique turns.push.Kinds.ps turns.push.Kinds.r turns.push.Reads.Pre turns.push.Reads.Post
 push κs a p z z' ws ws' e e' =
-    let q : turn_of z [] [] [] [] ≡ turn_of z' [] [] [] [] = same (e [] [] [] []) (e' [] [] [] []) in (λ i. turned_from (q i), refl)
+    let q : turn_of z empty_tables ≡ turn_of z' empty_tables = same (e empty_tables) (e' empty_tables) in (λ i. turned_from (q i), refl)
 
 pub stored_or_full : Unique turns.stored_or_full.Kinds.ps turns.stored_or_full.Kinds.r turns.stored_or_full.Reads.Pre turns.stored_or_full.Reads.Post
 stored_or_full κs a p z z' ws ws' e e' = (same e e', refl)
 
--- whatever tables the others are, and so where they are none
 pub with_number : Unique turns.with_number.Kinds.ps turns.with_number.Kinds.r turns.with_number.Reads.Pre turns.with_number.Reads.Post
 with_number κs a p z z' ws ws' e e' =
-    let q : storage_of z ws.1.0 ws.1.1.0 [] [] ≡ storage_of z' ws'.1.0 ws'.1.1.0 [] [] = same (e [] []) (e' [] []) in
-    (λ i. stored_from (q i), pair refl (pair (λ i. (q i).state.tables.numbers.names) (pair (λ i. (q i).state.tables.numbers.words) refl)))
+    let q : storage_of z ws.1.0 ≡ storage_of z' ws'.1.0 = same e e' in (λ i. stored_from (q i), pair refl (pair (λ i. (q i).state.tables) refl))
 
 pub with_string : Unique turns.with_string.Kinds.ps turns.with_string.Kinds.r turns.with_string.Reads.Pre turns.with_string.Reads.Post
 with_string κs a p z z' ws ws' e e' =
-    let q : storage_of z [] [] ws.1.0 ws.1.1.0 ≡ storage_of z' [] [] ws'.1.0 ws'.1.1.0 = same (e.0 [] []) (e'.0 [] []) in (
+    let q : storage_of z ws.1.0 ≡ storage_of z' ws'.1.0 = same e.0 e'.0 in (
       λ i. stored_from (q i),
-      pair refl
-          (pair (λ i. (q i).state.tables.strings.names)
-          (pair (λ i. (q i).state.tables.strings.lengths) (pair refl (pair refl (pair (same e.1 e'.1) refl))))),
+      pair refl (pair (λ i. (q i).state.tables) (pair refl (pair refl (pair (same e.1 e'.1) refl)))),
     )

@@ -4,6 +4,9 @@ use Rattle.whole.proofs as whole
 use Rattle.promises.specs.Calls.{Unique}
 use Rattle.promises.proofs.Unique.{same}
 
+pub truth : Unique whole.truth.Kinds.ps whole.truth.Kinds.r whole.truth.Reads.Pre whole.truth.Reads.Post
+truth κs a p z z' ws ws' e e' = (same e e', refl)
+
 pub apply : Unique whole.apply.Kinds.ps whole.apply.Kinds.r whole.apply.Reads.Pre whole.apply.Reads.Post
 apply κs a p z z' ws ws' e e' = (same e e', refl)
 

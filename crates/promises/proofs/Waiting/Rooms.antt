@@ -1,4 +1,6 @@
 -- What is made and let go: a result adds its own string to what was there before its operands, and nothing else stays.
+use Rattle.std.specs.Prelude.{Err, Ok, Result, ℕ}
+use Rattle.whole.specs.declared.errors.Error.{Error}
 use mathlib.Core.Path.{◌≡◌, refl}
 use mathlib.Core.Bool.{Bool, true, false, ◌&&◌}
 use mathlib.Core.List.{List, [], ◌∷◌}
@@ -10,8 +12,6 @@ use lib.ListN.{length, take, drop, get_or, replicate}
 use Rattle.whole.specs.Digits.{val_of}
 use Rattle.whole.specs.Texts.{signed_numeral, hexadecimal, longest_string}
 use Rattle.whole.specs.Whole.{fit, magnitude, signum}
-use Rattle.whole.specs.declared.arithmetic.Answer.{Answer}
-use Rattle.whole.specs.declared.arithmetic.Answer.TheVariants.{Whole, Fault}
 use Rattle.whole.specs.Bytes.{blank}
 use Rattle.words.specs.declared.symbols.Function.{Function}
 use Rattle.words.specs.declared.symbols.Function.TheVariants.{Len, Asc, Chr, Left, Right, Mid, Space, String, Instr, Str, Hex, Val, Abs, Sgn, Fre}
@@ -65,11 +65,11 @@ module _ (top : ℕ) where
 
   -- operands were worked out; now a result is made, and they are let go
   module _ (vs : List Value) {before after : Room} (k : Kept before after (all_bytes vs) (all_strings vs)) where
-    pub answered_good : (x : Answer) → Good before (answered x vs after)
-    answered_good (Whole w) =
+    pub answered_good : (x : Result ℕ Error) → Good before (answered x vs after)
+    answered_good (Ok w) =
         let g = k.grown in
         let_go_kept vs (record { grown = record { limit = g.limit; live = omega arith; unfinished = omega arith }; low = k.low })
-    answered_good (Fault e) = k.low
+    answered_good (Err e) = k.low
 
     ranged_good : (t : Bool) (x : Outcome) → Good before x → Good before (ranged t after x)
     ranged_good true x h = h
@@ -86,8 +86,8 @@ module _ (top : ℕ) where
           (record { grown = record { limit = g.limit; live = omega arith; unfinished = omega arith }; low = omega (arith, k.low) })))
 
       pub called_good : (f : Function) → Good before (called f vs after)
-      called_good Len = answered_good (Whole (length (bytes vs 0)))
-      called_good Asc = ranged_good (leb 1 (length (bytes vs 0))) _ (answered_good (Whole (get_or (bytes vs 0) 0 0)))
+      called_good Len = answered_good (Ok (length (bytes vs 0)))
+      called_good Asc = ranged_good (leb 1 (length (bytes vs 0))) _ (answered_good (Ok (get_or (bytes vs 0) 0 0)))
       called_good Chr = ranged_good (within 0 (word vs 0)) _ (produced_good (word vs 0 ∷ []))
       called_good Left = ranged_good (within 0 (word vs 1)) _ (produced_good (take (word vs 1) (bytes vs 0)))
       called_good Right =
@@ -101,10 +101,10 @@ module _ (top : ℕ) where
           (produced_good (replicate (word vs 0) (fill_byte (argument vs 1))))
       called_good Instr =
           ranged_good (within 1 (instr_start vs)) _
-          (answered_good (Whole (place_of (instr_start vs) (bytes vs (instr_texts vs)) (bytes vs (suc (instr_texts vs))))))
+          (answered_good (Ok (place_of (instr_start vs) (bytes vs (instr_texts vs)) (bytes vs (suc (instr_texts vs))))))
       called_good Str = produced_good (signed_numeral (word vs 0))
       called_good Hex = produced_good (hexadecimal (word vs 0))
       called_good Val = answered_good (val_of (bytes vs 0))
       called_good Abs = answered_good (magnitude (word vs 0))
-      called_good Sgn = answered_good (Whole (signum (word vs 0)))
+      called_good Sgn = answered_good (Ok (signum (word vs 0)))
       called_good Fre = answered_good (fit (pos (after.limit - (let_all_go vs after).live)))

@@ -1,4 +1,6 @@
 -- No run ever has more than 28 unfinished strings.
+use Rattle.std.specs.Prelude.{Err, Ok, Result}
+use Rattle.loader.specs.declared.refusals.RefusedAt.{RefusedAt}
 use mathlib.Core.List.{List, [], ◌∷◌}
 use Prim.Native.Nat.{ℕ, zero, suc, ◌≤◌}
 use native.Mathlib.Omega.{arith}
@@ -8,8 +10,6 @@ use Rattle.words.specs.declared.places.LineNumber.{LineNumber}
 use Rattle.words.proofs.Choices.{by_test}
 use Rattle.loader.specs.Lines.{Line, lines_of, after_number, next_line}
 use Rattle.loader.specs.Loading.{load_of}
-use Rattle.loader.specs.declared.loading.Loaded.{Loaded}
-use Rattle.loader.specs.declared.loading.Loaded.TheVariants as loaded
 use Rattle.grammar.specs.Trees.{Part}
 use Rattle.statements.specs.Parts.{head_of, tail_of, Rest, nothing, part, place_of}
 use Rattle.machine.specs.Items.{fresh}
@@ -68,10 +68,10 @@ running_few (suc n) program (at m lines p) h =
 pub fresh_sound : (text input : List ℕ) (lent : Lent) → Sound (fresh text input lent)
 fresh_sound text input lent = record { few = omega arith; held = tt }
 
-loaded_few : (x : Loaded) (m : Machine) (go : Unit {0} → Ran) → m.highest ≤ most_unfinished → (go tt).machine.highest ≤ most_unfinished
+loaded_few : (x : Result (Unit {0}) RefusedAt) (m : Machine) (go : Unit {0} → Ran) → m.highest ≤ most_unfinished → (go tt).machine.highest ≤ most_unfinished
     → (if_loaded x m go).machine.highest ≤ most_unfinished
-loaded_few loaded.Fine m go h k = k
-loaded_few (loaded.Refused refusal p) m go h k = h
+loaded_few (Ok _) m go h k = k
+loaded_few (Err e) m go h k = h
 
 run_few : (text input : List ℕ) (lent : Lent) (budget : ℕ) → (run_of text input lent budget).machine.highest ≤ most_unfinished
 unfolding run_of

@@ -1,4 +1,6 @@
 -- No statement has more than 28 unfinished strings, and wherever the run goes on, only formulas that were let through stand.
+use Rattle.std.specs.Prelude.{Err, Ok, Result, ℕ}
+use Rattle.whole.specs.declared.errors.Error.{Error}
 use mathlib.Core.Path.{◌≡◌, refl}
 use mathlib.Core.Bool.{Bool, true, false, cond}
 use mathlib.Core.List.{List, [], ◌∷◌}
@@ -8,8 +10,6 @@ use lib.Dec.{ltb, leb, eqb}
 use lib.ListN.{length}
 use Rattle.whole.specs.Digits.{number_item}
 use Rattle.whole.specs.Whole.{applied}
-use Rattle.whole.specs.declared.arithmetic.Answer.{Answer}
-use Rattle.whole.specs.declared.arithmetic.Answer.TheVariants.{Whole, Fault}
 use Rattle.whole.specs.declared.arithmetic.Operator.TheVariants.{Add}
 use Rattle.words.specs.declared.names.Kind.{Kind}
 use Rattle.words.specs.declared.names.Kind.TheVariants as kind
@@ -145,13 +145,13 @@ returned_sound : {m : Machine} (x : Search) → Sound m → SearchFine x → Nex
 returned_sound missing s h = s
 returned_sound (found r under) s h = (record { few = s.few; held = h.1 }, h.0)
 
-turned_sound : {m : Machine} (v : Telling) (limit step : ℕ) (back : Position) (under : List Record) (after : Position) (x : Answer)
+turned_sound : {m : Machine} (v : Telling) (limit step : ℕ) (back : Position) (under : List Record) (after : Position) (x : Result ℕ Error)
     → Sound m → RestFine back.rest → records.Each RecordFine under → RestFine after.rest
     → NextFine (turned m v limit step back under after x)
-turned_sound {m} v limit step back under after (Whole w) s b u a =
+turned_sound {m} v limit step back under after (Ok w) s b u a =
     either_fine (numbers_full m.variables.numbers v) _ _ s
     (either_fine (passed w limit step) _ _ (record { few = s.few; held = u }, a) (record { few = s.few; held = (b, u) }, b))
-turned_sound v limit step back under after (Fault e) s b u a = s
+turned_sound v limit step back under after (Err e) s b u a = s
 
 next_sound : {m : Machine} (x : Search) (after : Position) → Sound m → SearchFine x → RestFine after.rest → NextFine (next_on m x after)
 next_sound missing after s h a = s
@@ -232,9 +232,9 @@ given_sound : (k : Kind) (name : Telling) (b : List ℕ) (m : Machine) (go : Mac
     → NextFine (given k name b m go)
 given_sound kind.Whole name b m go s h = by_number (number_item b)
   where
-    by_number : (a : Answer) → NextFine (given_number a name m go)
-    by_number (Whole w) = either_fine (numbers_full m.variables.numbers name) _ _ s (h (with_number m name w) (record { few = s.few; held = s.held }))
-    by_number (Fault e) = s
+    by_number : (a : Result ℕ Error) → NextFine (given_number a name m go)
+    by_number (Ok w) = either_fine (numbers_full m.variables.numbers name) _ _ s (h (with_number m name w) (record { few = s.few; held = s.held }))
+    by_number (Err e) = s
 given_sound kind.Text name b m go s h =
     worked_sound (make b (room_of m)) _ s (make_good most_unfinished b (room_of m) s.few (omega arith))
     (λ x o u. either_fine (strings_full o.variables.strings name) _ _ u (h (with_string o name b) (record { few = u.few; held = u.held })))

@@ -1,6 +1,6 @@
 -- Bridge: the walk over a line, statement by statement in text order, beside the parts that the line reads as. Contracts between crates
 -- cite it; no demand and no promise of `run`, `check_recipe` or `ask` rests on it.
-use Rattle.std.specs.Prelude.{◌≡◌, Bool, true, false, cond, ◌&&◌, List, [], ◌++◌, ℕ, zero, suc, ◌+◌, ◌≤◌, max, ltb}
+use Rattle.std.specs.Prelude.{◌≡◌, Bool, true, false, cond, ◌&&◌, List, [], ◌++◌, ℕ, zero, suc, ◌+◌, ◌≤◌, max, ltb, None, Option, Some, Result, Ok, Err}
 use Rattle.words.specs.Places.{place}
 use Rattle.words.specs.declared.places.Place.{Place}
 use Rattle.words.specs.declared.symbols.Scanned.{Scanned}
@@ -13,13 +13,14 @@ use Rattle.expressions.specs.Types.{deepest_nesting}
 use Rattle.skimming.specs.bridge.Remaining.{weight}
 use Rattle.statements.specs.Parts.{parts_of}
 use Rattle.statements.specs.Statements.{PartReading, bad_part, good_part, part_of}
+use Rattle.statements.specs.bridge.Answers.{own_of}
 use Rattle.statements.specs.declared.reading.Own.{Own}
 use Rattle.statements.specs.declared.reading.StatementRead.{StatementRead}
 use Rattle.statements.specs.declared.reading.StatementRead.TheVariants as statement
-use Rattle.reader.specs.declared.branches.Start.{Start}
-use Rattle.reader.specs.declared.branches.Start.TheVariants as start
-use Rattle.reader.specs.declared.lines.Judged.{Judged}
-use Rattle.reader.specs.declared.lines.Judged.TheVariants.{TooDeep, Reads}
+use Rattle.whole.specs.declared.errors.Error.{Error}
+use Rattle.whole.specs.declared.errors.Error.TheVariants.{Syntax, FormulaTooComplex}
+use Rattle.reader.specs.declared.lines.LineFault.{LineFault}
+use Rattle.reader.specs.declared.lines.LineFault.TheVariants.{Unreadable, TooDeep}
 use Rattle.reader.specs.declared.lines.Tally.{Tally}
 use Rattle.reader.specs.declared.walking.Follow.{Follow}
 use Rattle.reader.specs.declared.walking.Follow.TheVariants as follow
@@ -29,32 +30,32 @@ use Rattle.reader.specs.declared.walking.Onward.TheVariants as onward
 -- ---- what follows a statement
 
 -- by the token after one that is done
-abbrev pub follows_done : Scanned → Follow
+abbrev pub follows_done : Scanned → Option Follow
 follows_done t =
-    cond (is_symbol Colon t.token) (follow.Statement t.next)
-    (cond (is_keyword Else t.token) (follow.Else t.next) (cond (ends_line t.token) follow.End follow.Nothing))
+    cond (is_symbol Colon t.token) (Some (follow.Statement t.next))
+    (cond (is_keyword Else t.token) (Some (follow.Else t.next)) (cond (ends_line t.token) (Some follow.End) None))
 
-abbrev pub follow_of : StatementRead → Follow
-follow_of statement.Bad = follow.Nothing
-follow_of (statement.Done own) = follows_done own.ahead
-follow_of (statement.Choice own) = follow.Part own.ahead.next
+abbrev pub follow_of : Option StatementRead → Option Follow
+follow_of None = None
+follow_of (Some (statement.Done own)) = follows_done own.ahead
+follow_of (Some (statement.Choice own)) = Some (follow.Part own.ahead.next)
 
 -- where the next statement begins, if there is one
-abbrev pub start_of : Follow → Start
-start_of (follow.Statement q) = start.At q
-start_of (follow.Part q) = start.At q
-start_of (follow.Else q) = start.At q
-start_of follow.End = start.None
-start_of follow.Nothing = start.None
+abbrev pub start_of : Option Follow → Option Place
+start_of (Some (follow.Statement q)) = Some q
+start_of (Some (follow.Part q)) = Some q
+start_of (Some (follow.Else q)) = Some q
+start_of (Some follow.End) = None
+start_of None = None
 
 -- the walk after it, while so many IFs wait for an ELSE: a part waits for one more, an ELSE is the nearest waiting one's
-abbrev pub onward_of : ℕ → Follow → Onward
-onward_of k (follow.Statement q) = onward.Statement (record { at = q; first = false; waiting = k })
-onward_of k (follow.Part q) = onward.Statement (record { at = q; first = true; waiting = suc k })
-onward_of zero (follow.Else q) = onward.Else q
-onward_of (suc k) (follow.Else q) = onward.Statement (record { at = q; first = true; waiting = k })
-onward_of k follow.End = onward.End
-onward_of k follow.Nothing = onward.Nothing
+abbrev pub onward_of : ℕ → Option Follow → Option Onward
+onward_of k (Some (follow.Statement q)) = Some (onward.Statement (record { at = q; first = false; waiting = k }))
+onward_of k (Some (follow.Part q)) = Some (onward.Statement (record { at = q; first = true; waiting = suc k }))
+onward_of zero (Some (follow.Else q)) = Some (onward.Else q)
+onward_of (suc k) (Some (follow.Else q)) = Some (onward.Statement (record { at = q; first = true; waiting = k }))
+onward_of k (Some follow.End) = Some onward.End
+onward_of k None = None
 
 -- ---- what a walk comes to
 
@@ -94,11 +95,11 @@ resume s k r = with_part r (rest_at s k)
 abbrev pub walk_from : List ℕ → Bool → ℕ → ℕ → Visited
 walk_from s first k p = resume s k (part_of s first p)
 
-abbrev pub walk_on : List ℕ → Onward → Visited
-walk_on s (onward.Statement w) = walk_from s w.first w.waiting w.at.0
-walk_on s (onward.Else q) = visited [] (stray q)
-walk_on s onward.End = visited [] over
-walk_on s onward.Nothing = stuck
+abbrev pub walk_on : List ℕ → Option Onward → Visited
+walk_on s (Some (onward.Statement w)) = walk_from s w.first w.waiting w.at.0
+walk_on s (Some (onward.Else q)) = visited [] (stray q)
+walk_on s (Some onward.End) = visited [] over
+walk_on s None = stuck
 
 -- ---- in a line that reads
 
@@ -107,25 +108,29 @@ pub record Onto (s : List ℕ) (p : ℕ) (xs : List Part) : Type 0 where
   pub waiting : ℕ
   pub visits : walk_from s true waiting p ≡ visited xs over
 
-abbrev pub StartsAs : List ℕ → Start → List Part → Type 0
-StartsAs s (start.At q) xs = Onto s q.0 xs
-StartsAs s start.None xs = xs ≡ []
+abbrev pub StartsAs : List ℕ → Option Place → List Part → Type 0
+StartsAs s (Some q) xs = Onto s q.0 xs
+StartsAs s None xs = xs ≡ []
 
 -- less is left to read
-abbrev pub Further : List ℕ → ℕ → Start → Type 0
-Further s p (start.At q) = weight s (token_at s (place q.0)) + 4 ≤ weight s (token_at s (place p))
-Further s p start.None = Unit {0}
+abbrev pub Further : List ℕ → ℕ → Option Place → Type 0
+Further s p (Some q) = weight s (token_at s (place q.0)) + 4 ≤ weight s (token_at s (place p))
+Further s p None = Unit {0}
 
 -- ---- judging
 
-abbrev pub verdict_of : Tally → Judged
-verdict_of t = cond (ltb deepest_nesting t.deepest) TooDeep (Reads t.typed)
+-- the error that a line without a part is refused for
+abbrev pub error_of : LineFault → Error
+error_of Unreadable = Syntax
+error_of TooDeep = FormulaTooComplex
+
+abbrev pub verdict_of : Tally → Result Bool LineFault
+verdict_of t = cond (ltb deepest_nesting t.deepest) (Err TooDeep) (Ok t.typed)
 
 -- one statement more
 abbrev pub with_own : Tally → Own → Tally
 with_own t own = record { deepest = max t.deepest own.deepest; typed = t.typed && own.typed }
 
-abbrev pub tallied_of : Tally → StatementRead → Tally
-tallied_of t statement.Bad = t
-tallied_of t (statement.Done own) = with_own t own
-tallied_of t (statement.Choice own) = with_own t own
+abbrev pub tallied_of : Tally → Option StatementRead → Tally
+tallied_of t None = t
+tallied_of t (Some read) = with_own t (own_of read)

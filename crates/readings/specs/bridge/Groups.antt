@@ -16,6 +16,10 @@ is_number (Double value) = not (is_nan value)
 abbrev pub Holds : Line → List ℕ → Type 0
 Holds line s = (take line.len line.bytes ≡ s) × (line.len ≡ length s) × (line.len ≤ 24) × (length line.bytes ≡ 24)
 
+-- the line of four bytes
+unfoldable pub line_for : List ℕ → List ℕ
+line_for group = line_of (reading_of (get_or group 0 0) (get_or group 1 0) (get_or group 2 0) (get_or group 3 0))
+
 -- the line of the group with an index
 unfoldable pub line_at : List ℕ → ℕ → List ℕ
 line_at file index =

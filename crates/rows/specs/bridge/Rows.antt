@@ -1,18 +1,15 @@
 -- Bridge: the table of a text's lines, as numbers, beside the lines. Contracts between crates cite it; no demand and no promise of `run`,
 -- `check_recipe` or `ask` rests on it.
-use Rattle.std.specs.Prelude.{◌≡◌, List, [], ◌∷◌, ℕ, ◌+◌, ◌*◌, ◌≤◌, ◌<◌, length, get_or, drop}
+use Rattle.rows.specs.declared.cells.Row.{Row}
+use Rattle.std.specs.Prelude.{◌≡◌, List, [], ◌∷◌, ℕ, ◌+◌, ◌*◌, ◌≤◌, ◌<◌, length, get_or, drop, None, Ok, Option, Some, Bool, Result, Err}
 use Rattle.std.proofs.lemmas.List.Edits.{sets}
 use Rattle.words.specs.Places.{place, line_number}
 use Rattle.loader.specs.Lines.{Line, lines_of, after_number, first_of}
 use Rattle.loader.specs.Loading.{load_of, most_lines}
 use Rattle.loader.specs.declared.lines.LineSpan.{LineSpan}
-use Rattle.loader.specs.declared.lines.LineFound.TheVariants.{Is}
-use Rattle.loader.specs.declared.loading.Loaded.TheVariants.{Fine}
 use Rattle.reader.specs.Lines.{judged_of}
-use Rattle.reader.specs.declared.lines.Judged.{Judged}
-use Rattle.reader.specs.declared.lines.Judged.TheVariants.{Unreadable, TooDeep, Reads}
-use Rattle.rows.specs.declared.finding.RowFound.{RowFound}
-use Rattle.rows.specs.declared.finding.RowFound.TheVariants as found
+use Rattle.reader.specs.declared.lines.LineFault.{LineFault}
+use Rattle.reader.specs.declared.lines.LineFault.TheVariants.{Unreadable, TooDeep}
 
 -- ---- numbers in rows
 
@@ -45,10 +42,10 @@ abbrev pub verdict_in : List ℕ → ℕ → ℕ
 verdict_in rows row = cell rows row 5
 
 -- 0 for a line that reads, else the number of its error
-abbrev pub verdict_of : Judged → ℕ
-verdict_of Unreadable = 2
-verdict_of TooDeep = 16
-verdict_of (Reads typed) = 0
+abbrev pub verdict_of : Result Bool LineFault → ℕ
+verdict_of (Err Unreadable) = 2
+verdict_of (Err TooDeep) = 16
+verdict_of (Ok typed) = 0
 
 -- a row written; its places fit the numbers
 abbrev pub put : List ℕ → ℕ → LineSpan → ℕ → List ℕ
@@ -70,12 +67,12 @@ verdict_first (l ∷ ls) = verdict_of (judged_of (after_number l))
 
 -- a row tells the first of some lines
 pub record Tells (rows : List ℕ) (row : ℕ) (ls : List Line) : Type 0 where
-  pub span : first_of ls ≡ Is (span_in rows row)
+  pub span : first_of ls ≡ Some (span_in rows row)
   pub verdict : verdict_in rows row ≡ verdict_first ls
 
 -- the table of a text that loads: a row a line, in order
 pub record Tabled (text rows : List ℕ) : Type 0 where
-  pub loads : load_of text ≡ Fine
+  pub loads : load_of text ≡ Ok tt
   pub counts : count_of rows ≡ length (lines_of text)
   pub tells : (i : ℕ) → i < count_of rows → Tells rows i (drop i (lines_of text))
 
@@ -92,6 +89,6 @@ pub record Ordered (rows : List ℕ) : Type 0 where
   pub places : Rises rows 1
 
 -- the row that has a number in a column
-abbrev pub Finds : List ℕ → ℕ → ℕ → RowFound → Type 0
-Finds rows column n (found.At row) = (row.0 < count_of rows) × (cell rows row.0 column ≡ n)
-Finds rows column n found.None = (i : ℕ) → i < count_of rows → cell rows i column ≡ n → ⊥
+abbrev pub Finds : List ℕ → ℕ → ℕ → Option Row → Type 0
+Finds rows column n (Some row) = (row.0 < count_of rows) × (cell rows row.0 column ≡ n)
+Finds rows column n None = (i : ℕ) → i < count_of rows → cell rows i column ≡ n → ⊥

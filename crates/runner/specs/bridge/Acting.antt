@@ -6,18 +6,18 @@ use Rattle.scanner.specs.Tokens.{token_at}
 use Rattle.statements.specs.Statements.{lead_of, begun_by}
 use Rattle.rows.specs.bridge.Rows.{count_of, span_in, Tabled}
 use Rattle.rows.specs.declared.cells.Row.{Row}
+use Rattle.variables.specs.declared.tables.Numbers.{Numbers}
 use Rattle.machine.specs.Machine.{most_records}
 use Rattle.machine.specs.Machine as spec
-use Rattle.machine.specs.bridge.Holding.{lines_at, blank_record, Fed, State, Sound, Same}
+use Rattle.machine.specs.bridge.Holding.{lines_at, Fed, State, Sound, Same}
 use Rattle.machine.specs.bridge.Seeking.{Seeks}
 use Rattle.machine.specs.bridge.Wanted.{found_in, entry_at}
 use Rattle.machine.specs.declared.positions.Next.TheVariants as next
 use Rattle.machine.specs.declared.records.Record.{Record}
-use Rattle.machine.specs.declared.records.Found.{Found}
-use Rattle.machine.specs.declared.records.Found.TheVariants as found
 use Rattle.machine.specs.declared.records.Sought.{Sought}
 use Rattle.turns.specs.bridge.Turns.{turned_to, Leaves, FoundBelow}
 use Rattle.runner.specs.Run as run
+use Rattle.variables.specs.declared.tables.Numbers.{Numbers}
 use Rattle.runner.specs.bridge.Standings.{line_in, Stood, StandsAs, Rowed}
 use Rattle.runner.specs.declared.going.Acted.{Acted}
 use Rattle.runner.specs.declared.going.Asked.{Asked}
@@ -46,23 +46,15 @@ pub record StandsAt (text rows : List ℕ) (s : Standing) : Type 0 where
   pub is : s ≡ standing.At row at
   pub here : At text rows row.0 at
 
--- how it is led, and the record that it asks for; the names are those of so many number variables
-pub record Asks (names : List ℕ) (numbers : ℕ) (line : List ℕ) (here at : Place) (asked : Asked) : Type 0 where
+-- how it is led, and the record that it asks for
+pub record Asks (numbers : Numbers) (line : List ℕ) (here at : Place) (asked : Asked) : Type 0 where
   pub led : asked.lead ≡ lead_of line true (token_at line at)
-  pub seeks : Seeks names numbers here at asked.sought (begun_by line asked.lead)
+  pub seeks : Seeks numbers.names numbers.count here at asked.sought (begun_by line asked.lead)
 
-pub record AsksAt (text rows names : List ℕ) (numbers : ℕ) (s : Standing) (asked : Asked) : Type 0 where
-  pub asks : (row : Row) (at : Place) → s ≡ standing.At row at → Asks names numbers (line_in text (span_in rows row.0)) (span_in rows row.0).place at asked
+pub record AsksAt (text rows : List ℕ) (numbers : Numbers) (s : Standing) (asked : Asked) : Type 0 where
+  pub asks : (row : Row) (at : Place) → s ≡ standing.At row at → Asks numbers (line_in text (span_in rows row.0)) (span_in rows row.0).place at asked
 
 -- ---- what was looked up
-
--- the slot that was found; past the last of any stack where none was
-abbrev pub slot_of : Found → ℕ
-slot_of (found.At i) = i
-slot_of found.None = most_records
-
-abbrev pub no_lookup : Lookup
-no_lookup = record { found = found.None; entry = blank_record }
 
 -- in some records, down from a depth
 pub record LooksUp (sought : Sought) (depth : ℕ) (rs : List Record) (lookup : Lookup) : Type 0 where

@@ -1,11 +1,11 @@
 -- Bridge: the end of a run, and what is refused before it.
 -- The contracts of functions inside this crate cite it; no demand and no promise of run, check_recipe or ask rests on it.
-use Rattle.std.specs.Prelude.{◌≡◌, true, false, cond, List, ℕ, ltb, replicate}
+use Rattle.loader.specs.declared.refusals.RefusedAt.{RefusedAt}
+use Rattle.std.specs.Prelude.{◌≡◌, false, cond, List, ℕ, ltb, Result}
 use Rattle.words.specs.Places.{place}
 use Rattle.words.specs.declared.places.Place.{Place}
 use Rattle.loader.specs.Lines.{lines_of}
-use Rattle.loader.specs.declared.loading.Loaded.{Loaded}
-use Rattle.loader.specs.declared.loading.Loaded.TheVariants as loaded
+use Rattle.loader.specs.Refusals.{refused_at}
 use Rattle.loader.specs.declared.refusals.Refusal.{Refusal}
 use Rattle.loader.specs.declared.refusals.Refusal.TheVariants.{SpaceTooLong, StackTooLong}
 use Rattle.rows.specs.bridge.Rows.{span_in}
@@ -16,14 +16,11 @@ use Rattle.machine.specs.Machine as spec
 use Rattle.machine.specs.Machine.{most_records}
 use Rattle.machine.specs.bridge.Holding.{State}
 use Rattle.machine.specs.declared.state.Machine.{Machine}
-use Rattle.variables.specs.Tables.{names_long}
-use Rattle.variables.specs.Variables.{most_variables}
 use Rattle.runner.specs.declared.running.Done.{Done}
 use Rattle.runner.specs.Run as run
--- they stand among what is to be believed, as the run's contract names them
-pub use Rattle.runner.specs.Run.{ran_of, lent_tables}
+-- it stands among what is to be believed, as the run's contract names it
+pub use Rattle.runner.specs.Run.{ran_of}
 use Rattle.runner.specs.Run.{entering, running, is_refused, answer_of, space_after, room_after}
-use Rattle.runner.specs.declared.running.Before.{Before}
 use Rattle.runner.specs.declared.running.Outcome.{Outcome}
 use Rattle.runner.specs.declared.running.Outcome.TheVariants.{Out, Refused}
 use Rattle.runner.specs.declared.running.Ran.{Ran}
@@ -42,18 +39,11 @@ outcome_of rows (standing.At row at) = Out (span_in rows row.0).number
 -- what the loop answers
 abbrev pub done_as : Outcome → Machine → Done
 done_as o m =
-    record { outcome = o; steps = m.steps; written = m.printer.written; taken = m.taken.0; numbers = m.numbers; strings = m.strings }
+    record { outcome = o; steps = m.steps; written = m.printer.written; taken = m.taken.0 }
 
 abbrev pub ended_as : Outcome → State → Ran
 ended_as o m =
     record { outcome = o; steps = m.steps; written = m.printer.written; taken = m.taken; tables = m.tables }
-
--- the tables that a run begins with
-pub record Blank (names words labels lengths : List ℕ) : Type 0 where
-  pub no_names : names ≡ replicate names_long 0
-  pub no_words : words ≡ replicate most_variables 0
-  pub no_labels : labels ≡ replicate names_long 0
-  pub no_lengths : lengths ≡ replicate most_variables 0
 
 -- the memory and the answer are those of a run that was not refused
 pub record RanAs (ran : run.Ran) (space room : List ℕ) (r : Ran) (space' room' : List ℕ) : Type 0 where
@@ -65,17 +55,10 @@ pub record RanAs (ran : run.Ran) (space room : List ℕ) (r : Ran) (space' room'
 -- ---- refusals
 
 abbrev pub refused_as : Refusal → Place → Done
-refused_as refusal place = record { outcome = Refused refusal place; steps = 0; written = 0; taken = 0; numbers = 0; strings = 0 }
+refused_as refusal place = record { outcome = Refused refusal place; steps = 0; written = 0; taken = 0 }
 
-abbrev pub refusing : Refusal → Place → Before
-refusing refusal p = record { fine = false; refusal = refusal; place = p }
-
--- of what loads no refusal is read
-abbrev pub before_loaded : Loaded → Before
-before_loaded loaded.Fine = record { fine = true; refusal = SpaceTooLong; place = place 0 }
-before_loaded (loaded.Refused refusal p) = refusing refusal p
-
-abbrev pub before_of : ℕ → ℕ → Loaded → Before
-before_of space records l =
-    cond (ltb longest_space space) (refusing SpaceTooLong (place 0))
-    (cond (ltb most_records records) (refusing StackTooLong (place 0)) (before_loaded l))
+-- what is tested before the text is loaded, and then what loading answers
+abbrev pub admitted : ℕ → ℕ → Result (Unit {0}) RefusedAt → Result (Unit {0}) RefusedAt
+admitted space records loaded =
+    cond (ltb longest_space space) (refused_at SpaceTooLong (place 0))
+    (cond (ltb most_records records) (refused_at StackTooLong (place 0)) loaded)

@@ -1,12 +1,10 @@
 -- Bridge: where the code stands in a run, by a row of the table of lines, beside where the definition does.
 -- The contracts of functions inside this crate cite it; no demand and no promise of run, check_recipe or ask rests on it.
-use Rattle.std.specs.Prelude.{◌≡◌, false, List, ℕ, ◌<◌, ◌-◌, take, drop}
+use Rattle.std.specs.Prelude.{◌≡◌, false, List, ℕ, ◌<◌, ◌-◌, take, drop, Ok, Some}
 use Rattle.words.specs.declared.places.Place.{Place}
 use Rattle.loader.specs.Lines.{line_at}
 use Rattle.loader.specs.Loading.{load_of}
 use Rattle.loader.specs.declared.lines.LineSpan.{LineSpan}
-use Rattle.loader.specs.declared.lines.LineFound.TheVariants.{Is}
-use Rattle.loader.specs.declared.loading.Loaded.TheVariants.{Fine}
 use Rattle.rows.specs.bridge.Rows.{count_of, span_in, Tabled}
 use Rattle.rows.specs.declared.cells.Row.{Row}
 use Rattle.machine.specs.Machine as spec
@@ -28,9 +26,9 @@ line_in text span = take (span.end.0 - span.body.0) (drop span.body.0 text)
 
 -- one stands at a place of one of its lines
 pub record Stood (text : List ℕ) (span : LineSpan) (at : Place) : Type 0 where
-  pub loads : load_of text ≡ Fine
+  pub loads : load_of text ≡ Ok tt
   pub begins : Begins text span.place.0
-  pub spans : line_at text span.place ≡ Is span
+  pub spans : line_at text span.place ≡ Some span
   pub reads : Parted (body_of (lines_at text span.place.0)) at.0
 
 -- ---- where a run stands

@@ -1,14 +1,12 @@
 -- Bridge: what is held of a sheet between two parts. `CutAnywhere` joins it with the definition of a sheet.
-use Rattle.std.specs.Prelude.{◌≡◌, cond, List, [], ◌∷◌, ℕ, eqb, take}
+use Rattle.std.specs.Prelude.{◌≡◌, cond, Ok, Err, List, [], ◌∷◌, ℕ, eqb, take}
 use Prim.Native.Char.{code}
 use Rattle.whole.specs.Texts.{held, with_byte}
 use Rattle.whole.specs.declared.texts.Text.{Text}
 use Rattle.loader.specs.Lines.{ends_line}
 use Rattle.records.specs.Records.{record_of}
-use Rattle.tallies.specs.bridge.Counting.{no_runs, good, with_record}
+use Rattle.tallies.specs.bridge.Counting.{Standing, no_runs, good, with_record}
 use Rattle.tallies.specs.declared.counting.Tally.{Tally}
-use Rattle.tallies.specs.declared.counting.Standing.{Standing}
-use Rattle.tallies.specs.declared.counting.Standing.TheVariants.{Good, Refused}
 use Rattle.tallies.specs.declared.counting.Count.{Count}
 use Rattle.sheet.specs.Printed.{printed_of}
 use Rattle.sheet.specs.Sheet.{refused_line, sheet_of, joined}
@@ -48,8 +46,8 @@ unfoldable pub last_counted : Sheet → Count
 last_counted s = cond (eqb s.line.len 0) s.count (with_record s.count (record_of (contents s.line)))
 
 abbrev pub lines : Standing → Tally → List ℕ
-lines Good t = printed_of t
-lines (Refused n) t = refused_line n
+lines (Ok u) t = printed_of t
+lines (Err refused) t = refused_line refused.number
 
 unfoldable pub finished : Sheet → List ℕ
 finished s = lines (last_counted s).standing (last_counted s).tally

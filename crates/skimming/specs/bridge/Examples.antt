@@ -1,6 +1,7 @@
 -- Bridge: worked examples, computed by the checker: formulas that the flat reader reads to their end, and some that it does not.
 -- No demand and no promise of run, check_recipe or ask rests on it.
-use Rattle.std.specs.Prelude.{◌≡◌, refl, Bool, true, false, List, [], ◌∷◌, map, ℕ}
+use Rattle.words.specs.declared.symbols.Scanned.{Scanned}
+use Rattle.std.specs.Prelude.{◌≡◌, refl, Bool, true, false, List, [], ◌∷◌, map, ℕ, None, Option, Some}
 use Prim.Native.String.{String}
 use Rattle.whole.specs.Bytes.{bytes, leading}
 use Rattle.whole.specs.Digits.{is_digit, value_from}
@@ -12,8 +13,6 @@ use Rattle.scanner.specs.Tokens.{mark_of, word_token, number_token, hex_from, he
 use Rattle.grammar.specs.Tests.{ends_line}
 use Rattle.grammar.specs.Functions.{any_for}
 use Rattle.skimming.specs.bridge.Flat.{want_at, have_at, end_at, skim_of}
-use Rattle.skimming.specs.declared.skims.Skimmed.{Skimmed}
-use Rattle.skimming.specs.declared.skims.Skimmed.TheVariants.{Bad, Good}
 
 pub record Example : Type 0 where
   pub line : String
@@ -23,9 +22,9 @@ infix 3 ◌is◌
 abbrev ◌is◌ : String → Bool → Example
 l is b = record { line = l; whole = b }
 
-abbrev ended : Skimmed → Bool
-ended Bad = false
-ended (Good t) = ends_line t.token
+abbrev ended : Option Scanned → Bool
+ended None = false
+ended (Some t) = ends_line t.token
 
 -- whether a line is one formula
 abbrev pub is_whole : List ℕ → Bool

@@ -1,6 +1,7 @@
 -- Bridge: what each token does, as the code says it.
 -- The contracts of functions inside this crate cite it; no demand and no promise of run, check_recipe or ask rests on it.
-use Rattle.std.specs.Prelude.{cond, List, ℕ, ◌/◌, ◌%◌, eqb}
+use Rattle.whole.specs.declared.arithmetic.Operator.{Operator}
+use Rattle.std.specs.Prelude.{cond, List, ℕ, ◌/◌, ◌%◌, eqb, None, Option, Some}
 use Rattle.words.specs.declared.places.Place.{Place}
 use Rattle.words.specs.declared.symbols.Function.{Function}
 use Rattle.words.specs.declared.symbols.Scanned.{Scanned}
@@ -11,8 +12,6 @@ use Rattle.words.specs.declared.symbols.Token.TheVariants as token
 use Rattle.scanner.specs.Tokens.{token_at}
 use Rattle.grammar.specs.Tests.{is_symbol}
 use Rattle.grammar.specs.Formulas.{not_level, tightest, right_level, minus_stands, not_stands, tight_operator, after}
-use Rattle.grammar.specs.declared.tests.OperatorFound.{OperatorFound}
-use Rattle.grammar.specs.declared.tests.OperatorFound.TheVariants.{Is, None}
 use Rattle.skimming.specs.bridge.Marks.{function_mark}
 use Rattle.skimming.specs.declared.stepping.Phase.{Phase}
 use Rattle.skimming.specs.declared.stepping.Phase.TheVariants as phase
@@ -52,8 +51,8 @@ end_step s m t next =
     (cond (is_symbol sign.Comma t) (cond (eqb (m / 2) 0) Refused (Renews (token_at s next) (m / 2)))
     (cond (is_symbol sign.Close t) (cond (eqb (m % 2) 1) (Closes (token_at s next)) Refused) Refused))
 
-abbrev pub operator_step : OperatorFound → Scanned → Step → Step
-operator_step (Is op) u other = Wants u (right_level op)
+abbrev pub operator_step : Option Operator → Scanned → Step → Step
+operator_step (Some op) u other = Wants u (right_level op)
 operator_step None u other = other
 
 abbrev pub has_step : List ℕ → ℕ → Token → Place → Step

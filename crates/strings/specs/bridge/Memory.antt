@@ -1,6 +1,7 @@
 -- Bridge: how the code holds the arguments of a function, and the text that it makes of them.
 -- The contracts of functions that crates use among themselves cite it; no demand and no promise of run, check_recipe or ask rests on it.
-use Rattle.std.specs.Prelude.{Bool, true, false, List, [], ◌∷◌, ℕ, ◌+◌, ◌≤◌, length, take, drop}
+use Rattle.whole.specs.declared.errors.Error.{Error}
+use Rattle.std.specs.Prelude.{Bool, true, false, List, [], ◌∷◌, ℕ, ◌+◌, ◌≤◌, length, take, drop, Err, Ok, Result}
 use Rattle.words.specs.declared.symbols.Scanned.{Scanned}
 use Rattle.variables.specs.bridge.Memory.{Made}
 use Rattle.variables.specs.Strings.{Value, whole, text, Room, Outcome, longest_space}
@@ -10,8 +11,6 @@ use Rattle.strings.specs.declared.arguments.Argument.{Argument}
 use Rattle.strings.specs.declared.arguments.Argument.TheVariants as argument
 use Rattle.strings.specs.declared.arguments.Given.{Given}
 use Rattle.strings.specs.declared.arguments.Given.TheVariants as given
-use Rattle.strings.specs.declared.making.Reply.{Reply}
-use Rattle.strings.specs.declared.making.Reply.TheVariants as reply
 
 -- ---- arguments, whose texts stand side by side
 
@@ -70,15 +69,15 @@ pub record Placed (space : List ℕ) (used : ℕ) (g : Given) : Type 0 where
   pub small : length space ≤ longest_space
 
 -- what a function makes of the arguments' values, which are live until it has made it
-abbrev pub MadeOf : (List Value → Room → Outcome) → List ℕ → ℕ → Given → Scanned → Worked → List ℕ → Type 0
+abbrev pub MadeOf : (List Value → Room → Outcome) → List ℕ → ℕ → Given → Scanned → Result Worked Error → List ℕ → Type 0
 MadeOf outcome before used g ahead r after =
     Made before used (used + given_length g) (outcome (values_in g (drop used before))) ahead r after
 
 -- ---- a text, whatever token follows
 
-abbrev pub replied_as : Reply → Scanned → Worked
-replied_as (reply.Text n) t = worked.Text n t
-replied_as (reply.Fault e) t = worked.Fault e
+abbrev pub replied_as : Result ℕ Error → Scanned → Result Worked Error
+replied_as (Ok n) t = Ok (worked.Text n t)
+replied_as (Err e) t = Err e
 
-abbrev pub TextOf : (List Value → Room → Outcome) → List ℕ → ℕ → Given → Reply → List ℕ → Type 0
+abbrev pub TextOf : (List Value → Room → Outcome) → List ℕ → ℕ → Given → Result ℕ Error → List ℕ → Type 0
 TextOf outcome before used g r after = (ahead : Scanned) → MadeOf outcome before used g ahead (replied_as r ahead) after

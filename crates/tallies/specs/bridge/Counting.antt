@@ -1,14 +1,11 @@
 -- Bridge: records counted one after the other, from any tally. Of a sheet's own records the tally is `totals_of` (tallies/proofs/Totals).
-use Rattle.std.specs.Prelude.{cond, List, ℕ, ◌+◌, leb, ltb, get_or, set, replicate}
+use Rattle.std.specs.Prelude.{cond, Option, Some, None, Result, Ok, Err, List, ℕ, ◌+◌, leb, ltb, get_or, set, replicate}
 use Rattle.records.specs.declared.reading.Outcome.{Outcome}
 use Rattle.records.specs.declared.reading.Outcome.TheVariants.{Ended, Stopped, Out, Error}
 use Rattle.records.specs.declared.reading.Run.{Run}
-use Rattle.records.specs.declared.reading.Recorded.{Recorded}
-use Rattle.records.specs.declared.reading.Recorded.TheVariants.{Is, Bad}
 use Rattle.tallies.specs.Totals.{most_records}
 use Rattle.tallies.specs.declared.counting.Tally.{Tally}
-use Rattle.tallies.specs.declared.counting.Standing.{Standing}
-use Rattle.tallies.specs.declared.counting.Standing.TheVariants.{Good, Refused}
+use Rattle.tallies.specs.declared.counting.RefusedRecord.{RefusedRecord}
 use Rattle.tallies.specs.declared.counting.Count.{Count}
 
 -- ---- a run more
@@ -46,24 +43,33 @@ with_run t run = summed (counted_as run.outcome t) (one_more t.runs) (more_steps
 
 -- ---- a record more
 
+abbrev pub Standing : Type 0
+Standing = Result (Unit {0}) RefusedRecord
+
+abbrev pub count : Tally → Standing → Count
+count t s = record { tally = t; standing = s }
+
+abbrev pub refused : ℕ → Standing
+refused n = Err (record { number = n })
+
 abbrev pub good : Tally → Count
-good t = record { tally = t; standing = Good }
+good t = count t (Ok tt)
 
 abbrev pub refused_at : Tally → ℕ → Count
-refused_at t n = record { tally = t; standing = Refused n }
+refused_at t n = count t (refused n)
 
-abbrev pub by_recorded : Tally → Recorded → Count
-by_recorded t (Is run) = good (with_run t run)
-by_recorded t Bad = refused_at t (t.runs + 1)
+abbrev pub by_recorded : Tally → Option Run → Count
+by_recorded t (Some run) = good (with_run t run)
+by_recorded t None = refused_at t (t.runs + 1)
 
 -- the first record too many is refused, whatever it is
-unfoldable pub with_next : Tally → Recorded → Count
+unfoldable pub with_next : Tally → Option Run → Count
 with_next t r = cond (leb most_records t.runs) (refused_at t (most_records + 1)) (by_recorded t r)
 
-abbrev pub by_standing : Standing → Count → Recorded → Count
-by_standing Good c r = with_next c.tally r
-by_standing (Refused n) c r = c
+abbrev pub by_standing : Standing → Count → Option Run → Count
+by_standing (Ok u) c r = with_next c.tally r
+by_standing (Err n) c r = c
 
 -- behind a record that is refused none counts
-abbrev pub with_record : Count → Recorded → Count
+abbrev pub with_record : Count → Option Run → Count
 with_record c r = by_standing c.standing c r

@@ -1,6 +1,6 @@
 -- Bridge: what a statement's code does, by how the statement begins.
 -- The contracts of functions that crates use among themselves cite it; no demand and no promise of run, check_recipe or ask rests on it.
-use Rattle.std.specs.Prelude.{◌≡◌, true, false, List, ℕ, ◌≤◌}
+use Rattle.std.specs.Prelude.{◌≡◌, true, false, List, ℕ, ◌≤◌, Option}
 use Rattle.words.specs.declared.places.Place.{Place}
 use Rattle.words.specs.declared.symbols.Scanned.{Scanned}
 use Rattle.words.specs.declared.symbols.Word.TheVariants.{Else}
@@ -15,7 +15,6 @@ use Rattle.machine.specs.bridge.Holding.{lines_at, Shallow, Positioned, position
 use Rattle.machine.specs.bridge.Seeking.{Wish, nothing, wish_of, test_of}
 use Rattle.machine.specs.bridge.Wanted.{Told}
 use Rattle.machine.specs.declared.records.Record.{Record}
-use Rattle.machine.specs.declared.records.Found.{Found}
 use Rattle.turns.specs.Steps.{do_statement}
 use Rattle.turns.specs.bridge.Turns.{Turn, after_of, Turns}
 
@@ -26,7 +25,7 @@ Begins (done x u) = (ends_statement u.token ≡ true) × (deepest (formulas_of x
 Begins (choice c u) = depth_of c ≤ deepest_nesting
 
 -- what was done is what the definition does, wherever the statement or the IF's parts read
-module _ (text line : List ℕ) (here : Place) (at : ℕ) (m : State) (found : Found) (entry : Record) (input space room : List ℕ) (r : Turn)
+module _ (text line : List ℕ) (here : Place) (at : ℕ) (m : State) (found : Option ℕ) (entry : Record) (input space room : List ℕ) (r : Turn)
     (space' room' : List ℕ) where
   -- the record that it may ask for was looked up
   abbrev Looked : Wish → List Record → Type 0

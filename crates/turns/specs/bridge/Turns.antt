@@ -1,6 +1,6 @@
 -- Bridge: what the code of a statement is asked, and what it leaves, beside what the definition says.
 -- The contracts of functions that crates use among themselves cite it; no demand and no promise of run, check_recipe or ask rests on it.
-use Rattle.std.specs.Prelude.{◌≡◌, Bool, cond, not, List, ℕ, ◌+◌, ◌≤◌, ◌<◌, leb, length, set, drop}
+use Rattle.std.specs.Prelude.{◌≡◌, Bool, cond, not, List, ℕ, ◌+◌, ◌≤◌, ◌<◌, leb, length, set, drop, None, Ok, Option, Some, Result}
 use Rattle.whole.specs.declared.errors.Error.TheVariants.{OutOfMemory}
 use Rattle.words.specs.Names.{Telling}
 use Rattle.words.specs.declared.places.Place.{Place}
@@ -8,7 +8,6 @@ use Rattle.words.specs.declared.symbols.Scanned.{Scanned}
 use Rattle.words.specs.declared.symbols.Sign.TheVariants.{Colon}
 use Rattle.words.specs.Places.{longest_line}
 use Rattle.loader.specs.Loading.{load_of}
-use Rattle.loader.specs.declared.loading.Loaded.TheVariants.{Fine}
 use Rattle.grammar.specs.Tests.{is_symbol}
 use Rattle.grammar.specs.Trees.{Formula}
 use Rattle.grammar.specs.Formulas.{formula_of}
@@ -30,12 +29,11 @@ use Rattle.machine.specs.declared.positions.Turned.{Turned}
 use Rattle.machine.specs.declared.positions.Next.{Next}
 use Rattle.machine.specs.declared.positions.Next.TheVariants as next
 use Rattle.machine.specs.declared.records.Record.{Record}
-use Rattle.machine.specs.declared.records.Found.{Found}
-use Rattle.machine.specs.declared.records.Found.TheVariants as found
 use Rattle.machine.specs.Machine.{most_records}
 use Rattle.turns.specs.Steps as step
 use Rattle.turns.specs.declared.setting.Stored.{Stored}
 use Rattle.turns.specs.Steps.{goes_on, enters, ends, stops, fails}
+use Rattle.whole.specs.declared.errors.Error.{Error}
 
 -- ---- a turn of the code's machine, with the tables that are lent beside it
 
@@ -46,9 +44,9 @@ pub record Turn : Type 0 where
   pub slot : ℕ
   pub held : Record
 
-abbrev pub turn_of : Turned → List ℕ → List ℕ → List ℕ → List ℕ → Turn
-turn_of r names words labels lengths =
-    record { state = state_of r.machine names words labels lengths; next = r.next; slot = r.slot; held = r.held }
+abbrev pub turn_of : Turned → Tables → Turn
+turn_of r tables =
+    record { state = state_of r.machine tables; next = r.next; slot = r.slot; held = r.held }
 
 -- a statement that writes no record: what the code answers, and the turn
 abbrev pub came_to : Machine → Next → Turned
@@ -122,22 +120,22 @@ pub record Formed (line : List ℕ) (first : Scanned) : Type 0 where
   pub reads : Reads deepest_nesting (formula_of line first)
 
 -- what working out a formula with the machine's tables leaves
-pub record Valued (m : State) (f : Formula) (u : Scanned) (before : List ℕ) (r : Worked) (after : List ℕ) : Type 0 where
+pub record Valued (m : State) (f : Formula) (u : Scanned) (before : List ℕ) (r : Result Worked Error) (after : List ℕ) : Type 0 where
   pub framed : Framed before m.used r after
   pub agrees : (room : Room) → Held room before m.used → Agrees r after m.used (value_of f (variables_of m before) room)
   pub goes : GoesOn r u
 
 -- the line of a text that loads and begins at a place, after its number
 pub record Standing (text line : List ℕ) (here : Place) : Type 0 where
-  pub loads : load_of text ≡ Fine
+  pub loads : load_of text ≡ Ok tt
   pub short : length line ≤ longest_line
   pub begins : Begins text here.0
   pub is : line ≡ body_of (lines_at text here.0)
 
 -- a record that was found is one of so many
-abbrev pub FoundBelow : ℕ → Found → Type 0
-FoundBelow depth (found.At i) = i < depth
-FoundBelow depth found.None = Unit {0}
+abbrev pub FoundBelow : ℕ → Option ℕ → Type 0
+FoundBelow depth (Some i) = i < depth
+FoundBelow depth None = Unit {0}
 
 -- ---- one part of the machine anew
 
@@ -167,9 +165,9 @@ pub record Storage : Type 0 where
   pub slot : ℕ
   pub state : State
 
-abbrev pub storage_of : Stored → List ℕ → List ℕ → List ℕ → List ℕ → Storage
-storage_of s names words labels lengths =
-    record { ok = s.ok; slot = s.slot; state = state_of s.machine names words labels lengths }
+abbrev pub storage_of : Stored → Tables → Storage
+storage_of s tables =
+    record { ok = s.ok; slot = s.slot; state = state_of s.machine tables }
 
 abbrev pub number_kept : State → NumberStored → Storage
 number_kept m s =

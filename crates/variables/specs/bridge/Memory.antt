@@ -1,12 +1,10 @@
 -- Bridge: how the code's tables and the lent space hold variables and values.
 -- The contracts of functions that crates use among themselves cite it; no demand and no promise of run, check_recipe or ask rests on it.
-use Rattle.std.specs.Prelude.{◌≡◌, Bool, true, false, cond, List, [], ◌∷◌, ℕ, ◌+◌, ◌-◌, ◌*◌, ◌≤◌, ◌<◌, leb, length, get_or, set, take, drop, replicate}
+use Rattle.std.specs.Prelude.{◌≡◌, Bool, true, false, cond, List, [], ◌∷◌, ℕ, ◌+◌, ◌-◌, ◌*◌, ◌≤◌, ◌<◌, leb, length, get_or, set, take, drop, replicate, Err, None, Ok, Option, Result, Some}
 use Rattle.words.specs.Names.{Telling, name_width, telling, alike, entry_of}
 use Rattle.variables.specs.Strings.{whole, text, Room, Outcome, value, fault}
 use Rattle.variables.specs.Tables.{names_long, name_bytes, names_from, names_in, numbers_in, slot_in, sum_of}
 use Rattle.variables.specs.Variables.{NumberVariable, StringVariable, Variables, word_of, bytes_of, most_variables}
-use Rattle.whole.specs.declared.arithmetic.Answer.{Answer}
-use Rattle.whole.specs.declared.arithmetic.Answer.TheVariants.{Whole, Fault}
 use Rattle.whole.specs.declared.errors.Error.{Error}
 use Rattle.whole.specs.declared.errors.Error.TheVariants.{TypeMismatch}
 use Rattle.whole.specs.Texts.{longest_string}
@@ -14,10 +12,8 @@ use Rattle.words.specs.declared.symbols.Scanned.{Scanned}
 use Rattle.space.specs.Moves.{copied, moved}
 use Rattle.variables.specs.declared.tables.Numbers.{Numbers}
 use Rattle.variables.specs.declared.tables.Strings.{Strings}
-use Rattle.variables.specs.declared.assigning.NumberPut.{NumberPut}
-use Rattle.variables.specs.declared.assigning.StringPut.{StringPut}
-use Rattle.variables.specs.declared.tables.Slot.{Slot}
-use Rattle.variables.specs.declared.tables.Slot.TheVariants as slot
+use Rattle.variables.specs.declared.tables.Tables.{Tables}
+use Rattle.space.specs.declared.offsets.Offset.{Offset}
 use Rattle.variables.specs.declared.values.Worked.{Worked}
 use Rattle.variables.specs.declared.values.Worked.TheVariants as worked
 
@@ -30,23 +26,23 @@ strings_in (n ∷ ns) [] space = []
 strings_in (n ∷ ns) (l ∷ ls) space = record { name = n; bytes = take l space } ∷ strings_in ns ls (drop l space)
 
 -- variables that the tables and the space hold: every name reads the same
-pub record Looked (vars : Variables) (number_names words string_names lengths space : List ℕ) : Type 0 where
-  pub word : (name : Telling) → word_of vars.numbers name ≡ word_of (numbers_in (names_in number_names) words) name
-  pub bytes : (name : Telling) → bytes_of vars.strings name ≡ bytes_of (strings_in (names_in string_names) lengths space) name
+pub record Looked (vars : Variables) (tables : Tables) (space : List ℕ) : Type 0 where
+  pub word : (name : Telling) → word_of vars.numbers name ≡ word_of (numbers_in (names_in tables.numbers.names) tables.numbers.words) name
+  pub bytes : (name : Telling) → bytes_of vars.strings name ≡ bytes_of (strings_in (names_in tables.strings.names) tables.strings.lengths space) name
 
 -- an entry of a table of so many
-abbrev pub SlotBelow : ℕ → Slot → Type 0
-SlotBelow n (slot.At i) = i < n
-SlotBelow n slot.None = Unit {0}
+abbrev pub SlotBelow : ℕ → Option ℕ → Type 0
+SlotBelow n (Some i) = i < n
+SlotBelow n None = Unit {0}
 
 -- what stands in it
-abbrev pub word_at : Slot → List ℕ → ℕ
-word_at (slot.At i) words = get_or words i 0
-word_at slot.None words = 0
+abbrev pub word_at : Option ℕ → List ℕ → ℕ
+word_at (Some i) words = get_or words i 0
+word_at None words = 0
 
-abbrev pub bytes_at : Slot → List ℕ → List ℕ → List ℕ
-bytes_at (slot.At i) lengths space = take (get_or lengths i 0) (drop (sum_of (take i lengths)) space)
-bytes_at slot.None lengths space = []
+abbrev pub bytes_at : Option ℕ → List ℕ → List ℕ → List ℕ
+bytes_at (Some i) lengths space = take (get_or lengths i 0) (drop (sum_of (take i lengths)) space)
+bytes_at None lengths space = []
 
 -- ---- an answer over the space after, of which `used` bytes were live when it was asked
 
@@ -56,51 +52,51 @@ pub record Held (room : Room) (space : List ℕ) (live : ℕ) : Type 0 where
   pub lives : room.live ≡ live
 
 -- it agrees with an outcome: the same error; the same number, or the same bytes from `used` on, and the room that is left
-abbrev pub Agrees : Worked → List ℕ → ℕ → Outcome → Type 0
-Agrees (worked.Whole w t) space used (value (whole v) room) = (w ≡ v) × Held room space used
-Agrees (worked.Whole w t) space used (value (text b) room) = ⊥
-Agrees (worked.Whole w t) space used (fault e room) = ⊥
-Agrees (worked.Text n t) space used (value (whole v) room) = ⊥
-Agrees (worked.Text n t) space used (value (text b) room) =
+abbrev pub Agrees : Result Worked Error → List ℕ → ℕ → Outcome → Type 0
+Agrees (Ok (worked.Whole w t)) space used (value (whole v) room) = (w ≡ v) × Held room space used
+Agrees (Ok (worked.Whole w t)) space used (value (text b) room) = ⊥
+Agrees (Ok (worked.Whole w t)) space used (fault e room) = ⊥
+Agrees (Ok (worked.Text n t)) space used (value (whole v) room) = ⊥
+Agrees (Ok (worked.Text n t)) space used (value (text b) room) =
     (take n (drop used space) ≡ b) × ((n ≡ length b) × Held room space (used + n))
-Agrees (worked.Text n t) space used (fault e room) = ⊥
-Agrees (worked.Fault e) space used (value v room) = ⊥
-Agrees (worked.Fault e) space used (fault f room) = e ≡ f
+Agrees (Ok (worked.Text n t)) space used (fault e room) = ⊥
+Agrees (Err e) space used (value v room) = ⊥
+Agrees (Err e) space used (fault f room) = e ≡ f
 
 -- ---- what small functions make
 
-abbrev pub answered_as : Answer → Scanned → Worked
-answered_as (Whole w) t = worked.Whole w t
-answered_as (Fault e) t = worked.Fault e
+abbrev pub answered_as : Result ℕ Error → Scanned → Result Worked Error
+answered_as (Ok w) t = Ok (worked.Whole w t)
+answered_as (Err e) t = Err e
 
 -- where it is not of the type that is wanted: its own error, or 13
-abbrev pub mismatch_of : Worked → Error
-mismatch_of (worked.Whole w t) = TypeMismatch
-mismatch_of (worked.Text n t) = TypeMismatch
-mismatch_of (worked.Fault e) = e
+abbrev pub mismatch_of : Result Worked Error → Error
+mismatch_of (Ok (worked.Whole w t)) = TypeMismatch
+mismatch_of (Ok (worked.Text n t)) = TypeMismatch
+mismatch_of (Err e) = e
 
-abbrev pub text_length : Worked → ℕ
-text_length (worked.Whole w t) = 0
-text_length (worked.Text n t) = n
-text_length (worked.Fault e) = 0
+abbrev pub text_length : Result Worked Error → ℕ
+text_length (Ok (worked.Whole w t)) = 0
+text_length (Ok (worked.Text n t)) = n
+text_length (Err e) = 0
 
 -- an answer that goes on with a token, if it goes on
-abbrev pub GoesOn : Worked → Scanned → Type 0
-GoesOn (worked.Whole w t) u = t ≡ u
-GoesOn (worked.Text n t) u = t ≡ u
-GoesOn (worked.Fault e) u = Unit {0}
+abbrev pub GoesOn : Result Worked Error → Scanned → Type 0
+GoesOn (Ok (worked.Whole w t)) u = t ≡ u
+GoesOn (Ok (worked.Text n t)) u = t ≡ u
+GoesOn (Err e) u = Unit {0}
 
 -- ---- what a function that may write from `used` on leaves
 
 -- the space is as long as it was, what stands below `used` is kept, and the answer's text stands above it
-pub record Framed (before : List ℕ) (used : ℕ) (r : Worked) (after : List ℕ) : Type 0 where
+pub record Framed (before : List ℕ) (used : ℕ) (r : Result Worked Error) (after : List ℕ) : Type 0 where
   pub long : length after ≡ length before
   pub kept : take used after ≡ take used before
   pub fits : used + text_length r ≤ length after
   pub short : text_length r ≤ longest_string
 
 -- and the answer agrees with what is made of any room that holds so many live bytes
-pub record Made (before : List ℕ) (used live : ℕ) (outcome : Room → Outcome) (ahead : Scanned) (r : Worked) (after : List ℕ) : Type 0 where
+pub record Made (before : List ℕ) (used live : ℕ) (outcome : Room → Outcome) (ahead : Scanned) (r : Result Worked Error) (after : List ℕ) : Type 0 where
   pub framed : Framed before used r after
   pub agrees : (room : Room) → Held room before live → Agrees r after used (outcome room)
   pub goes : GoesOn r ahead
@@ -154,21 +150,22 @@ name_at names i = telling (drop (name_width * i) names)
 abbrev pub with_name : List ℕ → ℕ → Telling → List ℕ
 with_name names i name = copied names (name_width * i) (entry_of name)
 
--- the lent arrays and a count, as a table
+-- arrays and a count, as a table
 abbrev pub numbers_of : List ℕ → List ℕ → ℕ → Numbers
 numbers_of names words count = record { names = names; words = words; count = count }
 
 abbrev pub strings_of : List ℕ → List ℕ → ℕ → Strings
 strings_of names lengths count = record { names = names; lengths = lengths; count = count }
 
--- what storing a number leaves: whether there was room for it, its entry, and the table
+-- what storing a number leaves: whether there was room for it, its entry, and the table; where there was none nothing changes
 pub record NumberStored : Type 0 where
   pub ok : Bool
   pub slot : ℕ
   pub numbers : Numbers
 
-abbrev pub numbers_left : NumberPut → List ℕ → List ℕ → NumberStored
-numbers_left r names words = record { ok = r.ok; slot = r.slot; numbers = numbers_of names words r.count }
+abbrev pub numbers_left : Option ℕ → Numbers → NumberStored
+numbers_left (Some i) n = record { ok = true; slot = i; numbers = n }
+numbers_left None n = record { ok = false; slot = n.count; numbers = n }
 
 abbrev pub number_appended : Numbers → Telling → ℕ → NumberStored
 number_appended n name w =
@@ -178,9 +175,9 @@ number_appended n name w =
 abbrev pub number_replaced : Numbers → ℕ → ℕ → NumberStored
 number_replaced n i w = record { ok = true; slot = i; numbers = numbers_of n.names (set n.words i w) n.count }
 
-abbrev pub number_into : Slot → Numbers → Telling → ℕ → NumberStored
-number_into slot.None n name w = number_appended n name w
-number_into (slot.At i) n name w = cond (leb n.count i) (number_appended n name w) (number_replaced n i w)
+abbrev pub number_into : Option ℕ → Numbers → Telling → ℕ → NumberStored
+number_into None n name w = number_appended n name w
+number_into (Some i) n name w = cond (leb n.count i) (number_appended n name w) (number_replaced n i w)
 
 abbrev pub number_stored : Numbers → Telling → ℕ → NumberStored
 number_stored n name w = number_into (slot_in n.names name) n name w
@@ -191,8 +188,9 @@ pub record StringStored : Type 0 where
   pub strings : Strings
   pub used : ℕ
 
-abbrev pub strings_left : StringPut → List ℕ → List ℕ → StringStored
-strings_left r names lengths = record { ok = r.ok; strings = strings_of names lengths r.count; used = r.used.0 }
+abbrev pub strings_left : Option Offset → ℕ → Strings → StringStored
+strings_left (Some end) used t = record { ok = true; strings = t; used = end.0 }
+strings_left None used t = record { ok = false; strings = t; used = used }
 
 abbrev pub string_appended : Strings → ℕ → Telling → ℕ → StringStored
 string_appended t used name len =
@@ -203,9 +201,9 @@ abbrev pub string_replaced : Strings → ℕ → ℕ → ℕ → StringStored
 string_replaced t used i len =
     record { ok = true; strings = strings_of t.names (set t.lengths i len) t.count; used = used - get_or t.lengths i 0 + len }
 
-abbrev pub string_into : Slot → Strings → ℕ → Telling → ℕ → StringStored
-string_into slot.None t used name len = string_appended t used name len
-string_into (slot.At i) t used name len = cond (leb t.count i) (string_appended t used name len) (string_replaced t used i len)
+abbrev pub string_into : Option ℕ → Strings → ℕ → Telling → ℕ → StringStored
+string_into None t used name len = string_appended t used name len
+string_into (Some i) t used name len = cond (leb t.count i) (string_appended t used name len) (string_replaced t used i len)
 
 abbrev pub string_stored : Strings → ℕ → Telling → ℕ → StringStored
 string_stored t used name len = string_into (slot_in t.names name) t used name len
@@ -218,9 +216,9 @@ bytes_replaced start old used space len =
 abbrev pub space_replaced : List ℕ → ℕ → ℕ → List ℕ → ℕ → List ℕ
 space_replaced lengths used i space len = bytes_replaced (sum_of (take i lengths)) (get_or lengths i 0) used space len
 
-abbrev pub space_into : Slot → Strings → ℕ → List ℕ → ℕ → List ℕ
-space_into slot.None t used space len = space
-space_into (slot.At i) t used space len = cond (leb t.count i) space (space_replaced t.lengths used i space len)
+abbrev pub space_into : Option ℕ → Strings → ℕ → List ℕ → ℕ → List ℕ
+space_into None t used space len = space
+space_into (Some i) t used space len = cond (leb t.count i) space (space_replaced t.lengths used i space len)
 
 abbrev pub space_stored : Strings → ℕ → Telling → List ℕ → ℕ → List ℕ
 space_stored t used name space len = space_into (slot_in t.names name) t used space len

@@ -1,6 +1,7 @@
 -- What is given is one name, or is refused.
 use borrow.Enum.Refused.{opened as unsealed}
-use mathlib.Core.Path.{refl}
+use Rattle.std.specs.Prelude.{Ok}
+use mathlib.Core.Path.{refl, ap}
 use Rattle.asking.proofs.Answering.{ask_other, ask_late, ask_more, ask_name}
 use Rattle.asking.proofs.questions.ask.Goals as goal
 
@@ -16,7 +17,7 @@ returns-then-next-name c = ask_more _ _ _ c.token_at-scanned.ensures c.in-Named.
 -- in each, n is where it is known to be the whole, and t where the token is
 pub returns-in-Whole : goal.returns-in-Whole
 returns-in-Whole c = ask_name _ _ _ c.token_at-scanned.ensures c.in-Named.is c.if-found-ne0.false c.if-next-name.false
-    c.in-Whole.is refl c.number_asked.ensures
+    c.in-Whole.is refl (ap Ok c.number_asked.ensures)
 
 pub returns-in-Text : goal.returns-in-Text
 returns-in-Text c = ask_name _ _ _ c.token_at-scanned.ensures c.in-Named.is c.if-found-ne0.false c.if-next-name.false

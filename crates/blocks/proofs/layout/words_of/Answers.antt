@@ -8,11 +8,10 @@ use Rattle.blocks.proofs.layout.words_of.Goals as goal
 
 pub loop-i-init : goal.loop-i-init
 unfolding words_from
-loop-i-init c = (omega arith, refl, refl)
+loop-i-init c = record { long = refl; read = refl }
 
 pub loop-i-preserved : goal.loop-i-preserved
-loop-i-preserved c = (
-  omega arith,
-  simp length-set c.loop-i.invariant.1,
-  word_read c.loop-i.words c.args.bytes.now c.loop-i.i c.word_of.result (omega arith) c.word_of.ensures c.loop-i.invariant.2,
-)
+loop-i-preserved c = record {
+  long = simp length-set c.loop-i.invariant.long;
+  read = word_read c.loop-i.word-items c.args.bytes.now c.loop-i.i c.from_le_bytes.result (omega (arith, c.loop-i.invariant.long)) (omega (arith, c.from_le_bytes.ensures)) c.loop-i.invariant.read;
+}

@@ -18,14 +18,14 @@ next_turn-turn-requires c = (lies _ _ c.loop-heads.invariant.0.old_next, lies _ 
 pub returns-then-left-len : goal.returns-then-left-len
 returns-then-left-len c = let t = turn_ahead _ _ c.loop-heads.invariant.0 c.next_turn-turn.ensures in
     sym (lt-leb (length (report_of c.args.old.now c.args.new.now)) c.args.room
-    (omega (arith, t.size, held_count _ c.records_in-record.ensures, c.if-left-len.true, c.loop-heads.invariant.1)))
+    (omega (arith, t.size, held_count _ c.records_in.ensures, c.if-left-len.true, c.loop-heads.invariant.1)))
 
 pub loop-heads-smaller : goal.loop-heads-smaller
 loop-heads-smaller c = (turn_ahead _ _ c.loop-heads.invariant.0 c.next_turn-turn.ensures).less (sym c.some_left.ensures ∙ c.loop-heads-test.true)
 
 pub loop-heads-preserved : goal.loop-heads-preserved
 loop-heads-preserved c = let t = turn_ahead _ _ c.loop-heads.invariant.0 c.next_turn-turn.ensures in
-    (t.standing, omega (arith, t.size, held_count _ c.records_in-record.ensures, c.if-left-len.false, c.loop-heads.invariant.1))
+    (t.standing, omega (arith, t.size, held_count _ c.records_in.ensures, c.if-left-len.false, c.loop-heads.invariant.1))
 
 pub returns : goal.returns
 returns c = let e = all_said c.args.old.now c.args.new.now c.loop-heads.heads (sym c.some_left.ensures ∙ c.loop-heads-test.false) in

@@ -19,7 +19,7 @@ loop-heads-smaller c = (turn_ahead _ _ c.loop-heads.invariant.0 c.next_turn-turn
 pub loop-heads-preserved : goal.loop-heads-preserved
 loop-heads-preserved c = let t = turn_ahead _ _ c.loop-heads.invariant.0 c.next_turn-turn.ensures in
     let w = written_held c.loop-heads.invariant.1 (records_in c.next_turn-turn.result.said) c.requires.2 t.records c.records_in-record.ensures in
-    (t.standing, w c.copy_in.ensures)
+    rw c.from-len.ensures (t.standing, w (rw c.from-len.ensures at c.copy_in.ensures))
 
 pub returns-clause-out_after : goal.returns-clause-out_after
 returns-clause-out_after c = let e = all_said c.args.old.now c.args.new.now c.loop-heads.heads (sym c.some_left.ensures ∙ c.loop-heads-test.false) in

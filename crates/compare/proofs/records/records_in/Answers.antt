@@ -4,8 +4,8 @@ use Rattle.whole.specs.Texts.{held}
 use Rattle.compare.proofs.Laid.{records_none, records_one}
 use Rattle.compare.proofs.records.records_in.Goals as goal
 
-pub returns-in-Nothing : goal.returns-in-Nothing
-returns-in-Nothing c = rw c.in-Nothing.is (c.empty.ensures ∙ ap held (sym records_none))
+pub returns-in-None : goal.returns-in-None
+returns-in-None c = rw c.in-None.is (c.empty.ensures ∙ ap held (sym records_none))
 
-pub returns-in-Is : goal.returns-in-Is
-returns-in-Is c = rw c.in-Is.is (c.record_of.ensures ∙ ap held (sym (records_one _)))
+pub returns-in-Some : goal.returns-in-Some
+returns-in-Some c = rw c.in-Some.is (c.record_of.ensures ∙ ap held (sym (records_one _)))

@@ -9,4 +9,4 @@ pub returns : goal.returns
 unfolding bytes
 returns c =
     rw (c.end_line.ensures, c.put_bytes-named.ensures, c.put_field-placed.ensures, c.put_field-numbered.ensures, c.put_bytes-word.ensures, c.empty.ensures, c.refusal_number-number.ensures)
-    (line_put (bytes "refused") c.args.more.now (refusal_number c.args.refusal) c.args.place.0 (omega arith) c.requires)
+    (line_put (bytes "refused") c.args.more.now (refusal_number c.args.why.refusal) c.args.why.place.0 (omega arith) c.requires)

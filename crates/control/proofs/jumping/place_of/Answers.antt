@@ -6,5 +6,5 @@ use Rattle.control.proofs.jumping.place_of.Goals as goal
 pub returns-in-None : goal.returns-in-None
 returns-in-None c = λ span e. never (cc)
 
-pub returns-in-Is : goal.returns-in-Is
-returns-in-Is c = λ span e. let same : c.in-Is.span ≡ span = cc in rw same
+pub returns-in-Some : goal.returns-in-Some
+returns-in-Some c = λ span e. let same : c.in-Some.span ≡ span = cc in rw same

@@ -7,21 +7,21 @@ use Rattle.control.proofs.Fors.{begun_full, begun_skips, begun_made}
 use Rattle.control.proofs.looping.begin_loop.Goals as goal
 
 pub returns-then-not-stored : goal.returns-then-not-stored
-returns-then-not-stored c = λ labels lengths.
-    let m = state_of c.args.machine c.args.names.now c.args.words.now labels lengths in
+returns-then-not-stored c =
+    let m = state_of c.args.machine c.args.tables.now in
     rw c.fails.ensures
-    (begun_full c.args.text.now c.args.at m (telling_of (name_bytes c.args.line.now c.args.name)) c.args.from c.args.limit c.args.step (after_of c.args.here c.args.ahead) c.args.found (c.with_number-stored.ensures labels lengths)
+    (begun_full c.args.text.now c.args.at m (telling_of (name_bytes c.args.line.now c.args.name)) c.args.from c.args.limit c.args.step (after_of c.args.here c.args.ahead) c.args.found c.with_number-stored.ensures
     (not-true c.with_number-stored.result.ok c.if-not-stored.true))
 
 pub returns-then-passed : goal.returns-then-passed
-returns-then-passed c = λ labels lengths.
-    let m = state_of c.args.machine c.args.names.now c.args.words.now labels lengths in
+returns-then-passed c =
+    let m = state_of c.args.machine c.args.tables.now in
     rw c.turned_to.ensures
-    (begun_skips c.args.text.now c.args.at m (telling_of (name_bytes c.args.line.now c.args.name)) c.args.from c.args.limit c.args.step (after_of c.args.here c.args.ahead) c.args.found (c.with_number-stored.ensures labels lengths)
-    (not-false c.with_number-stored.result.ok c.if-not-stored.false) (sym c.passed.ensures ∙ c.if-passed.true) (c.dropped_to-under.ensures _ _ labels lengths) c.skip_body.ensures refl)
+    (begun_skips c.args.text.now c.args.at m (telling_of (name_bytes c.args.line.now c.args.name)) c.args.from c.args.limit c.args.step (after_of c.args.here c.args.ahead) c.args.found c.with_number-stored.ensures
+    (not-false c.with_number-stored.result.ok c.if-not-stored.false) (sym c.passed.ensures ∙ c.if-passed.true) (c.dropped_to-under.ensures _) c.skip_body.ensures refl)
 
 pub returns : goal.returns
-returns c = λ labels lengths.
-    let m = state_of c.args.machine c.args.names.now c.args.words.now labels lengths in
-    begun_made c.args.text.now c.args.at m (telling_of (name_bytes c.args.line.now c.args.name)) c.args.from c.args.limit c.args.step (after_of c.args.here c.args.ahead) c.args.found (c.with_number-stored.ensures labels lengths)
-    (not-false c.with_number-stored.result.ok c.if-not-stored.false) (sym c.passed.ensures ∙ c.if-passed.false) c.after-back.ensures (c.dropped_to-under.ensures _ _ labels lengths) c.counts-held.ensures (c.push.ensures _ _ labels lengths)
+returns c =
+    let m = state_of c.args.machine c.args.tables.now in
+    begun_made c.args.text.now c.args.at m (telling_of (name_bytes c.args.line.now c.args.name)) c.args.from c.args.limit c.args.step (after_of c.args.here c.args.ahead) c.args.found c.with_number-stored.ensures
+    (not-false c.with_number-stored.result.ok c.if-not-stored.false) (sym c.passed.ensures ∙ c.if-passed.false) c.after-back.ensures (c.dropped_to-under.ensures _) c.counts-held.ensures (c.push.ensures _)

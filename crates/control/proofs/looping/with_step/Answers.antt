@@ -1,4 +1,3 @@
-use borrow.Enum.Refused.{opened as unsealed}
 use mathlib.Core.Path.{refl, sym, ◌∙◌}
 use borrow.Author.Tests.{not-false}
 use Rattle.words.specs.Names.{name_bytes, telling_of}
@@ -8,13 +7,15 @@ use Rattle.turns.specs.Steps.{begun}
 use Rattle.turns.specs.bridge.Turns.{after_of}
 use Rattle.turns.proofs.Wholes.{turns_none}
 use Rattle.control.proofs.Fors.{step_left_out, step_formed, step_stands, turns_by_one, turns_stepped}
+use Rattle.variables.proofs.Agreements.{NoWhole, no_whole_text, no_whole_error}
 use Rattle.control.proofs.looping.with_step.Goals as goal
+use Rattle.control.proofs.looping.with_step.Goals.{in_default-via-in-Ok+in_default, in_default-via-in_default}
 
 pub returns-then-not-is_keyword : goal.returns-then-not-is_keyword
 returns-then-not-is_keyword c = λ input room by u sound p e entry.
     let n = step_left_out c.args.line.now c.args.follow e (sym c.is_keyword.ensures ∙ c.if-not-is_keyword.true) in
     rw (n.0, n.1)
-    (turns_by_one entry c.args.at (telling_of (name_bytes c.args.line.now c.args.name)) (telling_told _) c.args.from c.args.limit 1 (after_of c.args.here c.args.follow) c.args.found sound c.requires.1.1.0 (rw n.1 at p) (c.begin_loop.ensures c.args.labels.now c.args.lengths.now) refl)
+    (turns_by_one entry c.args.at (telling_of (name_bytes c.args.line.now c.args.name)) (telling_told _) c.args.from c.args.limit 1 (after_of c.args.here c.args.follow) c.args.found sound c.requires.1.1.0 (rw n.1 at p) c.begin_loop.ensures refl)
 
 pub value-worked-requires : goal.value-worked-requires
 value-worked-requires c = (rw c.token_at-first.ensures (step_formed c.requires.0 (sym c.is_keyword.ensures ∙ c.if-not-is_keyword.false)), c.requires.1.0)
@@ -22,8 +23,10 @@ value-worked-requires c = (rw c.token_at-first.ensures (step_formed c.requires.0
 pub returns-in_default : goal.returns-in_default
 returns-in_default c = λ input room by u sound p e entry.
     let read = step_stands c.args.line.now c.args.follow e (sym c.is_keyword.ensures ∙ not-false c.is_keyword.result c.if-not-is_keyword.false-raw) in
+    let none : NoWhole c.value-worked.result =
+    elim c.in_default.branch [ in_default-via-in-Ok+in_default w ↦ no_whole_text w.in_default.is (rw w.in_default.is at w.in_default.in-Text-own.keys2) | in_default-via-in_default w ↦ no_whole_error w.in_default.is ] in
     rw (c.fails.ensures, c.mismatch.ensures)
-    (turns_none (begun (telling_of (name_bytes c.args.line.now c.args.name)) c.args.at.0 (position_of c.args.text.now (after_of c.args.here u)) c.args.from c.args.limit) sound c.value-worked.result (unsealed c.in_default.in_default-own.keys2)
+    (turns_none (begun (telling_of (name_bytes c.args.line.now c.args.name)) c.args.at.0 (position_of c.args.text.now (after_of c.args.here u)) c.args.from c.args.limit) sound c.value-worked.result none
     (c.value-worked.ensures by u (rw c.token_at-first.ensures read)))
 
 pub begin_loop-requires-2 : goal.begin_loop-requires-2
@@ -32,4 +35,4 @@ begin_loop-requires-2 c = c.requires.1.1.1
 pub returns : goal.returns
 returns c = λ input room by u sound p e entry.
     let read = step_stands c.args.line.now c.args.follow e (sym c.is_keyword.ensures ∙ not-false c.is_keyword.result c.if-not-is_keyword.false-raw) in
-    turns_stepped entry c.args.at (telling_of (name_bytes c.args.line.now c.args.name)) (telling_told _) c.args.from c.args.limit c.args.here c.args.found sound c.requires.1.1.0 p (rw c.in-Whole.is at (c.value-worked.ensures by u (rw c.token_at-first.ensures read))) (c.begin_loop-2.ensures c.args.labels.now c.args.lengths.now)
+    turns_stepped entry c.args.at (telling_of (name_bytes c.args.line.now c.args.name)) (telling_told _) c.args.from c.args.limit c.args.here c.args.found sound c.requires.1.1.0 p (rw (c.in-Ok-Whole.is, rw c.in-Ok-Whole.is at c.in-Ok-Whole.field-0-is) at (c.value-worked.ensures by u (rw c.token_at-first.ensures read))) c.begin_loop-2.ensures

@@ -10,15 +10,15 @@ use borrow.Author.Rules.{rules}
 use Rattle.dialogue.proofs.inputting.fill.Goals as goal
 
 pub returns-then-not-has_room : goal.returns-then-not-has_room
-returns-then-not-has_room c = λ text input room names words sound p. rw c.fails.ensures
+returns-then-not-has_room c = λ text input room sound p. rw c.fails.ensures
     (fills_none text sound c.args.bytes.now (variable_of c.args.line.now c.args.name) _ (leb-false _ _ (sym c.has_room.ensures ∙ not-true c.has_room.result c.if-not-has_room.true-raw)))
 
 pub with_string-requires : goal.with_string-requires
-with_string-requires c = fills_storable c.args.lengths.now c.args.machine.used.0 c.args.space.now c.args.bytes.now c.requires.0.all c.copy_in.ensures
+with_string-requires c = fills_storable c.args.tables.now.strings.lengths c.args.machine.used.0 c.args.space.now c.args.bytes.now c.requires.0.all c.copy_in.ensures
     (leb-true _ _ (sym c.has_room.ensures ∙ not-false c.has_room.result c.if-not-has_room.false-raw)) c.requires.1
 
 pub returns-in-Whole : goal.returns-in-Whole
-returns-in-Whole c = λ text input room names words sound p.
+returns-in-Whole c = λ text input room sound p.
     rw (c.fails-in-Whole.ensures, c.in-Whole.is, c.copy_in.ensures)
     (fills_number text sound c.args.bytes.now (leb-true _ _ (sym c.has_room.ensures ∙ not-false c.has_room.result c.if-not-has_room.false-raw))
     (variable_of c.args.line.now c.args.name).telling (position_of text (after_of c.args.here c.args.ahead)))
@@ -27,6 +27,6 @@ pub shape_of-space-in-Text : goal.shape_of-space-in-Text
 shape_of-space-in-Text c = search (rules, c.space-1)
 
 pub returns-in-Text : goal.returns-in-Text
-returns-in-Text c = λ text input room names words sound p.
-    rw (stored_turn_lem c.with_string.result c.args.here c.args.ahead c.stored_or_full.ensures (c.with_string.ensures.0 names words), c.with_string.ensures.1, c.in-Text.is, c.copy_in.ensures)
+returns-in-Text c = λ text input room sound p.
+    rw (stored_turn_lem c.with_string.result c.args.here c.args.ahead c.stored_or_full.ensures c.with_string.ensures.0, c.with_string.ensures.1, c.in-Text.is, c.copy_in.ensures)
     (fills_string text sound c.args.bytes.now (leb-true _ _ (sym c.has_room.ensures ∙ not-false c.has_room.result c.if-not-has_room.false-raw)) _ (telling_told _) c.args.here c.args.ahead p)

@@ -27,7 +27,7 @@ shape_of-room-then-ends_items c = search (rules, (c.loop-room.invariant c.requir
 
 pub returns-then-ends_items : goal.returns-then-ends_items
 returns-then-ends_items c = λ text input at is u sound placed e.
-    rw (c.print_end.ensures.0 c.args.names.now c.args.words.now c.args.labels.now c.args.lengths.now, c.print_end.ensures.1)
+    rw (c.print_end.ensures.0 c.args.tables.now, c.print_end.ensures.1)
     (prints_ends (c.loop-room.invariant is u e) (sym c.ends_items.ensures ∙ c.if-ends_items.true) text input
     c.args.here at sound placed)
 
@@ -39,31 +39,31 @@ print_item-requires c =
       (h.printed.settled, h.printed.fitting),
     )
 
-pub shape_of-space-in-Fault : goal.shape_of-space-in-Fault
-shape_of-space-in-Fault c =
+pub shape_of-space-in-Err : goal.shape_of-space-in-Err
+shape_of-space-in-Err c =
     let goes_on : ends_statement c.loop-room.item.token ≡ false = sym c.ends_items.ensures ∙ c.if-ends_items.false in
     let next_item : (all : List Item) → (end : Scanned) → (e : items_of c.args.line.now c.args.first ≡ items all end) → Advances c.args.line.now c.loop-room.item (c.loop-room.invariant all end e).rest end = λ all end e. advances c.args.line.now c.loop-room.item (c.loop-room.invariant all end e).reads goes_on
     (items_end c.requires.0 e) in
     let a = next_item _ _ c.requires.0.reads in
     (c.print_item.ensures a.first a.next a.at).space_long ∙ (c.loop-room.invariant _ _ c.requires.0.reads).printed.space_long
 
-pub shape_of-room-in-Fault : goal.shape_of-room-in-Fault
-shape_of-room-in-Fault c =
+pub shape_of-room-in-Err : goal.shape_of-room-in-Err
+shape_of-room-in-Err c =
     let goes_on : ends_statement c.loop-room.item.token ≡ false = sym c.ends_items.ensures ∙ c.if-ends_items.false in
     let next_item : (all : List Item) → (end : Scanned) → (e : items_of c.args.line.now c.args.first ≡ items all end) → Advances c.args.line.now c.loop-room.item (c.loop-room.invariant all end e).rest end = λ all end e. advances c.args.line.now c.loop-room.item (c.loop-room.invariant all end e).reads goes_on
     (items_end c.requires.0 e) in
     let a = next_item _ _ c.requires.0.reads in
     (c.print_item.ensures a.first a.next a.at).room_long ∙ (c.loop-room.invariant _ _ c.requires.0.reads).printed.room_long
 
-pub returns-in-Fault : goal.returns-in-Fault
-returns-in-Fault c =
+pub returns-in-Err : goal.returns-in-Err
+returns-in-Err c =
     let goes_on : ends_statement c.loop-room.item.token ≡ false = sym c.ends_items.ensures ∙ c.if-ends_items.false in
     let next_item : (all : List Item) → (end : Scanned) → (e : items_of c.args.line.now c.args.first ≡ items all end) → Advances c.args.line.now c.loop-room.item (c.loop-room.invariant all end e).rest end = λ all end e. advances c.args.line.now c.loop-room.item (c.loop-room.invariant all end e).reads goes_on
     (items_end c.requires.0 e) in
     λ text input at is u sound placed e.
     let a = next_item _ _ e in
     rw c.fails.ensures
-    (prints_fails (c.loop-room.invariant is u e) a (rw c.in-Fault.is at (c.print_item.ensures a.first a.next a.at))
+    (prints_fails (c.loop-room.invariant is u e) a (rw c.in-Err.is at (c.print_item.ensures a.first a.next a.at))
     text input c.args.here at sound)
 
 pub loop-room-smaller : goal.loop-room-smaller
@@ -72,7 +72,7 @@ loop-room-smaller c =
     let next_item : (all : List Item) → (end : Scanned) → (e : items_of c.args.line.now c.args.first ≡ items all end) → Advances c.args.line.now c.loop-room.item (c.loop-room.invariant all end e).rest end = λ all end e. advances c.args.line.now c.loop-room.item (c.loop-room.invariant all end e).reads goes_on
     (items_end c.requires.0 e) in
     let a = next_item _ _ c.requires.0.reads in
-    let s = rw c.in-On.is at (c.print_item.ensures a.first a.next a.at) in
+    let s = rw c.in-Ok.is at (c.print_item.ensures a.first a.next a.at) in
     rw s.goes (omega (arith, a.lighter))
 
 pub loop-room-preserved : goal.loop-room-preserved
@@ -82,6 +82,6 @@ loop-room-preserved c =
     (items_end c.requires.0 e) in
     λ all end e.
     let a = next_item _ _ e in
-    rw (c.with_printer-m.ensures c.args.names.now c.args.words.now c.args.labels.now c.args.lengths.now, c.separates-quiet.ensures)
+    rw (c.with_printer-m.ensures c.args.tables.now, c.separates-quiet.ensures)
     (prints_on (c.loop-room.invariant all end e) a
-    (rw c.in-On.is at (c.print_item.ensures a.first a.next a.at)))
+    (rw c.in-Ok.is at (c.print_item.ensures a.first a.next a.at)))

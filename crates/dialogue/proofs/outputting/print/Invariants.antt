@@ -11,7 +11,7 @@ use Rattle.dialogue.proofs.outputting.print.Given as goal
 
 abbrev pub invariant-loop-room : goal.invariant-loop-room
 invariant-loop-room l = (all : List Item) (end : Scanned) → items_of l.line l.initial.item ≡ items all end
-    → Prints l.line all end (state_of l.initial.m l.names l.words l.labels l.lengths) l.initial.space l.initial.room (state_of l.m l.names l.words l.labels l.lengths) l.item l.quiet l.space l.room
+    → Prints l.line all end (state_of l.initial.m l.tables) l.initial.space l.initial.room (state_of l.m l.tables) l.item l.quiet l.space l.room
 
 abbrev pub decreases-loop-room : goal.decreases-loop-room
 decreases-loop-room l = weight l.line l.item

@@ -4,7 +4,7 @@ use Rattle.dialogue.proofs.Shows.{at_formula}
 use Rattle.dialogue.proofs.outputting.print_item.Goals as goal
 
 pub returns-then-separates : goal.returns-then-separates
-returns-then-separates c = λ i u at. c.print_separator.ensures i u _ _ _ _ _ (sym c.separates.ensures ∙ c.if-separates.true) at
+returns-then-separates c = λ i u at. c.print_separator.ensures i u _ _ (sym c.separates.ensures ∙ c.if-separates.true) at
 
 pub value-worked-requires : goal.value-worked-requires
 value-worked-requires c = (c.requires.0 (sym c.separates.ensures ∙ c.if-separates.false), c.requires.1.0)

@@ -17,5 +17,5 @@ loop-here-smaller c = rw c.token_at-here.ensures (omega (arith, after_lighter c.
 pub loop-here-preserved : goal.loop-here-preserved
 loop-here-preserved c = rw c.token_at-here.ensures (sym (nots_goes c.args.line.now c.loop-here.odd c.loop-here.here c.in-Not.is) ∙ c.loop-here.invariant)
 
-pub returns-in_default : goal.returns-in_default
-returns-in_default c = sym (nots_ends c.args.line.now c.loop-here.odd c.loop-here.here (no_not c.loop-here.here.token (unsealed c.in_default.in_default-own.keys2))) ∙ c.loop-here.invariant
+pub returns : goal.returns
+returns c = sym (nots_ends c.args.line.now c.loop-here.odd c.loop-here.here (no_not c.loop-here.here.token (unsealed c.in_default.in_default-own.keys2))) ∙ c.loop-here.invariant

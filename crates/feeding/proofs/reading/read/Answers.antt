@@ -25,14 +25,14 @@ returns-in_default c = let h = names_turn c.args.line.now c.loop-name.target ∙
 pub give-requires : goal.give-requires
 give-requires c = (c.loop-name.invariant.1.0, c.loop-name.invariant.1.1.0.settled)
 
-pub shape_of-space-in-Fails : goal.shape_of-space-in-Fails
-shape_of-space-in-Fails c = c.give.ensures.0.long ∙ c.loop-name.invariant.1.1.0.long
+pub shape_of-space-in-Err : goal.shape_of-space-in-Err
+shape_of-space-in-Err c = c.give.ensures.0.long ∙ c.loop-name.invariant.1.1.0.long
 
-pub returns-in-Fails : goal.returns-in-Fails
-returns-in-Fails c = λ input room at vs u sound p e.
-    rw c.fails-in-Fails.ensures
-    (fills_fails (c.loop-name.invariant.1.1.1 vs u e) c.in-Named.is input room c.args.here at sound c.in-Fails.failed
-    (sets_then c.loop-name.invariant.1.1.0 (rw c.in-Fails.is at c.give.ensures.0)) (rw c.in-Fails.is at c.give.ensures.1.1) (position_of c.args.text.now (after_of c.args.here u)))
+pub returns-in-Err : goal.returns-in-Err
+returns-in-Err c = λ input room at vs u sound p e.
+    rw c.fails-in-Err.ensures
+    (fills_fails (c.loop-name.invariant.1.1.1 vs u e) c.in-Named.is input room c.args.here at sound c.in-Err.failed
+    (sets_then c.loop-name.invariant.1.1.0 (rw c.in-Err.is at c.give.ensures.0)) (rw c.in-Err.is at c.give.ensures.1.1) (position_of c.args.text.now (after_of c.args.here u)))
 
 pub shape_of-space-then-not-is_symbol : goal.shape_of-space-then-not-is_symbol
 shape_of-space-then-not-is_symbol c = c.give.ensures.0.long ∙ c.loop-name.invariant.1.1.0.long
@@ -41,9 +41,9 @@ pub returns-then-not-is_symbol : goal.returns-then-not-is_symbol
 returns-then-not-is_symbol c = let cm = ap (λ t. is_symbol Comma t.token) c.token_at-ahead.ensures in
     λ input room at vs u sound p e.
     rw (c.goes_on.ensures, c.token_at-ahead.ensures)
-    (fills_last (c.loop-name.invariant.1.1.1 vs u e) c.in-Named.is input room c.args.here at sound c.in-On.next
+    (fills_last (c.loop-name.invariant.1.1.1 vs u e) c.in-Named.is input room c.args.here at sound c.in-Ok.next
     (sym cm ∙ sym c.is_symbol.ensures ∙ not-true c.is_symbol.result c.if-not-is_symbol.true-raw)
-    (sets_then c.loop-name.invariant.1.1.0 (rw c.in-On.is at c.give.ensures.0)) (rw c.in-On.is at c.give.ensures.1.1) p)
+    (sets_then c.loop-name.invariant.1.1.0 (rw c.in-Ok.is at c.give.ensures.0)) (rw c.in-Ok.is at c.give.ensures.1.1) p)
 
 pub loop-name-smaller : goal.loop-name-smaller
 loop-name-smaller c = let cm = ap (λ t'. is_symbol Comma t'.token) c.token_at-ahead.ensures in
@@ -58,10 +58,10 @@ loop-name-preserved c = let cm = ap (λ t. is_symbol Comma t.token) c.token_at-a
     rw (c.token_at-target.ensures, c.token_at-ahead.ensures) (
       record { all = k.others; end = c.loop-name.invariant.0.end; is = first_more k m },
       (
-        record { loads = c.loop-name.invariant.1.0.loads; fed = rw c.in-On.is at c.give.ensures.1.0 },
+        record { loads = c.loop-name.invariant.1.0.loads; fed = rw c.in-Ok.is at c.give.ensures.1.0 },
         (
-          sets_then c.loop-name.invariant.1.1.0 (rw c.in-On.is at c.give.ensures.0),
-          λ vs u e. fills_on (c.loop-name.invariant.1.1.1 vs u e) c.in-Named.is c.in-On.next m (rw c.in-On.is at c.give.ensures.1.1),
+          sets_then c.loop-name.invariant.1.1.0 (rw c.in-Ok.is at c.give.ensures.0),
+          λ vs u e. fills_on (c.loop-name.invariant.1.1.1 vs u e) c.in-Named.is c.in-Ok.next m (rw c.in-Ok.is at c.give.ensures.1.1),
         ),
       ),
     )

@@ -14,9 +14,9 @@ use Rattle.feeding.proofs.reading.read.Given as goal
 abbrev pub invariant-loop-name : goal.invariant-loop-name
 invariant-loop-name l = Listed l.line l.target
     × (Feedable l.text l.m.feed
-    × (Sets (state_of l.initial.m l.initial.names l.initial.words l.initial.labels l.initial.lengths) l.initial.space (state_of l.m l.names l.words l.labels l.lengths) l.space
+    × (Sets (state_of l.initial.m l.initial.tables) l.initial.space (state_of l.m l.tables) l.space
     × ((vs : List Variable) (u : Scanned) → names_at (enough l.line) l.line l.initial.target ≡ listed vs u
-    → Fills l.text l.line vs u (state_of l.initial.m l.initial.names l.initial.words l.initial.labels l.initial.lengths) l.initial.space (state_of l.m l.names l.words l.labels l.lengths) l.target l.space)))
+    → Fills l.text l.line vs u (state_of l.initial.m l.initial.tables) l.initial.space (state_of l.m l.tables) l.target l.space)))
 
 abbrev pub decreases-loop-name : goal.decreases-loop-name
 decreases-loop-name l = weight l.line l.target

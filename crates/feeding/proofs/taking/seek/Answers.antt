@@ -16,10 +16,10 @@ returns-then-not-feed c = λ l h. let z = not-true c.args.feed.inside c.if-not-f
 pub returns-in-None : goal.returns-in-None
 returns-in-None c = λ l h. let z = not-false c.args.feed.inside c.if-not-feed.false in let i = rw z at h in none_here i.begins c.requires.loads (sym c.line_at.ensures ∙ c.in-None.is)
 
-pub returns-in-Is : goal.returns-in-Is
-returns-in-Is c = λ l h.
+pub returns-in-Some : goal.returns-in-Some
+returns-in-Some c = λ l h.
     let z = not-false c.args.feed.inside c.if-not-feed.false in
     let i = rw z at h in
-    let e = sym c.line_at.ensures ∙ c.in-Is.is in
+    let e = sym c.line_at.ensures ∙ c.in-Some.is in
     let t = told_as i.begins c.requires.loads e in
     (ap (line_at c.args.text.now) t.starts ∙ e, rw t.starts i)

@@ -12,5 +12,5 @@ returns-then-at-eq0 c = λ l o. let k = outside_line o c.if-at-eq0.true in recor
 pub returns-in-None : goal.returns-in-None
 returns-in-None c = λ l o. let k = outside_statement o c.if-at-eq0.false in none_here k.stands.begins c.requires.loads (sym c.line_at.ensures ∙ c.in-None.is)
 
-pub returns-in-Is : goal.returns-in-Is
-returns-in-Is c = λ l o. let k = outside_statement o c.if-at-eq0.false in record { xs = k.xs; walks = from_ahead c.requires.loads (sym c.line_at.ensures ∙ c.in-Is.is) k.stands; all = k.all }
+pub returns-in-Some : goal.returns-in-Some
+returns-in-Some c = λ l o. let k = outside_statement o c.if-at-eq0.false in record { xs = k.xs; walks = from_ahead c.requires.loads (sym c.line_at.ensures ∙ c.in-Some.is) k.stands; all = k.all }

@@ -1,7 +1,9 @@
 -- Each call is made with less left to read. A left side, and a list of arguments, stand at every turn to the whole formula as they did at
 -- the first.
 use borrow.Enum.Refused.{opened as unsealed}
-use mathlib.Core.Path.{◌≡◌, refl, ◌∙◌}
+use Rattle.std.specs.Prelude.{Ok}
+use Rattle.std.proofs.lemmas.Result.{err_from_is_err_and}
+use mathlib.Core.Path.{◌≡◌, refl, ap, ◌∙◌}
 use native.Mathlib.Omega.{arith}
 use Rattle.words.specs.declared.symbols.Scanned.{Scanned}
 use Rattle.grammar.specs.Trees.{Formula, none}
@@ -13,165 +15,144 @@ use Rattle.formulas.proofs.Heads.{not_operand, quoted_within, sign_lighter, open
 use Rattle.formulas.proofs.Listing.{Listing, listing_begins, next_ready, next_asks, listing_long, listing_fault, all_placed, listing_ends, listing_lightens, listing_goes}
 use Rattle.formulas.proofs.evaluating.+arguments_formula_operand.Goals as goal
 
-pub arguments-loop-error-init : goal.arguments-loop-error-init
-arguments-loop-error-init t c w before f u l = l
+pub arguments-loop-all-init : goal.arguments-loop-all-init
+arguments-loop-all-init t c w before f u l = l
 
 pub arguments-given_length-requires : goal.arguments-given_length-requires
 arguments-given_length-requires t c =
-    let arguments_had : (f : Formula) (u : Scanned) → arguments_of c.args.line.now c.args.function none (formula_in c.args.line.now 0 c.args.ahead) ≡ good f u → Listing c.args.line.now c.args.names.now c.args.words.now c.args.labels.now c.args.lengths.now c.args.function c.is_of_three-three.result c.args.used.0 (weight c.args.line.now c.args.ahead) f u c.args.space.now c.loop-error.given c.loop-error.here c.loop-error.space = λ f u e. c.loop-error.invariant (weight c.args.line.now c.args.ahead) c.args.space.now f u
-    (listing_begins c.args.line.now c.args.names.now c.args.words.now c.args.labels.now c.args.lengths.now c.args.function c.is_of_three-three.result c.args.used.0
+    let arguments_had : (f : Formula) (u : Scanned) → arguments_of c.args.line.now c.args.function none (formula_in c.args.line.now 0 c.args.ahead) ≡ good f u → Listing c.args.line.now c.args.tables.now c.args.function c.is_of_three-three.result c.args.used.0 (weight c.args.line.now c.args.ahead) f u c.args.space.now c.loop-all.given c.loop-all.here c.loop-all.space = λ f u e. c.loop-all.invariant (weight c.args.line.now c.args.ahead) c.args.space.now f u
+    (listing_begins c.args.line.now c.args.tables.now c.args.function c.is_of_three-three.result c.args.used.0
     c.args.ahead f u c.args.space.now e c.requires.1.0 c.requires.0 c.is_of_three-three.ensures) in
-    let arguments_here : Listing c.args.line.now c.args.names.now c.args.words.now c.args.labels.now c.args.lengths.now c.args.function c.is_of_three-three.result c.args.used.0 (weight c.args.line.now c.args.ahead) c.requires.1.1.of c.requires.1.1.next c.args.space.now c.loop-error.given c.loop-error.here c.loop-error.space = arguments_had c.requires.1.1.of c.requires.1.1.next c.requires.1.1.is in
+    let arguments_here : Listing c.args.line.now c.args.tables.now c.args.function c.is_of_three-three.result c.args.used.0 (weight c.args.line.now c.args.ahead) c.requires.1.1.of c.requires.1.1.next c.args.space.now c.loop-all.given c.loop-all.here c.loop-all.space = arguments_had c.requires.1.1.of c.requires.1.1.next c.requires.1.1.is in
     let r = next_ready (arguments_here) refl in omega (arith, r.within, r.small)
 
 pub arguments-overflow_add-used : goal.arguments-overflow_add-used
 arguments-overflow_add-used t c =
-    let arguments_had : (f : Formula) (u : Scanned) → arguments_of c.args.line.now c.args.function none (formula_in c.args.line.now 0 c.args.ahead) ≡ good f u → Listing c.args.line.now c.args.names.now c.args.words.now c.args.labels.now c.args.lengths.now c.args.function c.is_of_three-three.result c.args.used.0 (weight c.args.line.now c.args.ahead) f u c.args.space.now c.loop-error.given c.loop-error.here c.loop-error.space = λ f u e. c.loop-error.invariant (weight c.args.line.now c.args.ahead) c.args.space.now f u
-    (listing_begins c.args.line.now c.args.names.now c.args.words.now c.args.labels.now c.args.lengths.now c.args.function c.is_of_three-three.result c.args.used.0
+    let arguments_had : (f : Formula) (u : Scanned) → arguments_of c.args.line.now c.args.function none (formula_in c.args.line.now 0 c.args.ahead) ≡ good f u → Listing c.args.line.now c.args.tables.now c.args.function c.is_of_three-three.result c.args.used.0 (weight c.args.line.now c.args.ahead) f u c.args.space.now c.loop-all.given c.loop-all.here c.loop-all.space = λ f u e. c.loop-all.invariant (weight c.args.line.now c.args.ahead) c.args.space.now f u
+    (listing_begins c.args.line.now c.args.tables.now c.args.function c.is_of_three-three.result c.args.used.0
     c.args.ahead f u c.args.space.now e c.requires.1.0 c.requires.0 c.is_of_three-three.ensures) in
-    let arguments_here : Listing c.args.line.now c.args.names.now c.args.words.now c.args.labels.now c.args.lengths.now c.args.function c.is_of_three-three.result c.args.used.0 (weight c.args.line.now c.args.ahead) c.requires.1.1.of c.requires.1.1.next c.args.space.now c.loop-error.given c.loop-error.here c.loop-error.space = arguments_had c.requires.1.1.of c.requires.1.1.next c.requires.1.1.is in
+    let arguments_here : Listing c.args.line.now c.args.tables.now c.args.function c.is_of_three-three.result c.args.used.0 (weight c.args.line.now c.args.ahead) c.requires.1.1.of c.requires.1.1.next c.args.space.now c.loop-all.given c.loop-all.here c.loop-all.space = arguments_had c.requires.1.1.of c.requires.1.1.next c.requires.1.1.is in
     let r = next_ready (arguments_here) c.given_length.ensures in omega (arith, r.within, r.small)
 
 pub arguments-formula-worked-requires : goal.arguments-formula-worked-requires
 arguments-formula-worked-requires t c =
-    let arguments_had : (f : Formula) (u : Scanned) → arguments_of c.args.line.now c.args.function none (formula_in c.args.line.now 0 c.args.ahead) ≡ good f u → Listing c.args.line.now c.args.names.now c.args.words.now c.args.labels.now c.args.lengths.now c.args.function c.is_of_three-three.result c.args.used.0 (weight c.args.line.now c.args.ahead) f u c.args.space.now c.loop-error.given c.loop-error.here c.loop-error.space = λ f u e. c.loop-error.invariant (weight c.args.line.now c.args.ahead) c.args.space.now f u
-    (listing_begins c.args.line.now c.args.names.now c.args.words.now c.args.labels.now c.args.lengths.now c.args.function c.is_of_three-three.result c.args.used.0
+    let arguments_had : (f : Formula) (u : Scanned) → arguments_of c.args.line.now c.args.function none (formula_in c.args.line.now 0 c.args.ahead) ≡ good f u → Listing c.args.line.now c.args.tables.now c.args.function c.is_of_three-three.result c.args.used.0 (weight c.args.line.now c.args.ahead) f u c.args.space.now c.loop-all.given c.loop-all.here c.loop-all.space = λ f u e. c.loop-all.invariant (weight c.args.line.now c.args.ahead) c.args.space.now f u
+    (listing_begins c.args.line.now c.args.tables.now c.args.function c.is_of_three-three.result c.args.used.0
     c.args.ahead f u c.args.space.now e c.requires.1.0 c.requires.0 c.is_of_three-three.ensures) in
-    let arguments_here : Listing c.args.line.now c.args.names.now c.args.words.now c.args.labels.now c.args.lengths.now c.args.function c.is_of_three-three.result c.args.used.0 (weight c.args.line.now c.args.ahead) c.requires.1.1.of c.requires.1.1.next c.args.space.now c.loop-error.given c.loop-error.here c.loop-error.space = arguments_had c.requires.1.1.of c.requires.1.1.next c.requires.1.1.is in
+    let arguments_here : Listing c.args.line.now c.args.tables.now c.args.function c.is_of_three-three.result c.args.used.0 (weight c.args.line.now c.args.ahead) c.requires.1.1.of c.requires.1.1.next c.args.space.now c.loop-all.given c.loop-all.here c.loop-all.space = arguments_had c.requires.1.1.of c.requires.1.1.next c.requires.1.1.is in
     let here = arguments_here in
     (omega (arith, here.lighter, c.decreases), next_asks here c.given_length.ensures c.args.room c.requires.1.1.shallow)
 
-pub arguments-shape_of-space-in-Fault : goal.arguments-shape_of-space-in-Fault
-arguments-shape_of-space-in-Fault t c =
-    let arguments_had : (f : Formula) (u : Scanned) → arguments_of c.args.line.now c.args.function none (formula_in c.args.line.now 0 c.args.ahead) ≡ good f u → Listing c.args.line.now c.args.names.now c.args.words.now c.args.labels.now c.args.lengths.now c.args.function c.is_of_three-three.result c.args.used.0 (weight c.args.line.now c.args.ahead) f u c.args.space.now c.loop-error.given c.loop-error.here c.loop-error.space = λ f u e. c.loop-error.invariant (weight c.args.line.now c.args.ahead) c.args.space.now f u
-    (listing_begins c.args.line.now c.args.names.now c.args.words.now c.args.labels.now c.args.lengths.now c.args.function c.is_of_three-three.result c.args.used.0
+pub arguments-returns-in_err-all : goal.arguments-returns-in_err-all
+arguments-returns-in_err-all t c f u e =
+    let arguments_had : (f : Formula) (u : Scanned) → arguments_of c.args.line.now c.args.function none (formula_in c.args.line.now 0 c.args.ahead) ≡ good f u → Listing c.args.line.now c.args.tables.now c.args.function c.is_of_three-three.result c.args.used.0 (weight c.args.line.now c.args.ahead) f u c.args.space.now c.loop-all.given c.loop-all.here c.loop-all.space = λ f u e. c.loop-all.invariant (weight c.args.line.now c.args.ahead) c.args.space.now f u
+    (listing_begins c.args.line.now c.args.tables.now c.args.function c.is_of_three-three.result c.args.used.0
     c.args.ahead f u c.args.space.now e c.requires.1.0 c.requires.0 c.is_of_three-three.ensures) in
-    let arguments_here : Listing c.args.line.now c.args.names.now c.args.words.now c.args.labels.now c.args.lengths.now c.args.function c.is_of_three-three.result c.args.used.0 (weight c.args.line.now c.args.ahead) c.requires.1.1.of c.requires.1.1.next c.args.space.now c.loop-error.given c.loop-error.here c.loop-error.space = arguments_had c.requires.1.1.of c.requires.1.1.next c.requires.1.1.is in
-    listing_long (arguments_here) c.given_length.ensures c.formula-worked.result c.formula-worked.ensures
-
-pub arguments-returns-in-Fault : goal.arguments-returns-in-Fault
-arguments-returns-in-Fault t c f u e =
-    let arguments_had : (f : Formula) (u : Scanned) → arguments_of c.args.line.now c.args.function none (formula_in c.args.line.now 0 c.args.ahead) ≡ good f u → Listing c.args.line.now c.args.names.now c.args.words.now c.args.labels.now c.args.lengths.now c.args.function c.is_of_three-three.result c.args.used.0 (weight c.args.line.now c.args.ahead) f u c.args.space.now c.loop-error.given c.loop-error.here c.loop-error.space = λ f u e. c.loop-error.invariant (weight c.args.line.now c.args.ahead) c.args.space.now f u
-    (listing_begins c.args.line.now c.args.names.now c.args.words.now c.args.labels.now c.args.lengths.now c.args.function c.is_of_three-three.result c.args.used.0
-    c.args.ahead f u c.args.space.now e c.requires.1.0 c.requires.0 c.is_of_three-three.ensures) in
-    listing_fault (arguments_had f u e) c.given_length.ensures c.formula-worked.result c.formula-worked.ensures
-    c.take_argument.ensures c.in-Fault.is
+    let p = err_from_is_err_and c.from_residual.result c.from_residual.ensures.1 in
+    rw (p.1, p.2)
+    (listing_fault (arguments_had f u e) c.given_length.ensures c.formula-worked.result c.formula-worked.ensures
+    c.take_argument.ensures c.in_err-all.was)
 
 pub arguments-called-requires : goal.arguments-called-requires
 arguments-called-requires t c =
-    let arguments_had : (f : Formula) (u : Scanned) → arguments_of c.args.line.now c.args.function none (formula_in c.args.line.now 0 c.args.ahead) ≡ good f u → Listing c.args.line.now c.args.names.now c.args.words.now c.args.labels.now c.args.lengths.now c.args.function c.is_of_three-three.result c.args.used.0 (weight c.args.line.now c.args.ahead) f u c.args.space.now c.loop-error.given c.loop-error.here c.loop-error.space = λ f u e. c.loop-error.invariant (weight c.args.line.now c.args.ahead) c.args.space.now f u
-    (listing_begins c.args.line.now c.args.names.now c.args.words.now c.args.labels.now c.args.lengths.now c.args.function c.is_of_three-three.result c.args.used.0
+    let arguments_had : (f : Formula) (u : Scanned) → arguments_of c.args.line.now c.args.function none (formula_in c.args.line.now 0 c.args.ahead) ≡ good f u → Listing c.args.line.now c.args.tables.now c.args.function c.is_of_three-three.result c.args.used.0 (weight c.args.line.now c.args.ahead) f u c.args.space.now c.loop-all.given c.loop-all.here c.loop-all.space = λ f u e. c.loop-all.invariant (weight c.args.line.now c.args.ahead) c.args.space.now f u
+    (listing_begins c.args.line.now c.args.tables.now c.args.function c.is_of_three-three.result c.args.used.0
     c.args.ahead f u c.args.space.now e c.requires.1.0 c.requires.0 c.is_of_three-three.ensures) in
-    let arguments_here : Listing c.args.line.now c.args.names.now c.args.words.now c.args.labels.now c.args.lengths.now c.args.function c.is_of_three-three.result c.args.used.0 (weight c.args.line.now c.args.ahead) c.requires.1.1.of c.requires.1.1.next c.args.space.now c.loop-error.given c.loop-error.here c.loop-error.space = arguments_had c.requires.1.1.of c.requires.1.1.next c.requires.1.1.is in
+    let arguments_here : Listing c.args.line.now c.args.tables.now c.args.function c.is_of_three-three.result c.args.used.0 (weight c.args.line.now c.args.ahead) c.requires.1.1.of c.requires.1.1.next c.args.space.now c.loop-all.given c.loop-all.here c.loop-all.space = arguments_had c.requires.1.1.of c.requires.1.1.next c.requires.1.1.is in
     all_placed (arguments_here) c.given_length.ensures c.formula-worked.result c.formula-worked.ensures
-    c.take_argument.ensures c.in-All.is
+    c.take_argument.ensures (c.in_ok-all.was ∙ ap Ok c.in-All.is)
 
 pub arguments-shape_of-space-in-All : goal.arguments-shape_of-space-in-All
 arguments-shape_of-space-in-All t c =
-    let arguments_had : (f : Formula) (u : Scanned) → arguments_of c.args.line.now c.args.function none (formula_in c.args.line.now 0 c.args.ahead) ≡ good f u → Listing c.args.line.now c.args.names.now c.args.words.now c.args.labels.now c.args.lengths.now c.args.function c.is_of_three-three.result c.args.used.0 (weight c.args.line.now c.args.ahead) f u c.args.space.now c.loop-error.given c.loop-error.here c.loop-error.space = λ f u e. c.loop-error.invariant (weight c.args.line.now c.args.ahead) c.args.space.now f u
-    (listing_begins c.args.line.now c.args.names.now c.args.words.now c.args.labels.now c.args.lengths.now c.args.function c.is_of_three-three.result c.args.used.0
+    let arguments_had : (f : Formula) (u : Scanned) → arguments_of c.args.line.now c.args.function none (formula_in c.args.line.now 0 c.args.ahead) ≡ good f u → Listing c.args.line.now c.args.tables.now c.args.function c.is_of_three-three.result c.args.used.0 (weight c.args.line.now c.args.ahead) f u c.args.space.now c.loop-all.given c.loop-all.here c.loop-all.space = λ f u e. c.loop-all.invariant (weight c.args.line.now c.args.ahead) c.args.space.now f u
+    (listing_begins c.args.line.now c.args.tables.now c.args.function c.is_of_three-three.result c.args.used.0
     c.args.ahead f u c.args.space.now e c.requires.1.0 c.requires.0 c.is_of_three-three.ensures) in
-    let arguments_here : Listing c.args.line.now c.args.names.now c.args.words.now c.args.labels.now c.args.lengths.now c.args.function c.is_of_three-three.result c.args.used.0 (weight c.args.line.now c.args.ahead) c.requires.1.1.of c.requires.1.1.next c.args.space.now c.loop-error.given c.loop-error.here c.loop-error.space = arguments_had c.requires.1.1.of c.requires.1.1.next c.requires.1.1.is in
+    let arguments_here : Listing c.args.line.now c.args.tables.now c.args.function c.is_of_three-three.result c.args.used.0 (weight c.args.line.now c.args.ahead) c.requires.1.1.of c.requires.1.1.next c.args.space.now c.loop-all.given c.loop-all.here c.loop-all.space = arguments_had c.requires.1.1.of c.requires.1.1.next c.requires.1.1.is in
     c.called.ensures.framed.long
     ∙ listing_long (arguments_here) c.given_length.ensures c.formula-worked.result c.formula-worked.ensures
 
 pub arguments-returns-in-All : goal.arguments-returns-in-All
 arguments-returns-in-All t c f u e =
-    let arguments_had : (f : Formula) (u : Scanned) → arguments_of c.args.line.now c.args.function none (formula_in c.args.line.now 0 c.args.ahead) ≡ good f u → Listing c.args.line.now c.args.names.now c.args.words.now c.args.labels.now c.args.lengths.now c.args.function c.is_of_three-three.result c.args.used.0 (weight c.args.line.now c.args.ahead) f u c.args.space.now c.loop-error.given c.loop-error.here c.loop-error.space = λ f u e. c.loop-error.invariant (weight c.args.line.now c.args.ahead) c.args.space.now f u
-    (listing_begins c.args.line.now c.args.names.now c.args.words.now c.args.labels.now c.args.lengths.now c.args.function c.is_of_three-three.result c.args.used.0
+    let arguments_had : (f : Formula) (u : Scanned) → arguments_of c.args.line.now c.args.function none (formula_in c.args.line.now 0 c.args.ahead) ≡ good f u → Listing c.args.line.now c.args.tables.now c.args.function c.is_of_three-three.result c.args.used.0 (weight c.args.line.now c.args.ahead) f u c.args.space.now c.loop-all.given c.loop-all.here c.loop-all.space = λ f u e. c.loop-all.invariant (weight c.args.line.now c.args.ahead) c.args.space.now f u
+    (listing_begins c.args.line.now c.args.tables.now c.args.function c.is_of_three-three.result c.args.used.0
     c.args.ahead f u c.args.space.now e c.requires.1.0 c.requires.0 c.is_of_three-three.ensures) in
     listing_ends (arguments_had f u e) c.given_length.ensures c.formula-worked.result c.formula-worked.ensures
-    c.take_argument.ensures c.in-All.is c.token_at-after.ensures c.called.result c.called.ensures
+    c.take_argument.ensures (c.in_ok-all.was ∙ ap Ok c.in-All.is) c.token_at-after.ensures c.called.result c.called.ensures
 
-pub arguments-loop-error-smaller : goal.arguments-loop-error-smaller
-arguments-loop-error-smaller t c =
-    let arguments_had : (f : Formula) (u : Scanned) → arguments_of c.args.line.now c.args.function none (formula_in c.args.line.now 0 c.args.ahead) ≡ good f u → Listing c.args.line.now c.args.names.now c.args.words.now c.args.labels.now c.args.lengths.now c.args.function c.is_of_three-three.result c.args.used.0 (weight c.args.line.now c.args.ahead) f u c.args.space.now c.loop-error.given c.loop-error.here c.loop-error.space = λ f u e. c.loop-error.invariant (weight c.args.line.now c.args.ahead) c.args.space.now f u
-    (listing_begins c.args.line.now c.args.names.now c.args.words.now c.args.labels.now c.args.lengths.now c.args.function c.is_of_three-three.result c.args.used.0
+pub arguments-loop-all-smaller : goal.arguments-loop-all-smaller
+arguments-loop-all-smaller t c =
+    let arguments_had : (f : Formula) (u : Scanned) → arguments_of c.args.line.now c.args.function none (formula_in c.args.line.now 0 c.args.ahead) ≡ good f u → Listing c.args.line.now c.args.tables.now c.args.function c.is_of_three-three.result c.args.used.0 (weight c.args.line.now c.args.ahead) f u c.args.space.now c.loop-all.given c.loop-all.here c.loop-all.space = λ f u e. c.loop-all.invariant (weight c.args.line.now c.args.ahead) c.args.space.now f u
+    (listing_begins c.args.line.now c.args.tables.now c.args.function c.is_of_three-three.result c.args.used.0
     c.args.ahead f u c.args.space.now e c.requires.1.0 c.requires.0 c.is_of_three-three.ensures) in
-    let arguments_here : Listing c.args.line.now c.args.names.now c.args.words.now c.args.labels.now c.args.lengths.now c.args.function c.is_of_three-three.result c.args.used.0 (weight c.args.line.now c.args.ahead) c.requires.1.1.of c.requires.1.1.next c.args.space.now c.loop-error.given c.loop-error.here c.loop-error.space = arguments_had c.requires.1.1.of c.requires.1.1.next c.requires.1.1.is in
+    let arguments_here : Listing c.args.line.now c.args.tables.now c.args.function c.is_of_three-three.result c.args.used.0 (weight c.args.line.now c.args.ahead) c.requires.1.1.of c.requires.1.1.next c.args.space.now c.loop-all.given c.loop-all.here c.loop-all.space = arguments_had c.requires.1.1.of c.requires.1.1.next c.requires.1.1.is in
     listing_lightens (arguments_here) c.given_length.ensures c.formula-worked.result c.formula-worked.ensures
-    c.take_argument.ensures c.in-More.is c.token_at-here.ensures
+    c.take_argument.ensures (c.in_ok-all.was ∙ ap Ok c.in-More.is) c.token_at-here.ensures
 
-pub arguments-loop-error-preserved : goal.arguments-loop-error-preserved
-arguments-loop-error-preserved t c w before f u l = listing_goes (c.loop-error.invariant w before f u l) c.given_length.ensures c.formula-worked.result c.formula-worked.ensures
-    c.take_argument.ensures c.in-More.is c.token_at-here.ensures
+pub arguments-loop-all-preserved : goal.arguments-loop-all-preserved
+arguments-loop-all-preserved t c w before f u l = listing_goes (c.loop-all.invariant w before f u l) c.given_length.ensures c.formula-worked.result c.formula-worked.ensures
+    c.take_argument.ensures (c.in_ok-all.was ∙ ap Ok c.in-More.is) c.token_at-here.ensures
 
 pub formula-operand-left-requires : goal.formula-operand-left-requires
 formula-operand-left-requires t c = (omega (arith, c.decreases), (c.requires.0, (c.requires.1.0, formula_operand c.args.room c.args.line.now c.args.level c.args.ahead c.requires.1.1)))
 
-pub formula-loop-left-init : goal.formula-loop-left-init
-formula-loop-left-init t c w before f u l = l
+pub formula-loop-operator-init : goal.formula-loop-operator-init
+formula-loop-operator-init t c w before f u l = l
 
-pub formula-shape_of-space-in-Ends : goal.formula-shape_of-space-in-Ends
-formula-shape_of-space-in-Ends t c =
-    let formula_left : (f : Formula) (u : Scanned) → formula_in c.args.line.now c.args.level c.args.ahead ≡ good f u → Climbing c.args.line.now c.args.names.now c.args.words.now c.args.labels.now c.args.lengths.now c.args.level c.args.used.0 (weight c.args.line.now c.args.ahead) f u c.args.space.now c.loop-left.left c.loop-left.space = λ f u e. c.loop-left.invariant (weight c.args.line.now c.args.ahead) c.args.space.now f u
-    (climbing_begins c.args.line.now c.args.names.now c.args.words.now c.args.labels.now c.args.lengths.now c.args.level c.args.used.0
+pub formula-returns : goal.formula-returns
+formula-returns t c f u e =
+    let formula_left : (f : Formula) (u : Scanned) → formula_in c.args.line.now c.args.level c.args.ahead ≡ good f u → Climbing c.args.line.now c.args.tables.now c.args.level c.args.used.0 (weight c.args.line.now c.args.ahead) f u c.args.space.now c.loop-operator.left c.loop-operator.space = λ f u e. c.loop-operator.invariant (weight c.args.line.now c.args.ahead) c.args.space.now f u
+    (climbing_begins c.args.line.now c.args.tables.now c.args.level c.args.used.0
     c.args.ahead f u c.requires.0 e c.operand-left.ensures) in
-    let formula_here : Climbing c.args.line.now c.args.names.now c.args.words.now c.args.labels.now c.args.lengths.now c.args.level c.args.used.0 (weight c.args.line.now c.args.ahead) c.requires.1.1.of c.requires.1.1.next c.args.space.now c.loop-left.left c.loop-left.space = formula_left c.requires.1.1.of c.requires.1.1.next c.requires.1.1.is in
-    (formula_here).done.framed.long
+    climbing_ends (formula_left f u e) c.turn_of.ensures (c.in_ok-operator.was ∙ ap Ok c.in_default.is)
 
-pub formula-returns-in-Ends : goal.formula-returns-in-Ends
-formula-returns-in-Ends t c f u e =
-    let formula_left : (f : Formula) (u : Scanned) → formula_in c.args.line.now c.args.level c.args.ahead ≡ good f u → Climbing c.args.line.now c.args.names.now c.args.words.now c.args.labels.now c.args.lengths.now c.args.level c.args.used.0 (weight c.args.line.now c.args.ahead) f u c.args.space.now c.loop-left.left c.loop-left.space = λ f u e. c.loop-left.invariant (weight c.args.line.now c.args.ahead) c.args.space.now f u
-    (climbing_begins c.args.line.now c.args.names.now c.args.words.now c.args.labels.now c.args.lengths.now c.args.level c.args.used.0
+pub formula-returns-in_err-operator : goal.formula-returns-in_err-operator
+formula-returns-in_err-operator t c f u e =
+    let formula_left : (f : Formula) (u : Scanned) → formula_in c.args.line.now c.args.level c.args.ahead ≡ good f u → Climbing c.args.line.now c.args.tables.now c.args.level c.args.used.0 (weight c.args.line.now c.args.ahead) f u c.args.space.now c.loop-operator.left c.loop-operator.space = λ f u e. c.loop-operator.invariant (weight c.args.line.now c.args.ahead) c.args.space.now f u
+    (climbing_begins c.args.line.now c.args.tables.now c.args.level c.args.used.0
     c.args.ahead f u c.requires.0 e c.operand-left.ensures) in
-    climbing_ends (formula_left f u e) c.turn_of.ensures c.in-Ends.is
-
-pub formula-shape_of-space-in-Refused : goal.formula-shape_of-space-in-Refused
-formula-shape_of-space-in-Refused t c =
-    let formula_left : (f : Formula) (u : Scanned) → formula_in c.args.line.now c.args.level c.args.ahead ≡ good f u → Climbing c.args.line.now c.args.names.now c.args.words.now c.args.labels.now c.args.lengths.now c.args.level c.args.used.0 (weight c.args.line.now c.args.ahead) f u c.args.space.now c.loop-left.left c.loop-left.space = λ f u e. c.loop-left.invariant (weight c.args.line.now c.args.ahead) c.args.space.now f u
-    (climbing_begins c.args.line.now c.args.names.now c.args.words.now c.args.labels.now c.args.lengths.now c.args.level c.args.used.0
-    c.args.ahead f u c.requires.0 e c.operand-left.ensures) in
-    let formula_here : Climbing c.args.line.now c.args.names.now c.args.words.now c.args.labels.now c.args.lengths.now c.args.level c.args.used.0 (weight c.args.line.now c.args.ahead) c.requires.1.1.of c.requires.1.1.next c.args.space.now c.loop-left.left c.loop-left.space = formula_left c.requires.1.1.of c.requires.1.1.next c.requires.1.1.is in
-    (formula_here).done.framed.long
-
-pub formula-returns-in-Refused : goal.formula-returns-in-Refused
-formula-returns-in-Refused t c f u e =
-    let formula_left : (f : Formula) (u : Scanned) → formula_in c.args.line.now c.args.level c.args.ahead ≡ good f u → Climbing c.args.line.now c.args.names.now c.args.words.now c.args.labels.now c.args.lengths.now c.args.level c.args.used.0 (weight c.args.line.now c.args.ahead) f u c.args.space.now c.loop-left.left c.loop-left.space = λ f u e. c.loop-left.invariant (weight c.args.line.now c.args.ahead) c.args.space.now f u
-    (climbing_begins c.args.line.now c.args.names.now c.args.words.now c.args.labels.now c.args.lengths.now c.args.level c.args.used.0
-    c.args.ahead f u c.requires.0 e c.operand-left.ensures) in
-    climbing_refused (formula_left f u e) c.turn_of.ensures c.in-Refused.is
+    let p = err_from_is_err_and c.from_residual.result c.from_residual.ensures.1 in
+    rw (p.1, p.2) (climbing_refused (formula_left f u e) c.turn_of.ensures c.in_err-operator.was)
 
 pub formula-overflow_add-used : goal.formula-overflow_add-used
 formula-overflow_add-used t c =
-    let formula_left : (f : Formula) (u : Scanned) → formula_in c.args.line.now c.args.level c.args.ahead ≡ good f u → Climbing c.args.line.now c.args.names.now c.args.words.now c.args.labels.now c.args.lengths.now c.args.level c.args.used.0 (weight c.args.line.now c.args.ahead) f u c.args.space.now c.loop-left.left c.loop-left.space = λ f u e. c.loop-left.invariant (weight c.args.line.now c.args.ahead) c.args.space.now f u
-    (climbing_begins c.args.line.now c.args.names.now c.args.words.now c.args.labels.now c.args.lengths.now c.args.level c.args.used.0
+    let formula_left : (f : Formula) (u : Scanned) → formula_in c.args.line.now c.args.level c.args.ahead ≡ good f u → Climbing c.args.line.now c.args.tables.now c.args.level c.args.used.0 (weight c.args.line.now c.args.ahead) f u c.args.space.now c.loop-operator.left c.loop-operator.space = λ f u e. c.loop-operator.invariant (weight c.args.line.now c.args.ahead) c.args.space.now f u
+    (climbing_begins c.args.line.now c.args.tables.now c.args.level c.args.used.0
     c.args.ahead f u c.requires.0 e c.operand-left.ensures) in
-    let formula_here : Climbing c.args.line.now c.args.names.now c.args.words.now c.args.labels.now c.args.lengths.now c.args.level c.args.used.0 (weight c.args.line.now c.args.ahead) c.requires.1.1.of c.requires.1.1.next c.args.space.now c.loop-left.left c.loop-left.space = formula_left c.requires.1.1.of c.requires.1.1.next c.requires.1.1.is in
-    let r = right_ready (formula_here) c.turn_of.ensures c.in-Goes.is c.token_at-first.ensures
+    let formula_here : Climbing c.args.line.now c.args.tables.now c.args.level c.args.used.0 (weight c.args.line.now c.args.ahead) c.requires.1.1.of c.requires.1.1.next c.args.space.now c.loop-operator.left c.loop-operator.space = formula_left c.requires.1.1.of c.requires.1.1.next c.requires.1.1.is in
+    let r = right_ready (formula_here) c.turn_of.ensures (c.in_ok-operator.was ∙ ap Ok c.in-Some.is) c.token_at-first.ensures
     c.right_level.ensures c.text_length.ensures in
     omega (arith, r.within, r.small)
 
 pub formula-formula-right-requires : goal.formula-formula-right-requires
 formula-formula-right-requires t c =
-    let formula_left : (f : Formula) (u : Scanned) → formula_in c.args.line.now c.args.level c.args.ahead ≡ good f u → Climbing c.args.line.now c.args.names.now c.args.words.now c.args.labels.now c.args.lengths.now c.args.level c.args.used.0 (weight c.args.line.now c.args.ahead) f u c.args.space.now c.loop-left.left c.loop-left.space = λ f u e. c.loop-left.invariant (weight c.args.line.now c.args.ahead) c.args.space.now f u
-    (climbing_begins c.args.line.now c.args.names.now c.args.words.now c.args.labels.now c.args.lengths.now c.args.level c.args.used.0
+    let formula_left : (f : Formula) (u : Scanned) → formula_in c.args.line.now c.args.level c.args.ahead ≡ good f u → Climbing c.args.line.now c.args.tables.now c.args.level c.args.used.0 (weight c.args.line.now c.args.ahead) f u c.args.space.now c.loop-operator.left c.loop-operator.space = λ f u e. c.loop-operator.invariant (weight c.args.line.now c.args.ahead) c.args.space.now f u
+    (climbing_begins c.args.line.now c.args.tables.now c.args.level c.args.used.0
     c.args.ahead f u c.requires.0 e c.operand-left.ensures) in
-    let formula_here : Climbing c.args.line.now c.args.names.now c.args.words.now c.args.labels.now c.args.lengths.now c.args.level c.args.used.0 (weight c.args.line.now c.args.ahead) c.requires.1.1.of c.requires.1.1.next c.args.space.now c.loop-left.left c.loop-left.space = formula_left c.requires.1.1.of c.requires.1.1.next c.requires.1.1.is in
+    let formula_here : Climbing c.args.line.now c.args.tables.now c.args.level c.args.used.0 (weight c.args.line.now c.args.ahead) c.requires.1.1.of c.requires.1.1.next c.args.space.now c.loop-operator.left c.loop-operator.space = formula_left c.requires.1.1.of c.requires.1.1.next c.requires.1.1.is in
     let here = formula_here in
-    (omega (arith, right_lighter here c.turn_of.ensures c.in-Goes.is c.token_at-first.ensures, c.decreases), right_asks here c.turn_of.ensures c.in-Goes.is c.token_at-first.ensures c.right_level.ensures c.text_length.ensures c.args.room c.requires.1.1.shallow)
+    (omega (arith, right_lighter here c.turn_of.ensures (c.in_ok-operator.was ∙ ap Ok c.in-Some.is) c.token_at-first.ensures, c.decreases), right_asks here c.turn_of.ensures (c.in_ok-operator.was ∙ ap Ok c.in-Some.is) c.token_at-first.ensures c.right_level.ensures c.text_length.ensures c.args.room c.requires.1.1.shallow)
 
 pub formula-joined-left-requires : goal.formula-joined-left-requires
 formula-joined-left-requires t c =
-    let formula_left : (f : Formula) (u : Scanned) → formula_in c.args.line.now c.args.level c.args.ahead ≡ good f u → Climbing c.args.line.now c.args.names.now c.args.words.now c.args.labels.now c.args.lengths.now c.args.level c.args.used.0 (weight c.args.line.now c.args.ahead) f u c.args.space.now c.loop-left.left c.loop-left.space = λ f u e. c.loop-left.invariant (weight c.args.line.now c.args.ahead) c.args.space.now f u
-    (climbing_begins c.args.line.now c.args.names.now c.args.words.now c.args.labels.now c.args.lengths.now c.args.level c.args.used.0
+    let formula_left : (f : Formula) (u : Scanned) → formula_in c.args.line.now c.args.level c.args.ahead ≡ good f u → Climbing c.args.line.now c.args.tables.now c.args.level c.args.used.0 (weight c.args.line.now c.args.ahead) f u c.args.space.now c.loop-operator.left c.loop-operator.space = λ f u e. c.loop-operator.invariant (weight c.args.line.now c.args.ahead) c.args.space.now f u
+    (climbing_begins c.args.line.now c.args.tables.now c.args.level c.args.used.0
     c.args.ahead f u c.requires.0 e c.operand-left.ensures) in
-    let formula_here : Climbing c.args.line.now c.args.names.now c.args.words.now c.args.labels.now c.args.lengths.now c.args.level c.args.used.0 (weight c.args.line.now c.args.ahead) c.requires.1.1.of c.requires.1.1.next c.args.space.now c.loop-left.left c.loop-left.space = formula_left c.requires.1.1.of c.requires.1.1.next c.requires.1.1.is in
-    right_fits (formula_here) c.turn_of.ensures c.in-Goes.is c.token_at-first.ensures
+    let formula_here : Climbing c.args.line.now c.args.tables.now c.args.level c.args.used.0 (weight c.args.line.now c.args.ahead) c.requires.1.1.of c.requires.1.1.next c.args.space.now c.loop-operator.left c.loop-operator.space = formula_left c.requires.1.1.of c.requires.1.1.next c.requires.1.1.is in
+    right_fits (formula_here) c.turn_of.ensures (c.in_ok-operator.was ∙ ap Ok c.in-Some.is) c.token_at-first.ensures
     c.right_level.ensures c.text_length.ensures c.formula-right.result c.formula-right.ensures
 
-pub formula-loop-left-smaller : goal.formula-loop-left-smaller
-formula-loop-left-smaller t c =
-    let formula_left : (f : Formula) (u : Scanned) → formula_in c.args.line.now c.args.level c.args.ahead ≡ good f u → Climbing c.args.line.now c.args.names.now c.args.words.now c.args.labels.now c.args.lengths.now c.args.level c.args.used.0 (weight c.args.line.now c.args.ahead) f u c.args.space.now c.loop-left.left c.loop-left.space = λ f u e. c.loop-left.invariant (weight c.args.line.now c.args.ahead) c.args.space.now f u
-    (climbing_begins c.args.line.now c.args.names.now c.args.words.now c.args.labels.now c.args.lengths.now c.args.level c.args.used.0
+pub formula-loop-operator-smaller : goal.formula-loop-operator-smaller
+formula-loop-operator-smaller t c =
+    let formula_left : (f : Formula) (u : Scanned) → formula_in c.args.line.now c.args.level c.args.ahead ≡ good f u → Climbing c.args.line.now c.args.tables.now c.args.level c.args.used.0 (weight c.args.line.now c.args.ahead) f u c.args.space.now c.loop-operator.left c.loop-operator.space = λ f u e. c.loop-operator.invariant (weight c.args.line.now c.args.ahead) c.args.space.now f u
+    (climbing_begins c.args.line.now c.args.tables.now c.args.level c.args.used.0
     c.args.ahead f u c.requires.0 e c.operand-left.ensures) in
-    let formula_here : Climbing c.args.line.now c.args.names.now c.args.words.now c.args.labels.now c.args.lengths.now c.args.level c.args.used.0 (weight c.args.line.now c.args.ahead) c.requires.1.1.of c.requires.1.1.next c.args.space.now c.loop-left.left c.loop-left.space = formula_left c.requires.1.1.of c.requires.1.1.next c.requires.1.1.is in
-    climbing_lightens (formula_here) c.turn_of.ensures c.in-Goes.is c.token_at-first.ensures
+    let formula_here : Climbing c.args.line.now c.args.tables.now c.args.level c.args.used.0 (weight c.args.line.now c.args.ahead) c.requires.1.1.of c.requires.1.1.next c.args.space.now c.loop-operator.left c.loop-operator.space = formula_left c.requires.1.1.of c.requires.1.1.next c.requires.1.1.is in
+    climbing_lightens (formula_here) c.turn_of.ensures (c.in_ok-operator.was ∙ ap Ok c.in-Some.is) c.token_at-first.ensures
     c.right_level.ensures c.text_length.ensures c.formula-right.result c.formula-right.ensures
     c.joined-left.result c.joined-left.ensures
 
-pub formula-loop-left-preserved : goal.formula-loop-left-preserved
-formula-loop-left-preserved t c w before f u l = climbing_goes (c.loop-left.invariant w before f u l) c.turn_of.ensures c.in-Goes.is c.token_at-first.ensures
+pub formula-loop-operator-preserved : goal.formula-loop-operator-preserved
+formula-loop-operator-preserved t c w before f u l = climbing_goes (c.loop-operator.invariant w before f u l) c.turn_of.ensures (c.in_ok-operator.was ∙ ap Ok c.in-Some.is) c.token_at-first.ensures
     c.right_level.ensures c.text_length.ensures c.formula-right.result c.formula-right.ensures
     c.joined-left.result c.joined-left.ensures
 

@@ -21,7 +21,7 @@ returns-in-Whole c vars l = let n = telling_of (name_bytes c.args.line.now c.arg
 
 pub returns-in-Text : goal.returns-in-Text
 returns-in-Text c vars l = let n = telling_of (name_bytes c.args.line.now c.args.name) in
-    let e : bytes_at c.slot_of-in-Text.result c.args.lengths.now c.args.space.now ≡ bytes_of vars.strings n =
+    let e : bytes_at c.slot_of-in-Text.result c.args.tables.now.strings.lengths c.args.space.now ≡ bytes_of vars.strings n =
     rw c.slot_of-in-Text.ensures
     (looked_bytes l n) in
     rw c.in-Text.is (rw e at c.copied.ensures)

@@ -9,6 +9,3 @@ abbrev pub invariant-loop-place : goal.invariant-loop-place
 invariant-loop-place l = (1 ≤ l.place) × (l.place ≤ l.first + 1)
     × (place_of l.start (First l.space l.front l.first l.second) (Second l.space l.front l.first l.second)
     ≡ found l.place (drop (l.place - 1) (First l.space l.front l.first l.second)) (Second l.space l.front l.first l.second))
-
-abbrev pub decreases-loop-place : goal.decreases-loop-place
-decreases-loop-place l = l.first + 1 - l.place

@@ -1,14 +1,16 @@
--- The loop keeps that the bytes passed are the same, so that the rest decides.
-use mathlib.Core.Path.{sym, ◌∙◌}
+-- The parts are the same exactly when the one begins with the other.
+use mathlib.Core.Path.{◌≡◌, ◌∙◌}
+use Prim.Native.Nat.{◌+◌, ◌-◌}
 use native.Mathlib.Omega.{arith}
-use Rattle.functions.proofs.Finding.{stands_next, stands_not, stands_all}
+use lib.ListN.{take, drop}
+use Rattle.variables.proofs.Bytewise.{part_length}
+use Rattle.functions.proofs.Finding.{starts_same}
 use Rattle.functions.proofs.calling.stands_at.Goals as goal
 
-pub returns-then-space-here : goal.returns-then-space-here
-returns-then-space-here c = sym (c.loop-i.invariant.1 ∙ stands_not c.args.space.now c.args.x.0 c.args.y.0 c.args.len c.loop-i.i c.requires.0 c.requires.1 c.loop-i-test.true c.if-space-here.true)
-
-pub loop-i-preserved : goal.loop-i-preserved
-loop-i-preserved c = (omega arith, c.loop-i.invariant.1 ∙ stands_next c.args.space.now c.args.x.0 c.args.y.0 c.args.len c.loop-i.i c.requires.0 c.requires.1 c.loop-i-test.true c.if-space-here.false)
-
 pub returns : goal.returns
-returns c = sym (c.loop-i.invariant.1 ∙ stands_all c.args.space.now c.args.x.0 c.args.y.0 c.args.len c.loop-i.i c.requires.0 c.requires.1 c.loop-i-test.false)
+returns c =
+    let s = c.args.space.now in
+    let n : c.args.x.0 + c.args.len - c.args.x.0 ≡ c.args.len = omega arith in
+    let m : c.args.y.0 + c.args.len - c.args.y.0 ≡ c.args.len = omega arith in
+    rw (n, m) at c.eq.ensures
+    ∙ starts_same (take c.args.len (drop c.args.y.0 s)) (drop c.args.x.0 s) c.args.len (part_length s c.args.y.0 c.args.len c.requires.1)

@@ -16,30 +16,18 @@ loop-i-init c = refl
 pub word_at-requires : goal.word_at-requires
 word_at-requires c = (c.requires.1, omega (arith, c.loop-i-test.true, c.requires.0))
 
-pub offset_bounds-index-i : goal.offset_bounds-index-i
-offset_bounds-index-i c = omega arith
-
-pub bounds-index-i : goal.bounds-index-i
-bounds-index-i c = omega arith
-
-pub returns-then-word_at-index : goal.returns-then-word_at-index
-returns-then-word_at-index c =
+pub returns-then-word_at-word : goal.returns-then-word_at-word
+returns-then-word_at-word c =
     let inside : c.loop-i.i < length c.args.index.now = c.loop-i-test.true in
     let long : length (laid_out c.args.table.now c.args.count c.args.pairs.now) ≡ length c.args.index.now = laid_long c.args.table.now c.args.pairs.now c.args.count c.requires.1 c.requires.2 ∙ sym c.requires.0 in
-    let differ : c.word_at.result ≢ get_or c.args.index.now c.loop-i.i 0 = omega (arith, c.if-word_at-index.true) in
+    let differ : c.word_at.result ≢ get_or c.args.index.now c.loop-i.i 0 = omega (arith, c.if-word_at-word.true) in
     sym (same_differ _ _ _ (omega (arith, inside, long)) (inside) (λ q. differ (c.word_at.ensures ∙ q))) ∙ c.loop-i.invariant
-
-pub overflow_add-i : goal.overflow_add-i
-overflow_add-i c = omega arith
-
-pub loop-i-smaller : goal.loop-i-smaller
-loop-i-smaller c = omega arith
 
 pub loop-i-preserved : goal.loop-i-preserved
 loop-i-preserved c =
     let inside : c.loop-i.i < length c.args.index.now = c.loop-i-test.true in
     let long : length (laid_out c.args.table.now c.args.count c.args.pairs.now) ≡ length c.args.index.now = laid_long c.args.table.now c.args.pairs.now c.args.count c.requires.1 c.requires.2 ∙ sym c.requires.0 in
-    let same : c.word_at.result ≡ get_or c.args.index.now c.loop-i.i 0 = omega (arith, c.if-word_at-index.false) in
+    let same : c.word_at.result ≡ get_or c.args.index.now c.loop-i.i 0 = omega (arith, c.if-word_at-word.false) in
     sym (same_next _ _ _ (omega (arith, inside, long)) (inside) (sym c.word_at.ensures ∙ same)) ∙ c.loop-i.invariant
 
 pub returns : goal.returns

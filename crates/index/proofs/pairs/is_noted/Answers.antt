@@ -19,12 +19,6 @@ bounds-pairs-i c = omega arith
 pub returns-then-pairs-i : goal.returns-then-pairs-i
 returns-then-pairs-i c = named_here _ _ _ _ c.loop-i-test.true c.if-pairs-i.true ∙ c.loop-i.invariant
 
-pub overflow_add-i : goal.overflow_add-i
-overflow_add-i c = omega arith
-
-pub loop-i-smaller : goal.loop-i-smaller
-loop-i-smaller c = omega arith
-
 pub loop-i-preserved : goal.loop-i-preserved
 loop-i-preserved c = named_later _ _ _ _ c.loop-i-test.true c.if-pairs-i.false ∙ c.loop-i.invariant
 

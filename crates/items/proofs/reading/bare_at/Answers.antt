@@ -9,13 +9,13 @@ use Rattle.scanner.specs.declared.runs.Run.TheVariants as run
 use Rattle.items.specs.Items.{cut, bare_item}
 use Rattle.items.proofs.reading.bare_at.Goals as goal
 
-pub returns-then-line-first : goal.returns-then-line-first
+pub returns-then-line-at : goal.returns-then-line-at
 unfolding leading cut bare_item
-returns-then-line-first c = rw (drop_of_length-le _ c.if-line-first.true, add-zero) c.ended.ensures
+returns-then-line-at c = rw (drop_of_length-le _ c.if-line-at.true, add-zero) c.ended.ensures
 
 pub slice_bounds-cut_length-end : goal.slice_bounds-cut_length-end
-slice_bounds-cut_length-end c = omega (arith, run_within (passes run.Item) _ _ c.run_end-after.ensures (omega arith))
+slice_bounds-cut_length-end c = omega (arith, run_within (passes run.Item) _ _ c.run_end-end.ensures (omega arith))
 
 pub returns : goal.returns
 unfolding bare_item
-returns c = rw (← c.run_end-after.ensures, ← (run_part (passes run.Item) _ _ c.run_end-after.ensures), ← c.cut_length-len.ensures) c.ended-2.ensures
+returns c = rw (← c.run_end-end.ensures, ← (run_part (passes run.Item) _ _ c.run_end-end.ensures), ← c.cut_length-len.ensures) c.ended-2.ensures

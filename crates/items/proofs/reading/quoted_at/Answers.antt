@@ -12,9 +12,9 @@ use Rattle.items.proofs.reading.quoted_at.Goals as goal
 
 pub returns-then-line-close : goal.returns-then-line-close
 unfolding quoted_item
-returns-then-line-close c = rw (← c.run_end-text.ensures, le-ltb c.run_end-text.result.0 (length c.args.line.now) c.if-line-close.true)
+returns-then-line-close c = rw (← c.run_end-close.ensures, le-ltb c.run_end-close.result.0 (length c.args.line.now) c.if-line-close.true)
 
 pub returns : goal.returns
 unfolding quoted_item
-returns c = let n : c.run_end-text.result.0 - (c.args.at.0 + 1) ≡ length (leading (passes Unquoted) (drop (c.args.at.0 + 1) c.args.line.now)) = omega (arith, c.run_end-text.ensures) in
-    rw (← c.run_end-text.ensures, lt-ltb c.run_end-text.result.0 (length c.args.line.now) c.if-line-close.false, ← c.run_end-end.ensures, ← n) c.ended.ensures
+returns c = let n : c.run_end-close.result.0 - (c.args.at.0 + 1) ≡ length (leading (passes Unquoted) (drop (c.args.at.0 + 1) c.args.line.now)) = omega (arith, c.run_end-close.ensures) in
+    rw (← c.run_end-close.ensures, lt-ltb c.run_end-close.result.0 (length c.args.line.now) c.if-line-close.false, ← c.run_end-end.ensures, ← n) c.ended.ensures

@@ -1,12 +1,12 @@
 -- The loop keeps that the search from the line reached on finds the same.
+use Rattle.std.specs.Prelude.{Some}
 use mathlib.Core.Path.{sym, ap, ◌∙◌}
 use native.Mathlib.Omega.{arith}
-use borrow.Author.Tests.{eq-eqb, ne_eqb}
 use Rattle.loader.specs.Lines.{first_of, has, from_number}
-use Rattle.loader.specs.declared.lines.LineFound.TheVariants as line
 use Rattle.loader.proofs.Extents.{lines_out, walked}
 use Rattle.loader.proofs.Found.{digits_end, found_here, from_hit, from_miss}
 use Rattle.loader.proofs.lines.find_line.Goals as goal
+use Rattle.loader.proofs.lines.find_line.Goals.{in-Some+else-eq, in_default}
 
 pub slice_bounds-number_of-count : goal.slice_bounds-number_of-count
 slice_bounds-number_of-count c = (walked _ _ c.loop-at-test.true c.extent_at-extent.ensures).low
@@ -19,29 +19,27 @@ slice_bounds-number_of-end c = let w = walked _ _ c.loop-at-test.true c.extent_a
 
 pub spanned-requires : goal.spanned-requires
 spanned-requires c = let w = walked _ _ c.loop-at-test.true c.extent_at-extent.ensures in
-    digits_end _ _ w (sym c.number_of.ensures ∙ c.in-Is.is)
+    digits_end _ _ w (sym c.number_of.ensures ∙ c.in-Some.is)
 
-pub returns-then-here-wanted : goal.returns-then-here-wanted
-returns-then-here-wanted c = let w = walked _ _ c.loop-at-test.true c.extent_at-extent.ensures in
-    let q = sym c.number_of.ensures ∙ c.in-Is.is in
-    let h = from_hit _ w.lines (ap (has _) q ∙ eq-eqb _ _ c.if-here-wanted.true) in
-    ap line.Is c.spanned.ensures ∙ sym (found_here _ _ w q) ∙ sym (ap first_of h) ∙ c.loop-at.invariant
-
-pub loop-at-smaller-else-here-wanted : goal.loop-at-smaller-else-here-wanted
-loop-at-smaller-else-here-wanted c = let w = walked _ _ c.loop-at-test.true c.extent_at-extent.ensures in omega arith
-
-pub loop-at-preserved-else-here-wanted : goal.loop-at-preserved-else-here-wanted
-loop-at-preserved-else-here-wanted c = let w = walked _ _ c.loop-at-test.true c.extent_at-extent.ensures in
-    let q = sym c.number_of.ensures ∙ c.in-Is.is in
-    sym (ap first_of (from_miss _ w.lines (ap (has _) q ∙ ne_eqb _ _ c.if-here-wanted.false))) ∙ c.loop-at.invariant
+pub returns-then-eq : goal.returns-then-eq
+returns-then-eq c = let w = walked _ _ c.loop-at-test.true c.extent_at-extent.ensures in
+    let q = sym c.number_of.ensures ∙ c.in-Some.is in
+    let h = from_hit _ w.lines (ap (has _) q ∙ sym c.eq.ensures ∙ c.if-eq.true) in
+    ap Some c.spanned.ensures ∙ sym (found_here _ _ w q) ∙ sym (ap first_of h) ∙ c.loop-at.invariant
 
 pub loop-at-smaller : goal.loop-at-smaller
 loop-at-smaller c = let w = walked _ _ c.loop-at-test.true c.extent_at-extent.ensures in omega arith
 
 pub loop-at-preserved : goal.loop-at-preserved
 loop-at-preserved c = let w = walked _ _ c.loop-at-test.true c.extent_at-extent.ensures in
-    let q = sym c.number_of.ensures ∙ c.in_default.is in
-    sym (ap first_of (from_miss _ w.lines (ap (has _) q))) ∙ c.loop-at.invariant
+    elim c.match-number_of.branch [
+      | in-Some+else-eq v ↦
+          let q = sym c.number_of.ensures ∙ v.in-Some.is in
+          sym (ap first_of (from_miss _ w.lines (ap (has _) q ∙ sym v.eq.ensures ∙ v.if-eq.false))) ∙ c.loop-at.invariant
+      | in_default v ↦
+          let q = sym c.number_of.ensures ∙ v.in_default.is in
+          sym (ap first_of (from_miss _ w.lines (ap (has _) q))) ∙ c.loop-at.invariant
+    ]
 
 pub returns : goal.returns
 unfolding from_number

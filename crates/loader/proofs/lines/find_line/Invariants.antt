@@ -6,7 +6,7 @@ use Rattle.loader.proofs.Extents.{lines_at}
 use Rattle.loader.proofs.lines.find_line.Given as goal
 
 abbrev pub invariant-loop-at : goal.invariant-loop-at
-invariant-loop-at l = first_of (from_number l.wanted (lines_at l.text l.at)) ≡ first_of (from_number l.wanted (lines_of l.text))
+invariant-loop-at l = first_of (from_number l.number.0 (lines_at l.text l.at.0)) ≡ first_of (from_number l.number.0 (lines_of l.text))
 
 abbrev pub decreases-loop-at : goal.decreases-loop-at
-decreases-loop-at l = length l.text - l.at
+decreases-loop-at l = length l.text - l.at.0

@@ -27,23 +27,27 @@ slice_bounds-judge-end c = let w = walked _ _ c.loop-at-test.true c.extent_at-ex
 
 pub overflow_add-place : goal.overflow_add-place
 overflow_add-place c = let w = walked _ _ c.loop-at-test.true c.extent_at-extent.ensures in
-    let s = (passed c.args.text.now c.loop-at.at c.extent_at-extent.result).bytes in
-    let k = judged_bad _ _ s (sym c.judge.ensures ∙ c.in-Bad.is) in omega (arith, walked_size _ _ w)
+    let s = (passed c.args.text.now c.loop-at.at.0 c.extent_at-extent.result).bytes in
+    let k = judged_bad _ _ s (sym c.judge.ensures ∙ c.in-Err.is) in omega (arith, walked_size _ _ w)
 
-pub returns-in-Bad : goal.returns-in-Bad
-returns-in-Bad c = let w = walked _ _ c.loop-at-test.true c.extent_at-extent.ensures in
-    sym (load_bad _ _ w.lines (sym c.judge.ensures ∙ c.in-Bad.is)) ∙ c.loop-at.invariant
+pub returns-in-Err : goal.returns-in-Err
+returns-in-Err c = let w = walked _ _ c.loop-at-test.true c.extent_at-extent.ensures in
+    sym (load_bad _ _ w.lines (sym c.judge.ensures ∙ c.in-Err.is)) ∙ c.loop-at.invariant
 
 pub overflow_add-before : goal.overflow_add-before
-overflow_add-before c = let s = (passed c.args.text.now c.loop-at.at c.extent_at-extent.result).bytes in
-    let a = judged_good _ _ s (sym c.judge.ensures ∙ c.in-Good.is) in omega (arith, a.few)
+overflow_add-before c = let s = (passed c.args.text.now c.loop-at.at.0 c.extent_at-extent.result).bytes in
+    let a = judged_good _ _ s (sym c.judge.ensures ∙ c.in-Ok.is) in omega (arith, a.few)
+
+pub overflow_add-floor : goal.overflow_add-floor
+overflow_add-floor c = let s = (passed c.args.text.now c.loop-at.at.0 c.extent_at-extent.result).bytes in
+    let a = judged_good _ _ s (sym c.judge.ensures ∙ c.in-Ok.is) in omega (arith, a.value, a.sound.small)
 
 pub loop-at-smaller : goal.loop-at-smaller
 loop-at-smaller c = let w = walked _ _ c.loop-at-test.true c.extent_at-extent.ensures in omega arith
 
 pub loop-at-preserved : goal.loop-at-preserved
 loop-at-preserved c = let w = walked _ _ c.loop-at-test.true c.extent_at-extent.ensures in
-    sym (load_good _ _ w.lines (sym c.judge.ensures ∙ c.in-Good.is)) ∙ c.loop-at.invariant
+    sym (load_good _ _ w.lines (sym c.judge.ensures ∙ c.in-Ok.is)) ∙ c.loop-at.invariant
 
 pub returns : goal.returns
 unfolding load_lines

@@ -1,15 +1,14 @@
 -- By the two tests.
-use mathlib.Core.Path.{sym, ◌∙◌}
+use mathlib.Core.Path.{◌≡◌, sym, ◌∙◌}
+use mathlib.Core.Bool.{false}
+use Rattle.words.specs.declared.symbols.Token.TheVariants.{Keyword}
+use Rattle.grammar.specs.Tests.{is_keyword}
+use Rattle.grammar.proofs.Endings.{same_word}
 use Rattle.order.proofs.partners.marked.Goals as goal
 
-pub returns-then-is_keyword : goal.returns-then-is_keyword
-returns-then-is_keyword c = rw (c.in-By.is, sym c.is_keyword.ensures ∙ c.if-is_keyword.true)
-
-pub returns-then-is_keyword-2 : goal.returns-then-is_keyword-2
-returns-then-is_keyword-2 c = rw (c.in-By.is, sym c.is_keyword.ensures ∙ c.if-is_keyword.false, sym c.is_keyword-in-By.ensures ∙ c.if-is_keyword-2.true)
-
-pub returns-in-Nothing : goal.returns-in-Nothing
-returns-in-Nothing c = rw c.in-Nothing.is
-
-pub returns-else-is_keyword-2 : goal.returns-else-is_keyword-2
-returns-else-is_keyword-2 c = rw (c.in-By.is, sym c.is_keyword.ensures ∙ c.if-is_keyword.false, sym c.is_keyword-in-By.ensures ∙ c.if-is_keyword-2.false)
+pub returns : goal.returns
+returns c =
+    let word = c.in-Some.lead.word in
+    let opens : is_keyword c.args.opens (Keyword word) ≡ false = sym (same_word word c.args.opens) ∙ sym c.eq.ensures ∙ c.if-eq.false in
+    let closes : is_keyword c.args.closes (Keyword word) ≡ false = sym (same_word word c.args.closes) ∙ sym c.eq-2.ensures ∙ c.if-eq-2.false in
+    rw (c.in-Some.is, opens, closes)

@@ -1,51 +1,55 @@
 -- The loop's invariant: from the statement reached on the walk comes to what the whole part comes to; and few IFs wait.
-use mathlib.Core.Path.{◌≡◌, sym, ◌∙◌}
-use mathlib.Core.List.{List}
-use Prim.Native.Nat.{ℕ}
+use Rattle.std.specs.Prelude.{None}
+use mathlib.Core.Path.{refl, sym, ◌∙◌}
 use native.Mathlib.Omega.{arith}
 use Rattle.words.specs.Places.{place}
 use Rattle.skimming.proofs.Weights.{token_weight}
-use Rattle.statements.proofs.Parts.{weight_at}
-use Rattle.reader.specs.Lines.{else_of}
-use Rattle.reader.specs.bridge.Walking.{walk_on}
-use Rattle.reader.specs.declared.walking.Onward.{Onward}
-use Rattle.reader.proofs.Judging.{else_by, else_starts, else_steps}
-use Rattle.reader.proofs.Walks.{Fewer, fewer}
+use Rattle.reader.proofs.Judging.{else_starts, else_steps}
+use Rattle.reader.proofs.Walks.{fewer}
 use Rattle.reader.proofs.branches.else_of.Goals as goal
 
-pub loop-next-init : goal.loop-next-init
-loop-next-init c = (omega (arith, token_weight c.args.line.now (place c.args.part.0)), else_starts c.args.line.now c.args.part)
+pub loop-read-init : goal.loop-read-init
+loop-read-init c = (omega (arith, token_weight c.args.line.now (place c.args.part.0)), else_starts c.args.line.now c.args.part)
 
 pub walk_on-requires : goal.walk_on-requires
 walk_on-requires c = omega arith
 
-pub loop-next-smaller : goal.loop-next-smaller
-loop-next-smaller c =
-    let line : List ℕ = c.args.line.now in
-    let less : (o : Onward) → c.walk_on.result ≡ o → Fewer line c.loop-next.walk.waiting (weight_at line c.loop-next.walk.at.0) o = λ o e. fewer line c.loop-next.walk.first c.loop-next.walk.waiting c.loop-next.walk.at.0 c.statement_at-read.ensures (sym e ∙ c.walk_on.ensures) in
-    let l = less _ c.in-Statement.is in omega (arith, l.0)
+pub loop-read-smaller : goal.loop-read-smaller
+loop-read-smaller c =
+    let w = c.loop-read.walk in
+    let e = sym c.in_ok-read.was ∙ c.statement_at.ensures in
+    let l = rw (c.in_ok-next.was, c.in-Statement.is) at (fewer c.args.line.now w.first w.waiting w.at.0 e c.walk_on.ensures) in
+    omega (arith, l.0)
 
-pub loop-next-preserved : goal.loop-next-preserved
-loop-next-preserved c =
-    let line : List ℕ = c.args.line.now in
-    let less : (o : Onward) → c.walk_on.result ≡ o → Fewer line c.loop-next.walk.waiting (weight_at line c.loop-next.walk.at.0) o = λ o e. fewer line c.loop-next.walk.first c.loop-next.walk.waiting c.loop-next.walk.at.0 c.statement_at-read.ensures (sym e ∙ c.walk_on.ensures) in
-    let walked : (o : Onward) → c.walk_on.result ≡ o → else_by (walk_on line o) ≡ else_of line c.args.part = λ o e. else_steps line c.loop-next.walk.first c.loop-next.walk.waiting c.loop-next.walk.at.0 c.statement_at-read.ensures (sym e ∙ c.walk_on.ensures) c.loop-next.invariant.1 in
-    let l = less _ c.in-Statement.is in (omega (arith, l.1), walked _ c.in-Statement.is)
+pub loop-read-preserved : goal.loop-read-preserved
+loop-read-preserved c =
+    let w = c.loop-read.walk in
+    let e = sym c.in_ok-read.was ∙ c.statement_at.ensures in
+    let l = rw (c.in_ok-next.was, c.in-Statement.is) at (fewer c.args.line.now w.first w.waiting w.at.0 e c.walk_on.ensures) in
+    let walked = rw (c.in_ok-next.was, c.in-Statement.is) at (else_steps c.args.line.now w.first w.waiting w.at.0 e c.walk_on.ensures c.loop-read.invariant.1) in
+    (omega (arith, l.1), walked)
+
+pub returns-in_err-read : goal.returns-in_err-read
+returns-in_err-read c =
+    let w = c.loop-read.walk in
+    let e = sym c.in_err-read.was ∙ c.statement_at.ensures in
+    c.from_residual.ensures ∙ else_steps c.args.line.now w.first w.waiting w.at.0 {o = None} e refl c.loop-read.invariant.1
+
+pub returns-in_err-next : goal.returns-in_err-next
+returns-in_err-next c =
+    let w = c.loop-read.walk in
+    let e = sym c.in_ok-read.was ∙ c.statement_at.ensures in
+    c.from_residual-in_err-next.ensures
+    ∙ (rw c.in_err-next.was at (else_steps c.args.line.now w.first w.waiting w.at.0 e c.walk_on.ensures c.loop-read.invariant.1))
 
 pub returns-in-Else : goal.returns-in-Else
 returns-in-Else c =
-    let line : List ℕ = c.args.line.now in
-    let walked : (o : Onward) → c.walk_on.result ≡ o → else_by (walk_on line o) ≡ else_of line c.args.part = λ o e. else_steps line c.loop-next.walk.first c.loop-next.walk.waiting c.loop-next.walk.at.0 c.statement_at-read.ensures (sym e ∙ c.walk_on.ensures) c.loop-next.invariant.1 in
-    walked _ c.in-Else.is
+    let w = c.loop-read.walk in
+    let e = sym c.in_ok-read.was ∙ c.statement_at.ensures in
+    rw (c.in_ok-next.was, c.in-Else.is) at (else_steps c.args.line.now w.first w.waiting w.at.0 e c.walk_on.ensures c.loop-read.invariant.1)
 
 pub returns-in-End : goal.returns-in-End
 returns-in-End c =
-    let line : List ℕ = c.args.line.now in
-    let walked : (o : Onward) → c.walk_on.result ≡ o → else_by (walk_on line o) ≡ else_of line c.args.part = λ o e. else_steps line c.loop-next.walk.first c.loop-next.walk.waiting c.loop-next.walk.at.0 c.statement_at-read.ensures (sym e ∙ c.walk_on.ensures) c.loop-next.invariant.1 in
-    walked _ c.in-End.is
-
-pub returns-in-Nothing : goal.returns-in-Nothing
-returns-in-Nothing c =
-    let line : List ℕ = c.args.line.now in
-    let walked : (o : Onward) → c.walk_on.result ≡ o → else_by (walk_on line o) ≡ else_of line c.args.part = λ o e. else_steps line c.loop-next.walk.first c.loop-next.walk.waiting c.loop-next.walk.at.0 c.statement_at-read.ensures (sym e ∙ c.walk_on.ensures) c.loop-next.invariant.1 in
-    walked _ c.in-Nothing.is
+    let w = c.loop-read.walk in
+    let e = sym c.in_ok-read.was ∙ c.statement_at.ensures in
+    rw (c.in_ok-next.was, c.in-End.is) at (else_steps c.args.line.now w.first w.waiting w.at.0 e c.walk_on.ensures c.loop-read.invariant.1)

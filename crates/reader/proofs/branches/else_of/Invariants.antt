@@ -7,9 +7,9 @@ use Rattle.reader.specs.bridge.Walking.{walk_from}
 use Rattle.reader.proofs.Judging.{else_by}
 use Rattle.reader.proofs.branches.else_of.Given as goal
 
-abbrev pub invariant-loop-next : goal.invariant-loop-next
-invariant-loop-next l = (4 * l.walk.waiting + weight_at l.line l.walk.at.0 ≤ 4 * length l.line + 4)
+abbrev pub invariant-loop-read : goal.invariant-loop-read
+invariant-loop-read l = (4 * l.walk.waiting + weight_at l.line l.walk.at.0 ≤ 4 * length l.line + 4)
     × (else_by (walk_from l.line l.walk.first l.walk.waiting l.walk.at.0) ≡ else_of l.line l.initial.walk.at)
 
-abbrev pub decreases-loop-next : goal.decreases-loop-next
-decreases-loop-next l = weight_at l.line l.walk.at.0
+abbrev pub decreases-loop-read : goal.decreases-loop-read
+decreases-loop-read l = weight_at l.line l.walk.at.0

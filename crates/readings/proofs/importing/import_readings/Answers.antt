@@ -1,10 +1,10 @@
 -- The answers in the order of the tests (`short`, `done`, `no_room`).
+use Rattle.std.specs.Prelude.{Ok}
 use mathlib.Core.Path.{sym, ap, ◌∙◌}
 use mathlib.Core.List.{List, ◌++◌}
 use Prim.Native.Nat.{ℕ}
 use lib.Dec.{leb}
 use lib.ListN.{length, drop}
-use Rattle.readings.specs.declared.importing.Imported.TheVariants.{Done}
 use Rattle.readings.proofs.Groups.{lines_of_groups_lem, short, done, no_room}
 use Rattle.readings.proofs.importing.import_readings.Goals as goal
 
@@ -22,7 +22,7 @@ returns-then-lines_fit-clause-out_after c = let lines = lines_of_groups_lem c.ar
 pub returns-then-lines_fit-clause-value : goal.returns-then-lines_fit-clause-value
 returns-then-lines_fit-clause-value c = let lines = lines_of_groups_lem c.args.file.now in
     let d = done c.args.file.now c.args.out.now c.if-short-ne0.false
-    (ap (λ l. leb (length l) (length c.args.out.now)) (sym lines) ∙ sym c.lines_fit.ensures ∙ c.if-lines_fit.true) in ap Done (c.write_lines-written.ensures.value ∙ ap length lines) ∙ d.0
+    (ap (λ l. leb (length l) (length c.args.out.now)) (sym lines) ∙ sym c.lines_fit.ensures ∙ c.if-lines_fit.true) in ap Ok (c.write_lines-written.ensures.value ∙ ap length lines) ∙ d.0
 
 pub returns-clause-out_after : goal.returns-clause-out_after
 returns-clause-out_after c = (no_room c.args.file.now c.args.out.now c.if-short-ne0.false

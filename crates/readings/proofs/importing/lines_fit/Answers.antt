@@ -6,16 +6,24 @@ use lib.Arith.{lt→nleb}
 use lib.Ieee.Bits.{is_false}
 use lib.ListN.{length}
 use Rattle.readings.specs.bridge.Groups.{lines_of_groups}
-use Rattle.readings.proofs.Groups.{lines_none, length_next, room_for_next}
+use Rattle.readings.proofs.Groups.{group_line, lines_none, length_next, room_for_next}
 use Rattle.readings.proofs.importing.lines_fit.Goals as goal
 
-pub loop-index-init : goal.loop-index-init
-loop-index-init c = (omega arith, omega (arith, ap length (lines_none c.args.file.now)))
+pub loop-group-init : goal.loop-group-init
+loop-group-init c = omega (arith, ap length (lines_none c.args.file.now))
 
 pub returns-then-left-len : goal.returns-then-left-len
-returns-then-left-len c = let less : c.args.room < length (lines_of_groups c.args.file.now)
-    = omega (arith, room_for_next c.args.file.now c.loop-index.index (length c.args.file.now / 4) c.loop-index-test.true, c.line_at-line.ensures.1, c.if-left-len.true, c.loop-index.invariant.1) in
-    sym (is_false _ (lt→nleb (length (lines_of_groups c.args.file.now)) c.args.room less))
+returns-then-left-len c =
+    let file = c.args.file.now in
+    let inside : c.loop-group.group-index < length file / 4 = omega (arith, c.loop-group-test.true, c.as_chunks.ensures.front_len) in
+    let line = rw (group_line file c.loop-group.group-index c.as_chunks.ensures.front inside) at c.line_for-len.ensures in
+    let less : c.args.room < length (lines_of_groups file)
+    = omega (arith, room_for_next file c.loop-group.group-index (length file / 4) inside, line.1, c.if-left-len.true, c.loop-group.invariant) in
+    sym (is_false _ (lt→nleb (length (lines_of_groups file)) c.args.room less))
 
-pub loop-index-preserved : goal.loop-index-preserved
-loop-index-preserved c = (omega arith, omega (arith, length_next c.args.file.now c.loop-index.index, c.line_at-line.ensures.1, c.if-left-len.false, c.loop-index.invariant.1))
+pub loop-group-preserved : goal.loop-group-preserved
+loop-group-preserved c =
+    let file = c.args.file.now in
+    let inside : c.loop-group.group-index < length file / 4 = omega (arith, c.loop-group-test.true, c.as_chunks.ensures.front_len) in
+    let line = rw (group_line file c.loop-group.group-index c.as_chunks.ensures.front inside) at c.line_for-len.ensures in
+    omega (arith, length_next file c.loop-group.group-index, line.1, c.if-left-len.false, c.loop-group.invariant)

@@ -1,20 +1,24 @@
 -- The room holds the lines so far, and behind them what it held; each line is copied in after them (`line_written`).
 use mathlib.Core.Path.{refl, sym, ap}
 use mathlib.Core.List.{List, ◌++◌}
-use Prim.Native.Nat.{ℕ, ◌+◌, ◌/◌, ◌≤◌}
+use Prim.Native.Nat.{ℕ, ◌+◌, ◌/◌, ◌≤◌, ◌<◌}
 use native.Mathlib.Omega.{arith}
 use lib.ListN.{length, drop}
-use Rattle.readings.proofs.Groups.{lines_none, room_for_next, line_written}
+use Rattle.readings.proofs.Groups.{group_line, lines_none, room_for_next, line_written}
 use Rattle.readings.proofs.importing.write_lines.Goals as goal
 
-pub loop-index-init : goal.loop-index-init
-loop-index-init c = let none = sym (lines_none c.args.file.now) in
-    (omega arith, ap length none, ap (λ (l : List ℕ). l ++ drop 0 c.args.out.now) none, refl)
+pub loop-group-init : goal.loop-group-init
+loop-group-init c = let none = sym (lines_none c.args.file.now) in
+    (ap length none, ap (λ (l : List ℕ). l ++ drop 0 c.args.out.now) none, refl)
 
-pub loop-index-preserved : goal.loop-index-preserved
-loop-index-preserved c = let within : c.loop-index.at + c.line_at-line.result.len ≤ length c.args.out.now
-    = omega (arith, room_for_next c.args.file.now c.loop-index.index (length c.args.file.now / 4) c.loop-index-test.true, c.line_at-line.ensures.1, c.loop-index.invariant.1, c.requires) in
-    let w = line_written c.args.file.now c.args.out.now c.loop-index.out c.line_at-line.result.bytes c.copy_in.new.space c.loop-index.index
-    c.loop-index.at c.line_at-line.result.len
-    c.loop-index.invariant.1 c.loop-index.invariant.2 c.loop-index.invariant.3 c.line_at-line.ensures.0 c.line_at-line.ensures.1 within c.copy_in.ensures in
-    (omega arith, w.0, w.1, w.2)
+pub loop-group-preserved : goal.loop-group-preserved
+loop-group-preserved c =
+    let file = c.args.file.now in
+    let k = c.loop-group.group-index in
+    let inside : k < length file / 4 = omega (arith, c.loop-group-test.true, c.as_chunks.ensures.front_len) in
+    let line = rw (group_line file k c.as_chunks.ensures.front inside) at c.line_for-line.ensures in
+    let within : c.loop-group.at + c.line_for-line.result.len ≤ length c.args.out.now
+    = omega (arith, room_for_next file k (length file / 4) inside, line.1, c.loop-group.invariant.0, c.requires) in
+    line_written file c.args.out.now c.loop-group.out c.line_for-line.result.bytes c.copy_in.new.space k
+    c.loop-group.at c.line_for-line.result.len
+    c.loop-group.invariant.0 c.loop-group.invariant.1 c.loop-group.invariant.2 line.0 line.1 within c.copy_in.ensures

@@ -13,7 +13,7 @@ use Rattle.readings.proofs.lines.line_of.Goals as goal
 pub returns-in-Single : goal.returns-in-Single
 unfolding bytes
 returns-in-Single c = let t = single_line c.in-Single.value c.with_digits-bytes.result
-    (c.with_digits-bytes.ensures ∙ ap (λ b. overlaid (bytes "single\t........\n........") 7 (hex_digits 8 b)) c.wide.ensures) in
+    (c.with_digits-bytes.ensures ∙ ap (λ b. overlaid (bytes "single\t........\n........") 7 (hex_digits 8 b)) c.from.ensures) in
     (t.0 ∙ ap line_of (sym c.in-Single.is), t.1 ∙ ap (λ (x : Reading). length (line_of x)) (sym c.in-Single.is), omega arith, search rules)
 
 pub returns-in-Double : goal.returns-in-Double

@@ -1,16 +1,23 @@
 -- What is found by its number is the line that the text has with it.
+use mathlib.Core.Path.{◌≡◌, ap, ◌∙◌}
 use native.Mathlib.Omega.{arith}
-use mathlib.Core.Path.{ap, ◌∙◌}
-use Rattle.loader.specs.declared.lines.LineFound.TheVariants.{Is}
+use Rattle.std.specs.Prelude.{None, Some}
 use Rattle.rows.proofs.Searching.{found_number}
 use Rattle.rows.proofs.finding.line_numbered.Goals as goal
 
 pub span_in-requires : goal.span_in-requires
-span_in-requires c = let f = rw c.in-At.is at c.row_with.ensures in omega (arith, f.0, c.requires.few)
+span_in-requires c =
+    let q : c.row_with.result ≡ Some c.in_ok-row.row = c.in_ok-row.was in
+    let f = rw q at c.row_with.ensures in omega (arith, f.0, c.requires.few)
 
-pub returns-in-None : goal.returns-in-None
-returns-in-None c = λ text t. rw c.in-None.is at (found_number t c.args.number c.row_with.result c.row_with.ensures)
+pub returns-in_err-row : goal.returns-in_err-row
+returns-in_err-row c = λ text t.
+    let q : c.row_with.result ≡ None = c.in_err-row.was in
+    let f = rw c.from.ensures at c.row_with.ensures in
+    c.from_residual.ensures ∙ rw q at (found_number t c.args.number c.row_with.result f)
 
-pub returns-in-At : goal.returns-in-At
-returns-in-At c = λ text t. ap Is c.span_in.ensures
-    ∙ rw c.in-At.is at (found_number t c.args.number c.row_with.result c.row_with.ensures)
+pub returns : goal.returns
+returns c = λ text t.
+    let q : c.row_with.result ≡ Some c.in_ok-row.row = c.in_ok-row.was in
+    let f = rw c.from.ensures at c.row_with.ensures in
+    ap Some c.span_in.ensures ∙ rw q at (found_number t c.args.number c.row_with.result f)

@@ -1,37 +1,23 @@
--- The loop keeps that what is sought stands in none of the rows below the lower end, and in none from the upper end on.
-use native.Mathlib.Omega.{arith}
-use Rattle.rows.proofs.Searching.{narrow_all, narrow_up, narrow_down, narrow_out}
+-- A binary search by the number in the column (`searched`), which is what the closure gives of a row.
+use mathlib.Core.List.{List}
+use Prim.Native.Nat.{ℕ, ◌<◌}
+use lib.ListN.{get_or}
+use Rattle.std.proofs.Common.{rules}
+use Rattle.std.proofs.lemmas.Fn.{always_returns_same}
+use Rattle.rows.specs.bridge.Rows.{count_of}
+use Rattle.rows.proofs.Searching.{searched}
 use Rattle.rows.proofs.finding.row_with.Goals as goal
 
-pub loop-low-init : goal.loop-low-init
-loop-low-init c = narrow_all c.count_of-high.ensures
+pub returns-in-Ok : goal.returns-in-Ok
+returns-in-Ok c =
+    let facts = c.binary_search_by_key.ensures in
+    let by_key = facts.position (λ (row : List ℕ). get_or row c.args.column 0) (always_returns_same _ _ _ (λ a r g called. search rules)) in
+    let cells = λ (i : ℕ) (h : i < count_of c.args.rows.now). c.table_of.ensures.cells i c.args.column h c.requires.0 in
+    rw c.in-Ok.is at (searched c.args.rows.now c.table_of.result.now c.args.column c.args.wanted c.table_of.ensures.counts cells c.requires.1.1 c.binary_search_by_key.result facts.bound by_key)
 
-pub overflow_sub-middle : goal.overflow_sub-middle
-overflow_sub-middle c = omega arith
-
-pub overflow_add-middle : goal.overflow_add-middle
-overflow_add-middle c = omega arith
-
-pub cell_in-here-requires : goal.cell_in-here-requires
-cell_in-here-requires c = (omega (arith, c.loop-low.invariant.inside, c.requires.1.0), c.requires.0)
-
-pub returns-then-here-wanted : goal.returns-then-here-wanted
-returns-then-here-wanted c = (omega (arith, c.loop-low.invariant.inside), omega (arith, c.cell_in-here.ensures, c.if-here-wanted.true))
-
-pub overflow_add-low : goal.overflow_add-low
-overflow_add-low c = omega arith
-
-pub loop-low-smaller-then-here-wanted-2 : goal.loop-low-smaller-then-here-wanted-2
-loop-low-smaller-then-here-wanted-2 c = omega arith
-
-pub loop-low-preserved-then-here-wanted-2 : goal.loop-low-preserved-then-here-wanted-2
-loop-low-preserved-then-here-wanted-2 c = narrow_up c.requires.1.1 c.loop-low.invariant _ (omega arith) (omega (arith, c.cell_in-here.ensures, c.if-here-wanted-2.true))
-
-pub loop-low-smaller : goal.loop-low-smaller
-loop-low-smaller c = omega arith
-
-pub loop-low-preserved : goal.loop-low-preserved
-loop-low-preserved c = narrow_down c.requires.1.1 c.loop-low.invariant _ (omega arith) (omega (arith, c.cell_in-here.ensures, c.if-here-wanted-2.false, c.if-here-wanted.false))
-
-pub returns : goal.returns
-returns c = narrow_out c.loop-low.invariant c.loop-low-test.false
+pub returns-in-Err : goal.returns-in-Err
+returns-in-Err c =
+    let facts = c.binary_search_by_key.ensures in
+    let by_key = facts.position (λ (row : List ℕ). get_or row c.args.column 0) (always_returns_same _ _ _ (λ a r g called. search rules)) in
+    let cells = λ (i : ℕ) (h : i < count_of c.args.rows.now). c.table_of.ensures.cells i c.args.column h c.requires.0 in
+    rw c.in-Err.is at (searched c.args.rows.now c.table_of.result.now c.args.column c.args.wanted c.table_of.ensures.counts cells c.requires.1.1 c.binary_search_by_key.result facts.bound by_key)

@@ -24,4 +24,4 @@ following-standing-requires c = let h = stands_here c.requires.0 c.in-At.is in (
 
 pub returns : goal.returns
 returns c = acts_at c.in-At.is
-    (acts_made (stands_here c.requires.0 c.in-At.is) (c.requires.1.0.asks _ _ c.in-At.is) c.requires.1.1 _ _ _ _ (rw c.span_in-span.ensures at c.do_statement-turned.ensures) c.following-standing.ensures)
+    (acts_made (stands_here c.requires.0 c.in-At.is) (c.requires.1.0.asks _ _ c.in-At.is) c.requires.1.1 _ (rw c.span_in-span.ensures at c.do_statement-turned.ensures) c.following-standing.ensures)

@@ -1,9 +1,9 @@
 -- Blank tables, and those of the lines, are what the run by them asks for.
-use Rattle.runner.proofs.Walking.{fine_loads, fine_loadable}
+use Rattle.std.proofs.Common.{refl}
 use Rattle.runner.proofs.lending.run_fine.Goals as goal
 
-pub fill_rows-requires : goal.fill_rows-requires
-fill_rows-requires c = fine_loads _ _ _ c.requires
+pub rows_by-requires : goal.rows_by-requires
+rows_by-requires c = (c.requires.loads, refl)
 
 pub run_loaded-requires : goal.run_loaded-requires
-run_loaded-requires c = fine_loadable _ _ _ _ _ _ _ _ c.requires c.fill_rows.ensures c.blank_tables.ensures
+run_loaded-requires c = record { tabled = c.rows_by.ensures; blank = c.empty.ensures; small = c.requires.small; few = c.requires.few }

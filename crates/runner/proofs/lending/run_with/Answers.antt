@@ -8,4 +8,4 @@ pub returns : goal.returns
 returns c =
     let a = c.args in let r = c.run in
     with_made a.text.now a.input.now a.space.now a.room.now a.records a.budget a.tables _ r.result r.new.space r.new.room _
-    (length-take-le _ _ (search rules) ∙ c.at_most-most.ensures) r.ensures
+    (length-take-le _ _ (search rules) ∙ c.min-most.ensures) r.ensures

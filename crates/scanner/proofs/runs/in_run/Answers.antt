@@ -1,18 +1,18 @@
 -- Each arm is a clause of `passes`; a word's bytes are letters and digits.
+use Rattle.std.specs.Prelude.{None, Option, Some}
+use Rattle.words.specs.declared.symbols.Token.{Token}
 use mathlib.Core.Path.{◌≡◌, refl}
 use mathlib.Core.Bool.{false, ◌||◌}
 use Prim.Native.Nat.{ℕ}
 use Rattle.whole.specs.Bytes.{is}
 use Rattle.whole.specs.Digits.{is_digit}
 use Rattle.words.specs.Classes.{is_letter, sign_of, of_sign, class_of}
-use Rattle.words.specs.declared.classes.SignFound.{SignFound}
-use Rattle.words.specs.declared.classes.SignFound.TheVariants.{Is, None}
 use Rattle.words.proofs.Choices.{by_test}
 use Rattle.scanner.specs.Runs.{of_word}
 use Rattle.scanner.proofs.runs.in_run.Goals as goal
 
-no_sign : (s : SignFound) → false ≡ of_word (of_sign s)
-no_sign (Is t) = refl
+no_sign : (s : Option Token) → false ≡ of_word (of_sign s)
+no_sign (Some t) = refl
 no_sign None = refl
 
 -- what is neither begins no word

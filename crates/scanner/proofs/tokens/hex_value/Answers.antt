@@ -20,19 +20,18 @@ more : (i v d : ℕ) → d < 16 → v < 16 ^ i → v * 16 + d < 16 ^ (i + 1)
 more i v d h b = rw (add-one, pow-succ' 16 i) (omega arith)
 
 pub overflow_mul-value : goal.overflow_mul-value
-overflow_mul-value c = omega (arith, room _ _ (omega arith) c.loop-i.invariant.1)
+overflow_mul-value c = omega (arith, room _ _ (omega arith) c.loop-digit.invariant.0)
 
 pub hex_digit-requires : goal.hex_digit-requires
-hex_digit-requires c = run_passes is_hex c.args.digits.now c.loop-i.i (rw c.requires.1 c.loop-i-test.true)
+hex_digit-requires c = run_passes is_hex c.args.digits.now c.loop-digit.digit-index (rw c.requires.1 c.loop-digit-test.true)
 
-pub loop-i-preserved : goal.loop-i-preserved
+pub loop-digit-preserved : goal.loop-digit-preserved
 unfolding hex_from
-loop-i-preserved c = (
-  omega arith,
-  more c.loop-i.i c.loop-i.value c.hex_digit.result c.hex_digit.ensures.1 c.loop-i.invariant.1,
-  rw c.hex_digit.ensures.0 (ap (hex_from c.loop-i.value) (sym (drop_next c.args.digits.now c.loop-i.i (omega arith))) ∙ c.loop-i.invariant.2),
+loop-digit-preserved c = (
+  more c.loop-digit.digit-index c.loop-digit.value c.hex_digit.result c.hex_digit.ensures.1 c.loop-digit.invariant.0,
+  rw c.hex_digit.ensures.0 (ap (hex_from c.loop-digit.value) (sym (drop_next c.args.digits.now c.loop-digit.digit-index (omega arith))) ∙ c.loop-digit.invariant.1),
 )
 
 pub returns : goal.returns
 unfolding hex_from
-returns c = rw (drop_of_length-le _ c.loop-i-test.false) at c.loop-i.invariant.2
+returns c = rw (drop_of_length-le _ c.loop-digit-test.false) at c.loop-digit.invariant.1

@@ -1,30 +1,34 @@
--- The tests are those of the table of pairs, the first sign's taken once.
+-- The tests are those of the table of pairs.
+use mathlib.Core.Path.{◌≡◌}
+use native.Mathlib.Omega.{arith}
 use borrow.Author.Tests.{ne_eqb}
 use Rattle.whole.specs.Bytes.{bytes}
 use Rattle.words.specs.Spellings.{same_bytes, meaning}
 use Rattle.words.specs.Classes.{pairs}
 use Rattle.scanner.proofs.tokens.pair_of.Goals as goal
 
-pub returns-in_default-second : goal.returns-in_default-second
-unfolding bytes same_bytes meaning pairs
-returns-in_default-second c = simp (c.in-60.is, ne_eqb _ _ c.in_default-second.in_default-second-own.rest.0.1, ne_eqb _ _ c.in_default-second.in_default-second-own.rest.1)
-
-pub returns-in_default-second-2 : goal.returns-in_default-second-2
-unfolding bytes same_bytes meaning pairs
-returns-in_default-second-2 c = simp (c.in-62.is, ne_eqb _ _ c.in_default-second-2.in_default-second-2-own.rest.1)
-
 pub returns-in_default : goal.returns-in_default
 unfolding bytes same_bytes meaning pairs
-returns-in_default c = simp (ne_eqb _ _ c.in_default.in_default-own.rest.0.1, ne_eqb _ _ c.in_default.in_default-own.rest.1)
+returns-in_default c = let a : c.args.second ≡ 62 → ⊥ = λ e. grind arith in let b : c.args.second ≡ 61 → ⊥ = λ e. grind arith in
+    simp (c.in_default.is-0, ne_eqb _ _ a, ne_eqb _ _ b)
 
-pub returns-in-62-second : goal.returns-in-62-second
+pub returns-in_default-2 : goal.returns-in_default-2
 unfolding bytes same_bytes meaning pairs
-returns-in-62-second c = simp (c.in-60.is, c.in-62-second.is)
+returns-in_default-2 c = let b : c.args.second ≡ 61 → ⊥ = λ e. grind arith in simp (c.in_default.is-0, ne_eqb _ _ b)
 
-pub returns-in-61 : goal.returns-in-61
+pub returns-in_default-3 : goal.returns-in_default-3
 unfolding bytes same_bytes meaning pairs
-returns-in-61 c = simp (c.in-60.is, c.in-61.is)
+returns-in_default-3 c = let a : c.args.first ≡ 60 → ⊥ = λ e. grind arith in let b : c.args.first ≡ 62 → ⊥ = λ e. grind arith in
+    simp (ne_eqb _ _ a, ne_eqb _ _ b)
 
-pub returns-in-61-second : goal.returns-in-61-second
+pub returns-in-60-eq62 : goal.returns-in-60-eq62
 unfolding bytes same_bytes meaning pairs
-returns-in-61-second c = simp (c.in-62.is, c.in-61-second.is)
+returns-in-60-eq62 c = simp (c.in-60-eq62.is-0, c.in-60-eq62.is-1)
+
+pub returns-in-60-eq61 : goal.returns-in-60-eq61
+unfolding bytes same_bytes meaning pairs
+returns-in-60-eq61 c = simp (c.in-60-eq61.is-0, c.in-60-eq61.is-1)
+
+pub returns-in-62-eq61 : goal.returns-in-62-eq61
+unfolding bytes same_bytes meaning pairs
+returns-in-62-eq61 c = simp (c.in-62-eq61.is-0, c.in-62-eq61.is-1)

@@ -1,11 +1,7 @@
 use mathlib.Core.Path.{◌≡◌}
-use Prim.Native.Nat.{◌-◌}
-use lib.ListN.{length, drop}
-use Rattle.sheet.specs.bridge.Taking.{sheet, taken}
+use lib.ListN.{drop}
+use Rattle.sheet.specs.bridge.Taking.{taken}
 use Rattle.sheet.proofs.taking.take.Given as goal
 
-abbrev pub invariant-loop-i : goal.invariant-loop-i
-invariant-loop-i l = taken (sheet l.line l.count) (drop l.i l.part) ≡ taken (sheet l.initial.line l.initial.count) l.part
-
-abbrev pub decreases-loop-i : goal.decreases-loop-i
-decreases-loop-i l = length l.part - l.i
+abbrev pub invariant-loop-byte : goal.invariant-loop-byte
+invariant-loop-byte l = taken l.longer (drop l.byte-index l.part) ≡ taken l.fn.sheet l.part

@@ -104,21 +104,21 @@ loop-ahead-preserved-then-depth-lt-ROOM t c =
     let light = rw told at (step_lightens s k.phase (top_of k.marks k.depth) k.here) in
     (length-set k.marks k.depth _ ∙ k.invariant.0, omega (arith, c.if-depth-lt-ROOM.true), omega (arith, k.invariant.2, light.0), λ os f. held_opens s (k.invariant.3 os f) _ _ told (omega (arith, k.invariant.0, c.if-depth-lt-ROOM.true)))
 
-pub skim_from-inner-requires : goal.skim_from-inner-requires
-skim_from-inner-requires t c =
+pub skim_from-requires : goal.skim_from-requires
+skim_from-requires t c =
     let s = c.args.line.now in
     let k = c.loop-ahead in
     let told = step_told s k.phase k.marks k.depth k.here c.top_of-top.ensures c.next_step.ensures c.in-Opens.is in
     let light = rw told at (step_lightens s k.phase (top_of k.marks k.depth) k.here) in
     (omega (arith, light.0, k.invariant.2, c.decreases), tt)
 
-pub returns-in-Bad : goal.returns-in-Bad
-returns-in-Bad t c =
+pub returns-in_err-here-in-Opens : goal.returns-in_err-here-in-Opens
+returns-in_err-here-in-Opens t c =
     let s = c.args.line.now in
     let k = c.loop-ahead in
     let told = step_told s k.phase k.marks k.depth k.here c.top_of-top.ensures c.next_step.ensures c.in-Opens.is in
     let light = rw told at (step_lightens s k.phase (top_of k.marks k.depth) k.here) in
-    λ os f. sym (held_inner_bad s (k.invariant.3 os f) _ _ told c.skim_from-inner.ensures c.in-Bad.is)
+    λ os f. c.from_residual.ensures ∙ sym (held_inner_bad s (k.invariant.3 os f) _ _ told c.skim_from.ensures c.in_err-here-in-Opens.was)
 
 pub loop-ahead-smaller : goal.loop-ahead-smaller
 loop-ahead-smaller t c =
@@ -126,7 +126,7 @@ loop-ahead-smaller t c =
     let k = c.loop-ahead in
     let told = step_told s k.phase k.marks k.depth k.here c.top_of-top.ensures c.next_step.ensures c.in-Opens.is in
     let light = rw told at (step_lightens s k.phase (top_of k.marks k.depth) k.here) in
-    let g = apart_light s _ _ light.1 c.skim_from-inner.ensures _ c.in-Good.is in
+    let g = apart_light s _ _ light.1 c.skim_from.ensures _ c.in_ok-here-in-Opens.was in
     omega (arith, light.0, g)
 
 pub loop-ahead-preserved : goal.loop-ahead-preserved
@@ -135,5 +135,5 @@ loop-ahead-preserved t c =
     let k = c.loop-ahead in
     let told = step_told s k.phase k.marks k.depth k.here c.top_of-top.ensures c.next_step.ensures c.in-Opens.is in
     let light = rw told at (step_lightens s k.phase (top_of k.marks k.depth) k.here) in
-    let g = apart_light s _ _ light.1 c.skim_from-inner.ensures _ c.in-Good.is in
-    (k.invariant.0, k.invariant.1, omega (arith, k.invariant.2, light.0, g), λ os f. held_inner s (k.invariant.3 os f) _ _ told c.skim_from-inner.ensures _ c.in-Good.is)
+    let g = apart_light s _ _ light.1 c.skim_from.ensures _ c.in_ok-here-in-Opens.was in
+    (k.invariant.0, k.invariant.1, omega (arith, k.invariant.2, light.0, g), λ os f. held_inner s (k.invariant.3 os f) _ _ told c.skim_from.ensures _ c.in_ok-here-in-Opens.was)

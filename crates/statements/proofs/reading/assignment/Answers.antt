@@ -1,5 +1,6 @@
 -- An equals sign and a formula must stand there.
-use mathlib.Core.Path.{◌∙◌}
+use Rattle.std.specs.Prelude.{Some}
+use mathlib.Core.Path.{ap, ◌∙◌}
 use Rattle.grammar.specs.Formulas.{formula_of}
 use Rattle.statements.specs.Statements.{variable_of}
 use Rattle.expressions.proofs.Answering.{not_read, answered_well}
@@ -10,11 +11,13 @@ use Rattle.statements.proofs.reading.assignment.Goals as goal
 pub returns-then-not-sign_stands : goal.returns-then-not-sign_stands
 returns-then-not-sign_stands c = rw (failed c.sign_stands.ensures c.if-not-sign_stands.true-raw)
 
-pub returns-in-Bad : goal.returns-in-Bad
-returns-in-Bad c = let none = not_read 9 (formula_of c.args.line.now c.token_after.result) c.formula_at.ensures c.in-Bad.is in
-    rw (passed c.sign_stands.ensures c.if-not-sign_stands.false-raw, ← c.token_after.ensures, none)
+pub returns-in_err-read : goal.returns-in_err-read
+returns-in_err-read c =
+    let none = not_read 9 (formula_of c.args.line.now c.token_after.result) c.formula_at.ensures c.in_err-read.was in
+    rw (c.from_residual.ensures, passed c.sign_stands.ensures c.if-not-sign_stands.false-raw, ← c.token_after.ensures, none)
 
-pub returns-in-Good : goal.returns-in-Good
-returns-in-Good c = let f = answered_well (formula_of c.args.line.now c.token_after.result) c.formula_at.ensures c.in-Good.is in
+pub returns : goal.returns
+returns c =
+    let f = answered_well (formula_of c.args.line.now c.token_after.result) c.formula_at.ensures c.in_ok-read.was in
     rw (passed c.sign_stands.ensures c.if-not-sign_stands.false-raw, ← c.token_after.ensures, f.is)
-    (c.formed.ensures ∙ assigned f.f c.in-Good.ahead f.sort f.deep (variable_of c.args.line.now c.args.name) c.is_of.ensures)
+    (ap Some c.formed.ensures ∙ assigned f.f c.in_ok-read.read.ahead f.sort f.deep (variable_of c.args.line.now c.args.name) c.is_of.ensures)

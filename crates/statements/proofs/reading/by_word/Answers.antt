@@ -1,4 +1,5 @@
 -- Each arm is of words that lead the same statement, and the last is the others.
+use Rattle.std.specs.Prelude.{Some}
 use mathlib.Core.Path.{◌∙◌, ap}
 use Rattle.statements.specs.bridge.Answers.{begun_answer}
 use Rattle.statements.proofs.Others.{word_jumps, word_alone, no_word}
@@ -38,7 +39,7 @@ pub returns-in-Restore : goal.returns-in-Restore
 returns-in-Restore c = rw c.in-Restore.is c.restore.ensures
 
 pub returns-in-Else : goal.returns-in-Else
-returns-in-Else c = c.plain.ensures ∙ word_alone c.args.line.now c.args.word c.args.from c.in-Else.in-Else-own.keys12
+returns-in-Else c = ap Some c.plain.ensures ∙ word_alone c.args.line.now c.args.word c.args.from c.in-Else.in-Else-own.keys12
 
 pub returns-in_default : goal.returns-in_default
 returns-in_default c = ap begun_answer (no_word c.args.line.now c.args.word c.args.from c.in_default.in_default-own.keys13)

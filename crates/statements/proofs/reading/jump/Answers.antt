@@ -1,5 +1,4 @@
 -- A line number is named, or the statement does not read.
-use mathlib.Core.Path.{refl}
 use mathlib.Core.List.{List}
 use Prim.Native.Nat.{ℕ}
 use Rattle.words.specs.declared.places.LineNumber.{LineNumber}
@@ -14,10 +13,9 @@ use Rattle.statements.proofs.reading.jump.Goals as goal
 abbrev go : List ℕ → Scanned → LineNumber → Begun
 go s t l = done (goto l) (after s t)
 
-pub returns-in-NoLine : goal.returns-in-NoLine
-returns-in-NoLine c = unnumbered c.args.ahead.token (go c.args.line.now c.args.ahead) bad c.line_of-names.ensures c.in-NoLine.is refl
+pub returns-in_err-number : goal.returns-in_err-number
+returns-in_err-number c = unnumbered c.args.ahead.token (go c.args.line.now c.args.ahead) bad c.line_of.ensures c.in_err-number.was c.from_residual.ensures
 
-pub returns-in-Names : goal.returns-in-Names
+pub returns : goal.returns
 unfolding deepest
-returns-in-Names c = numbered c.args.ahead.token (go c.args.line.now c.args.ahead) bad c.line_of-names.ensures c.in-Names.is
-    (rw (c.token_after.ensures, c.in-Names.is))
+returns c = numbered c.args.ahead.token (go c.args.line.now c.args.ahead) bad c.line_of.ensures c.in_ok-number.was (rw c.token_after.ensures)

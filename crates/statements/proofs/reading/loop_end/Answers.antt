@@ -1,5 +1,6 @@
 -- A name may follow.
-use mathlib.Core.Path.{◌∙◌}
+use Rattle.std.specs.Prelude.{Some}
+use mathlib.Core.Path.{ap, ◌∙◌}
 use mathlib.Core.List.{List}
 use Prim.Native.Nat.{ℕ}
 use Rattle.words.specs.declared.names.Name.{Name}
@@ -14,11 +15,11 @@ use Rattle.statements.proofs.reading.loop_end.Goals as goal
 abbrev go : List ℕ → Scanned → Name → Begun
 go s t v = done (next_of (variable_of s v)) (after s t)
 
-pub returns-in-Is : goal.returns-in-Is
+pub returns : goal.returns
 unfolding deepest
-returns-in-Is c = named c.args.ahead.token (go c.args.line.now c.args.ahead) (done next c.args.ahead) c.name_at.ensures c.in-Is.is
-    (c.formed.ensures ∙ rw (c.is_of.ensures, c.token_after.ensures))
+returns c = named c.args.ahead.token (go c.args.line.now c.args.ahead) (done next c.args.ahead) c.name_at.ensures c.in-Some.is
+    (ap Some c.formed.ensures ∙ rw (c.is_of.ensures, c.token_after.ensures))
 
-pub returns-in-None : goal.returns-in-None
+pub returns-in_default : goal.returns-in_default
 unfolding deepest
-returns-in-None c = unnamed c.args.ahead.token (go c.args.line.now c.args.ahead) (done next c.args.ahead) c.name_at.ensures c.in-None.is c.plain.ensures
+returns-in_default c = unnamed c.args.ahead.token (go c.args.line.now c.args.ahead) (done next c.args.ahead) c.name_at.ensures c.in_default.is (ap Some c.plain.ensures)

@@ -1,4 +1,5 @@
 -- The loop keeps that the items that are left, with the depth and the types so far, make the answer. Its measure is their weight.
+use Rattle.std.specs.Prelude.{Some}
 use mathlib.Core.Path.{◌≡◌, sym, ap, ◌∙◌}
 use mathlib.Core.Bool.{Bool, true, false, ◌&&◌}
 use mathlib.Core.List.{List}
@@ -45,40 +46,40 @@ returns-then-ends c =
     let typed : Bool = c.loop-here.typed in
     let depth : ℕ = c.loop-here.depth in
     let line : List ℕ = c.args.line.now in
-    c.formed.ensures
+    ap Some c.formed.ensures
     ∙ sym (print_ends (line) (here) (depth) (typed) c.loop-here.invariant (no_separator) (sym c.ends.ensures ∙ c.if-ends.true))
 
-pub returns-in-Bad : goal.returns-in-Bad
-returns-in-Bad c =
+pub returns-in_err-read : goal.returns-in_err-read
+returns-in_err-read c =
     let here : Scanned = c.loop-here.here in
     let goes_on : ends_statement (here).token ≡ false = sym c.ends.ensures ∙ c.if-ends.false in
     let no_separator : is_separator (here).token ≡ false = sym c.separates.ensures ∙ c.if-separates.false in
     let typed : Bool = c.loop-here.typed in
     let depth : ℕ = c.loop-here.depth in
     let line : List ℕ = c.args.line.now in
-    let none = not_read 9 (formula_of (line) (here)) c.formula_at.ensures c.in-Bad.is in
-    sym (print_bad (line) (here) (depth) (typed) c.loop-here.invariant (no_separator) (goes_on) none)
+    let none = not_read 9 (formula_of (line) (here)) c.formula_at.ensures c.in_err-read.was in
+    c.from_residual.ensures ∙ sym (print_bad (line) (here) (depth) (typed) c.loop-here.invariant (no_separator) (goes_on) none)
 
 pub returns-then-not-separates : goal.returns-then-not-separates
 returns-then-not-separates c =
     let here : Scanned = c.loop-here.here in
     let line : List ℕ = c.args.line.now in
-    let read : AnsweredWell (formula_of (line) (here)) c.in-Good.ahead c.in-Good.sort c.in-Good.deepest = answered_well (formula_of (line) (here)) c.formula_at.ensures c.in-Good.is in
+    let read : AnsweredWell (formula_of (line) (here)) c.in_ok-read.read.ahead c.in_ok-read.read.sort c.in_ok-read.read.deepest = answered_well (formula_of (line) (here)) c.formula_at.ensures c.in_ok-read.was in
     let typed : Bool = c.loop-here.typed in
-    let some : c.both-typed.result ≡ (typed && is_some (known_sort read.f)) = c.both-typed.ensures ∙ ap (λ x. typed && x) (c.is_some.ensures ∙ ap is_some read.sort) in
+    let some : (typed && c.is_some-typed.result) ≡ (typed && is_some (known_sort read.f)) = ap (λ x. typed && x) (c.is_some-typed.ensures ∙ ap is_some read.sort) in
     let depth : ℕ = c.loop-here.depth in
-    let deep : c.larger-depth.result ≡ max (depth) (capped_depth (depth_of read.f)) = c.larger-depth.ensures ∙ ap (max (depth)) read.deep in
+    let deep : c.max-depth.result ≡ max (depth) (capped_depth (depth_of read.f)) = c.max-depth.ensures ∙ ap (max (depth)) read.deep in
     let goes_on : ends_statement (here).token ≡ false = sym c.ends.ensures ∙ c.if-ends.false in
     let no_separator : is_separator (here).token ≡ false = sym c.separates.ensures ∙ c.if-separates.false in
-    let last = failed c.separates-in-Good.ensures c.if-not-separates.true-raw in
-    c.formed-then-not-separates.ensures
+    let last = failed c.separates-else-ends.ensures c.if-not-separates.true-raw in
+    ap Some c.formed-then-not-separates.ensures
     ∙ sym (print_last (line) (here) (depth) (typed) c.loop-here.invariant (no_separator) (goes_on) (read).is (deep) (some) last)
 
 pub loop-here-smaller : goal.loop-here-smaller
 loop-here-smaller c =
     let here : Scanned = c.loop-here.here in
     let line : List ℕ = c.args.line.now in
-    let read : AnsweredWell (formula_of (line) (here)) c.in-Good.ahead c.in-Good.sort c.in-Good.deepest = answered_well (formula_of (line) (here)) c.formula_at.ensures c.in-Good.is in
+    let read : AnsweredWell (formula_of (line) (here)) c.in_ok-read.read.ahead c.in_ok-read.read.sort c.in_ok-read.read.deepest = answered_well (formula_of (line) (here)) c.formula_at.ensures c.in_ok-read.was in
     let lighter = (formula_lighter (line) (here) (read).is).1 in
     omega arith
 
@@ -86,12 +87,12 @@ pub loop-here-preserved : goal.loop-here-preserved
 loop-here-preserved c =
     let here : Scanned = c.loop-here.here in
     let line : List ℕ = c.args.line.now in
-    let read : AnsweredWell (formula_of (line) (here)) c.in-Good.ahead c.in-Good.sort c.in-Good.deepest = answered_well (formula_of (line) (here)) c.formula_at.ensures c.in-Good.is in
+    let read : AnsweredWell (formula_of (line) (here)) c.in_ok-read.read.ahead c.in_ok-read.read.sort c.in_ok-read.read.deepest = answered_well (formula_of (line) (here)) c.formula_at.ensures c.in_ok-read.was in
     let typed : Bool = c.loop-here.typed in
-    let some : c.both-typed.result ≡ (typed && is_some (known_sort read.f)) = c.both-typed.ensures ∙ ap (λ x. typed && x) (c.is_some.ensures ∙ ap is_some read.sort) in
+    let some : (typed && c.is_some-typed.result) ≡ (typed && is_some (known_sort read.f)) = ap (λ x. typed && x) (c.is_some-typed.ensures ∙ ap is_some read.sort) in
     let depth : ℕ = c.loop-here.depth in
-    let deep : c.larger-depth.result ≡ max (depth) (capped_depth (depth_of read.f)) = c.larger-depth.ensures ∙ ap (max (depth)) read.deep in
+    let deep : c.max-depth.result ≡ max (depth) (capped_depth (depth_of read.f)) = c.max-depth.ensures ∙ ap (max (depth)) read.deep in
     let goes_on : ends_statement (here).token ≡ false = sym c.ends.ensures ∙ c.if-ends.false in
     let no_separator : is_separator (here).token ≡ false = sym c.separates.ensures ∙ c.if-separates.false in
-    let more = passed c.separates-in-Good.ensures c.if-not-separates.false-raw in
+    let more = passed c.separates-else-ends.ensures c.if-not-separates.false-raw in
     print_more (line) (here) (depth) (typed) c.loop-here.invariant (no_separator) (goes_on) (read).is (deep) (some) more

@@ -1,5 +1,6 @@
 -- After the second formula comes STEP and a third, or the step is 1.
-use mathlib.Core.Path.{◌∙◌}
+use Rattle.std.specs.Prelude.{Some}
+use mathlib.Core.Path.{refl, ap, ◌∙◌}
 use mathlib.Core.Bool.{Bool, ◌&&◌}
 use Prim.Native.Nat.{ℕ}
 use Rattle.grammar.specs.Trees.{Formula, Variable}
@@ -21,24 +22,21 @@ typed v from = is_number v && is_whole (known_sort from)
 
 pub returns-then-not-word_stands : goal.returns-then-not-word_stands
 returns-then-not-word_stands c = λ v from x e.
-    let to = bounded x (depth from) (typed v from) e c.in-Good.is in
+    let to = bounded x (depth from) (typed v from) e refl in
     rw (to.is, failed c.word_stands.ensures c.if-not-word_stands.true-raw)
-    (c.formed.ensures ∙ stepless v from to.f c.in-Good.ahead to.deep to.whole)
+    (ap Some c.formed.ensures ∙ stepless v from to.f c.args.limit.ahead to.deep to.whole)
 
-pub returns-in-Bad : goal.returns-in-Bad
-returns-in-Bad c = λ v from x e. rw (not_bounded x (depth from) (typed v from) e c.in-Bad.is)
+pub returns-in_err-by : goal.returns-in_err-by
+returns-in_err-by c = λ v from x e.
+    let to = bounded x (depth from) (typed v from) e refl in
+    let third = formula_of c.args.line.now (after c.args.line.now c.args.limit.ahead) in
+    let none = not_bounded third c.args.limit.deepest c.args.limit.typed c.bounded.ensures c.in_err-by.was in
+    rw (c.from_residual.ensures, to.is, passed c.word_stands.ensures c.if-not-word_stands.false-raw, none)
 
-pub returns-in-Bad-bounded : goal.returns-in-Bad-bounded
-returns-in-Bad-bounded c = λ v from x e.
-    let to = bounded x (depth from) (typed v from) e c.in-Good.is in
-    let third = formula_of c.args.line.now (after c.args.line.now c.in-Good.ahead) in
-    let none = not_bounded third c.in-Good.deepest c.in-Good.typed c.bounded.ensures c.in-Bad-bounded.is in
-    rw (to.is, passed c.word_stands.ensures c.if-not-word_stands.false-raw, none)
-
-pub returns-in-Good-bounded : goal.returns-in-Good-bounded
-returns-in-Good-bounded c = λ v from x e.
-    let to = bounded x (depth from) (typed v from) e c.in-Good.is in
-    let third = formula_of c.args.line.now (after c.args.line.now c.in-Good.ahead) in
-    let by = bounded third c.in-Good.deepest c.in-Good.typed c.bounded.ensures c.in-Good-bounded.is in
+pub returns : goal.returns
+returns c = λ v from x e.
+    let to = bounded x (depth from) (typed v from) e refl in
+    let third = formula_of c.args.line.now (after c.args.line.now c.args.limit.ahead) in
+    let by = bounded third c.args.limit.deepest c.args.limit.typed c.bounded.ensures c.in_ok-by.was in
     rw (to.is, passed c.word_stands.ensures c.if-not-word_stands.false-raw, by.is)
-    (c.formed-in-Good-bounded.ensures ∙ stepped v from to.f c.in-Good-bounded.ahead to.deep to.whole by.f by.deep by.whole)
+    (ap Some c.formed-2.ensures ∙ stepped v from to.f c.in_ok-by.by.ahead to.deep to.whole by.f by.deep by.whole)

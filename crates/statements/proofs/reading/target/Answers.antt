@@ -1,5 +1,6 @@
 -- A name must stand there.
-use mathlib.Core.Path.{refl, ◌∙◌}
+use Rattle.std.specs.Prelude.{Some}
+use mathlib.Core.Path.{ap, ◌∙◌}
 use mathlib.Core.List.{List}
 use Prim.Native.Nat.{ℕ}
 use Rattle.words.specs.declared.names.Name.{Name}
@@ -14,12 +15,12 @@ use Rattle.statements.proofs.reading.target.Goals as goal
 abbrev go : List ℕ → List ℕ → Scanned → Name → Begun
 go s text t v = done (line_input text (variable_of s v)) (after s t)
 
-pub returns-in-Is : goal.returns-in-Is
+pub returns : goal.returns
 unfolding deepest
-returns-in-Is c = λ text.
-    named c.args.ahead.token (go c.args.line.now text c.args.ahead) bad c.name_at.ensures c.in-Is.is
-    (c.formed.ensures ∙ rw (c.is_of.ensures, c.token_after.ensures))
+returns c = λ text.
+    named c.args.ahead.token (go c.args.line.now text c.args.ahead) bad c.name_at.ensures c.in_ok-name.was
+    (ap Some c.formed.ensures ∙ rw (c.is_of.ensures, c.token_after.ensures))
 
-pub returns-in-None : goal.returns-in-None
-returns-in-None c = λ text.
-    unnamed c.args.ahead.token (go c.args.line.now text c.args.ahead) bad c.name_at.ensures c.in-None.is refl
+pub returns-in_err-name : goal.returns-in_err-name
+returns-in_err-name c = λ text.
+    unnamed c.args.ahead.token (go c.args.line.now text c.args.ahead) bad c.name_at.ensures c.in_err-name.was c.from_residual.ensures

@@ -1,16 +1,16 @@
--- The loop keeps that the text holds so many of the byte.
-use mathlib.Core.Path.{◌≡◌, ap, ◌∙◌}
-use Prim.Native.Nat.{ℕ, ◌+◌, ◌<◌}
-use native.Mathlib.Omega.{arith}
-use lib.ListN.{replicate, length-replicate, replicate-append-replicate}
-use Rattle.whole.specs.Texts.{held, with_byte, longest_string}
-use Rattle.whole.proofs.Numerals.{held_put}
+-- The buffer's first bytes are filled, and the others stay zeros.
+use Rattle.std.proofs.Common.{◌≡◌, List, ◌++◌, ℕ, ◌≤◌, sym, length, take, drop, replicate}
+use Rattle.std.proofs.Math.Seq.{length-take-le}
+use Rattle.std.proofs.lemmas.List.{length-replicate, drop-replicate}
+use Rattle.whole.specs.Texts.{held, longest_string}
 use Rattle.strings.proofs.making.repeated.Goals as goal
 
--- one more
-more : (i b : ℕ) → i < longest_string → with_byte (held (replicate i b)) b ≡ held (replicate (i + 1) b)
-more i b h = let l = length-replicate i b in
-    held_put (replicate i b) b (omega arith) ∙ ap held (replicate-append-replicate i 1 b)
+filled : (n b : ℕ) (front : List ℕ) → n ≤ longest_string → front ≡ replicate (length {A = ℕ} (take n (replicate longest_string 0))) b
+    → held (replicate n b) ≡ record { bytes = front ++ drop n (replicate longest_string 0); len = n }
+unfolding held
+filled n b front h e =
+    let l : length {A = ℕ} (take n (replicate longest_string 0)) ≡ n = length-take-le n (replicate longest_string 0) h in
+    rw (e, l, length-replicate n b, drop-replicate {X = ℕ} n longest_string 0)
 
-pub loop-i-preserved : goal.loop-i-preserved
-loop-i-preserved c = (omega arith, rw (c.put-text.ensures, c.loop-i.invariant.1) (more c.loop-i.i c.args.byte (omega arith)))
+pub returns : goal.returns
+returns c = sym (filled c.args.count c.args.byte _ c.requires (c.fill.ensures.after (λ y e. e)))

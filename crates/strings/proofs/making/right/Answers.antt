@@ -9,5 +9,5 @@ returns-then-not-in_range c ahead = right_refused c.args.space.now c.args.used.0
 
 pub returns : goal.returns
 returns c ahead = right_made c.args.space.now c.args.used.0 c.args.given c.requires ahead c.second_word-n.ensures
-    (c.first_length-len.result - c.least-kept.result)
-    (told_yes c.in_range.ensures c.if-not-in_range.false-raw) (rw (c.least-kept.ensures, c.first_length-len.ensures)) (c.part.ensures ahead)
+    (c.first_length-len.result - c.min-kept.result)
+    (told_yes c.in_range.ensures c.if-not-in_range.false-raw) (rw (c.min-kept.ensures, c.first_length-len.ensures)) (c.part.ensures ahead)

@@ -1,15 +1,11 @@
 use mathlib.Core.Path.{◌≡◌}
-use Prim.Native.Nat.{◌-◌, ◌*◌, ◌≤◌}
+use Prim.Native.Nat.{◌-◌, ◌*◌}
 use lib.ListN.{drop}
 use Rattle.words.specs.Names.{name_width, name_bytes, telling_of}
 use Rattle.variables.specs.Tables.{names_in, names_from, slot_from}
 use Rattle.variables.specs.Variables.{most_variables}
 use Rattle.variables.proofs.tables.slot_of.Given as goal
 
-abbrev pub invariant-loop-i : goal.invariant-loop-i
-invariant-loop-i l = (l.i ≤ most_variables)
-    × (slot_from 0 (names_in l.names) (telling_of (name_bytes l.line l.name))
-    ≡ slot_from l.i (names_from (most_variables - l.i) (drop (name_width * l.i) l.names)) (telling_of (name_bytes l.line l.name)))
-
-abbrev pub decreases-loop-i : goal.decreases-loop-i
-decreases-loop-i l = most_variables - l.i
+abbrev pub invariant-loop-slot : goal.invariant-loop-slot
+invariant-loop-slot l = slot_from 0 (names_in l.names) (telling_of (name_bytes l.line l.name))
+    ≡ slot_from l.slot (names_from (most_variables - l.slot) (drop (name_width * l.slot) l.names)) (telling_of (name_bytes l.line l.name))

@@ -1,12 +1,13 @@
--- Rests on: the number of a low word is the word, and that of a high one is below zero.
-use mathlib.Core.Path.{sym}
-use lib.IntN.{pos}
-use Rattle.whole.proofs.Numbers.{num_low, num_high, fit_in}
+-- Rests on: the number of a word fits 16 bits, so that what is left without its sign fits 32.
+use Prim.Native.Nat.{◌<◌}
+use native.Mathlib.Omega.{arith}
+use lib.Signed.{mag}
+use Rattle.whole.specs.Whole.{num}
+use Rattle.whole.proofs.Numbers.{num_small}
+use Rattle.whole.proofs.Sizes.{back_is, mag_neg}
 use Rattle.whole.proofs.arithmetic.absolute.Goals as goal
 
-pub returns-then-word-lt32768 : goal.returns-then-word-lt32768
-returns-then-word-lt32768 c = rw (num_low _ c.if-word-lt32768.true) (sym (fit_in (pos _) c.if-word-lt32768.true))
-
-pub returns-else-word-lt32768 : goal.returns-else-word-lt32768
-returns-else-word-lt32768 c = let e = num_high _ c.if-word-lt32768.false c.ranges.word.fits in
-    rw e (rw e at c.negative.ensures)
+pub abs-requires : goal.abs-requires
+abs-requires c =
+    let small : mag (num c.args.word) < 32768 = num_small c.args.word c.ranges.word.fits in
+    rw (c.number.ensures, back_is (num c.args.word) (omega arith)) (record { sfits = omega (arith, mag_neg (num c.args.word)) })

@@ -1,21 +1,13 @@
--- Rests on: the number of a low word is the word, and that of a high one is below zero.
-use mathlib.Core.Path.{◌≡◌, refl}
-use Prim.Native.Nat.{ℕ, zero, suc}
-use lib.IntN.{pos}
+-- Rests on: the 16 bits read as signed are the word's number, and the sign's bits are the sign's word.
+use mathlib.Core.Path.{◌≡◌, ◌∙◌}
 use Rattle.whole.specs.Whole.{num, sign_of}
-use Rattle.whole.proofs.Numbers.{num_low, num_high}
+use Rattle.whole.proofs.Numbers.{num_small}
+use Rattle.whole.proofs.Sizes.{signed_back, signed_num, signed_word, sign_back, sign_same}
 use Rattle.whole.proofs.arithmetic.sign.Goals as goal
 
-positive : (n : ℕ) → (n ≡ 0 → ⊥) → sign_of (pos n) ≡ pos 1
-positive zero h = absurd (h refl)
-positive (suc n) h = refl
-
-pub returns-then-word-eq0 : goal.returns-then-word-eq0
-unfolding num
-returns-then-word-eq0 c = rw c.if-word-eq0.true
-
-pub returns-then-word-lt32768 : goal.returns-then-word-lt32768
-returns-then-word-lt32768 c = rw (num_low _ c.if-word-lt32768.true, positive _ c.if-word-eq0.false)
-
-pub returns-else-word-lt32768 : goal.returns-else-word-lt32768
-returns-else-word-lt32768 c = rw (num_high _ c.if-word-lt32768.false c.ranges.word.fits)
+pub returns : goal.returns
+returns c =
+    let z = num c.args.word in
+    let told : c.cast_signed.result ≡ z = c.cast_signed.ensures ∙ signed_num c.args.word c.ranges.word.fits in
+    let same : c.signum.result ≡ sign_of z = rw (told, signed_back z (num_small c.args.word c.ranges.word.fits), sign_same z) at c.signum.ensures.value in
+    rw (c.cast_unsigned.ensures, same, signed_back (sign_of z) (sign_back z), signed_word (sign_of z) (sign_back z))

@@ -1,17 +1,17 @@
--- Rests on: the part from the place on has what is left of the bytes, and its digits are all of it where they are as many.
-use Prim.Native.Nat.{◌-◌}
-use native.Mathlib.Omega.{arith}
-use borrow.Author.Tests.{lt-ltb, le-ltb}
-use lib.ListN.{length, length-drop}
-use Rattle.whole.specs.Digits.{digits_of, digits_only}
-use Rattle.whole.proofs.Reading.{part_from}
+-- Rests on: bytes are digits only where there are some, and each is one.
+use mathlib.Core.Path.{sym, ◌∙◌}
+use borrow.Author.Rules.{rules}
+use borrow.Author.Tests.{tests}
+use Rattle.std.proofs.lemmas.Iterator.{YieldsList-from_slice}
+use Rattle.std.proofs.lemmas.Iterator.Search.{all_from_yields_List}
+use Rattle.whole.specs.Digits.{is_digit}
+use Rattle.whole.proofs.Reading.{digits_all, digits_none}
 use Rattle.whole.proofs.digits.digits_only.Goals as goal
 
-pub returns-then-start-bytes : goal.returns-then-start-bytes
-unfolding digits_only
-returns-then-start-bytes c = rw (length-drop, le-ltb 0 (length c.args.bytes.now - c.args.start) (omega (arith, c.if-start-bytes.true)))
+pub returns-then-not-is_empty : goal.returns-then-not-is_empty
+returns-then-not-is_empty c =
+    all_from_yields_List is_digit _ _ _ c.all.ensures.ran (YieldsList-from_slice c.args.bytes.now cc) (λ x b q k. search (rules, tests))
+    ∙ sym (digits_all c.args.bytes.now c.if-not-is_empty.ensures)
 
-pub returns : goal.returns
-unfolding digits_of digits_only
-returns c = let some = lt-ltb 0 (length c.args.bytes.now - c.args.start) (omega (arith, c.if-start-bytes.false)) in
-    rw (c.leading_digits-digits.ensures, part_from, length-drop, some)
+pub returns-else-not-is_empty : goal.returns-else-not-is_empty
+returns-else-not-is_empty c = rw c.if-not-is_empty.false (sym (digits_none c.args.bytes.now c.if-not-is_empty.ensures))

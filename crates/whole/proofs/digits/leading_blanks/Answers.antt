@@ -1,14 +1,17 @@
--- Rests on: the bytes passed are blanks (`Passed`), and where the next is none, or there is none, they are all.
-use borrow.Author.Tests.{eq-eqb, ne_eqb}
+-- Rests on: the blanks at the front are those that `take_while` yields.
+use mathlib.Core.Path.{sym, ap, ◌∙◌}
+use borrow.Author.Rules.{rules}
+use borrow.Author.Tests.{tests}
+use lib.ListN.{length}
+use Rattle.std.proofs.lemmas.Iterator.{YieldsList-from_slice}
+use Rattle.std.proofs.lemmas.Iterator.Consumers.{count_from_yields_List}
+use Rattle.std.proofs.lemmas.Iterator.Search.{YieldsList-from_take_while}
 use Rattle.whole.specs.Bytes.{is}
-use Rattle.whole.proofs.Reading.{passed_more, ended_inside, ended_last, counted}
+use Rattle.whole.proofs.Reading.{leading_while}
 use Rattle.whole.proofs.digits.leading_blanks.Goals as goal
 
-pub returns-then-bytes-count-ne32 : goal.returns-then-bytes-count-ne32
-returns-then-bytes-count-ne32 c = counted (is " ") _ _ (ended_inside (is " ") _ _ c.loop-count-test.true (ne_eqb _ _ c.if-bytes-count-ne32.true) c.loop-count.invariant) c.loop-count.invariant
-
-pub loop-count-preserved : goal.loop-count-preserved
-loop-count-preserved c = passed_more (is " ") _ _ c.loop-count-test.true (eq-eqb _ _ c.if-bytes-count-ne32.false) c.loop-count.invariant
-
 pub returns : goal.returns
-returns c = counted (is " ") _ _ (ended_last (is " ") _ _ c.loop-count-test.false c.loop-count.invariant) c.loop-count.invariant
+returns c =
+    count_from_yields_List c.take_while.result _ c.count.ensures.ran
+    (YieldsList-from_take_while _ (is " ") (YieldsList-from_slice c.args.bytes.now cc) c.take_while.ensures.closure c.take_while.ensures.done (λ x b q k. search (rules, tests)))
+    ∙ sym (ap length (leading_while (is " ") c.args.bytes.now))

@@ -1,6 +1,7 @@
 -- Rests on: the bytes passed are digits (`Passed`), and the magnitude is that of their value.
-use mathlib.Core.Path.{sym, ◌∙◌}
+use mathlib.Core.Path.{◌≡◌, sym, ◌∙◌}
 use native.Mathlib.Omega.{arith}
+use lib.ListN.{length}
 use Rattle.whole.specs.Digits.{is_digit, value_from}
 use Rattle.whole.proofs.Reading.{passed_none, passed_more, ended_inside, ended_last, take_next, capped_in, value_more, digit_from, digits_read}
 use Rattle.whole.proofs.digits.leading_digits.Goals as goal
@@ -21,4 +22,5 @@ loop-count-preserved c = let digit = sym c.is_digit.ensures ∙ c.if-not-is_digi
     (passed_more is_digit _ _ c.loop-count-test.true digit c.loop-count.invariant.0, rw (take_next _ _ c.loop-count-test.true, value_more) (c.with_digit-magnitude.ensures _ c.loop-count.invariant.1))
 
 pub returns : goal.returns
-returns c = digits_read _ _ _ (ended_last is_digit _ _ c.loop-count-test.false c.loop-count.invariant.0) c.loop-count.invariant.0 c.loop-count.invariant.1
+returns c = let all : c.loop-count.count ≡ length c.args.bytes.now = omega arith in
+    rw (← all) (digits_read _ _ _ (ended_last is_digit _ _ (omega arith) c.loop-count.invariant.0) c.loop-count.invariant.0 c.loop-count.invariant.1)

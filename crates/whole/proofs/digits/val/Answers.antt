@@ -1,44 +1,31 @@
 -- Rests on: what stands first after the blanks says which digits are read, and what sign they have.
-use mathlib.Core.Path.{sym}
-use Prim.Native.Nat.{◌<◌}
-use native.Mathlib.Nat.{le_of_eq}
+use mathlib.Core.Path.{refl, sym, ◌∙◌}
 use native.Mathlib.Omega.{arith}
-use lib.Arith.{lt_of_le-ne}
-use lib.ListN.{length, drop_of_length-le}
 use Rattle.whole.specs.Bytes.{is}
-use Rattle.whole.specs.Whole.{fit}
-use Rattle.whole.specs.Digits.{signed_value}
-use Rattle.whole.proofs.Reading.{leading_inside, signed_minus, signed_plus, unsigned}
+use Rattle.whole.proofs.Reading.{leading_inside, part_from, signed_minus, signed_plus, unsigned, worth_read, val_rest}
 use Rattle.whole.proofs.digits.val.Goals as goal
+use Rattle.whole.proofs.digits.val.Goals.{in_default-via-then-rest-lt1, in_default-via-else-rest-lt1+in_default-1}
 
-pub returns-then-start-bytes : goal.returns-then-start-bytes
-unfolding signed_value fit
-returns-then-start-bytes c = rw (← c.leading_blanks-start.ensures, drop_of_length-le _ (le_of_eq (sym c.if-start-bytes.true)))
+pub slice_bounds-rest-start : goal.slice_bounds-rest-start
+slice_bounds-rest-start c = rw c.leading_blanks-start.ensures (leading_inside (is " ") c.args.bytes.now)
 
-pub bounds-bytes-start : goal.bounds-bytes-start
-bounds-bytes-start c =
-    let inside : c.leading_blanks-start.result < length c.args.bytes.now = lt_of_le-ne (rw c.leading_blanks-start.ensures (leading_inside (is " ") _)) c.if-start-bytes.false in
-    inside
+pub slice_bounds-rest-count : goal.slice_bounds-rest-count
+slice_bounds-rest-count c = rw c.leading_blanks-start.ensures (leading_inside (is " ") c.args.bytes.now)
 
-pub returns-then-first-eq45 : goal.returns-then-first-eq45
-returns-then-first-eq45 c =
-    let inside : c.leading_blanks-start.result < length c.args.bytes.now = lt_of_le-ne (rw c.leading_blanks-start.ensures (leading_inside (is " ") _)) c.if-start-bytes.false in
-    rw (← c.leading_blanks-start.ensures, signed_minus _ _ (inside) c.if-first-eq45.true)
-    (c.below_zero.ensures _ c.magnitude_from.ensures)
+pub returns-in-45 : goal.returns-in-45
+returns-in-45 c =
+    c.below_zero.ensures _ (worth_read _ c.leading_digits.ensures (part_from _ 1))
+    ∙ sym (val_rest _ _ c.leading_blanks-start.ensures ∙ signed_minus _ c.in-45.len_at_least (omega arith))
 
-pub returns-then-first-eq43 : goal.returns-then-first-eq43
-returns-then-first-eq43 c =
-    let inside : c.leading_blanks-start.result < length c.args.bytes.now = lt_of_le-ne (rw c.leading_blanks-start.ensures (leading_inside (is " ") _)) c.if-start-bytes.false in
-    rw (← c.leading_blanks-start.ensures, signed_plus _ _ (inside) c.if-first-eq43.true)
-    (c.from_zero.ensures _ c.magnitude_from-then-first-eq43.ensures)
+pub returns-in-43 : goal.returns-in-43
+returns-in-43 c =
+    c.from_zero.ensures _ (worth_read _ c.leading_digits-in-43.ensures (part_from _ 1))
+    ∙ sym (val_rest _ _ c.leading_blanks-start.ensures ∙ signed_plus _ c.in-43.len_at_least (omega arith))
 
-pub magnitude_from-requires-2 : goal.magnitude_from-requires-2
-magnitude_from-requires-2 c =
-    let inside : c.leading_blanks-start.result < length c.args.bytes.now = lt_of_le-ne (rw c.leading_blanks-start.ensures (leading_inside (is " ") _)) c.if-start-bytes.false in
-    omega (arith, inside)
-
-pub returns : goal.returns
-returns c =
-    let inside : c.leading_blanks-start.result < length c.args.bytes.now = lt_of_le-ne (rw c.leading_blanks-start.ensures (leading_inside (is " ") _)) c.if-start-bytes.false in
-    rw (← c.leading_blanks-start.ensures, unsigned _ _ (inside) c.if-first-eq45.false c.if-first-eq43.false)
-    (c.from_zero-2.ensures _ c.magnitude_from-2.ensures)
+pub returns-in_default : goal.returns-in_default
+returns-in_default c =
+    c.from_zero-in_default.ensures _ (worth_read _ c.leading_digits-in_default.ensures refl)
+    ∙ sym (val_rest _ _ c.leading_blanks-start.ensures
+    ∙ unsigned _
+    (λ h e. elim c.in_default.branch [ in_default-via-then-rest-lt1 w ↦ grind arith | in_default-via-else-rest-lt1+in_default-1 w ↦ grind arith ])
+    (λ h e. elim c.in_default.branch [ in_default-via-then-rest-lt1 w ↦ grind arith | in_default-via-else-rest-lt1+in_default-1 w ↦ grind arith ]))

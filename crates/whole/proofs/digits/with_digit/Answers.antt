@@ -1,14 +1,18 @@
 -- Rests on: a magnitude tells the value, or that it is too large, and too large it stays.
-use mathlib.Core.Path.{sym}
+use mathlib.Core.Path.{sym, ◌∙◌}
 use native.Mathlib.Omega.{arith}
-use Rattle.whole.proofs.Reading.{capped_in, capped_out, value_in, value_out}
+use Rattle.whole.proofs.Reading.{capped_out, capped_sum, value_in, value_out}
 use Rattle.whole.proofs.digits.with_digit.Goals as goal
 
-pub returns-in_default : goal.returns-in_default
-returns-in_default c n e = let h = value_out n c.in_default.is e in sym (capped_out _ (omega arith))
+pub returns-in_err-magnitude : goal.returns-in_err-magnitude
+returns-in_err-magnitude c n e = let h = value_out n c.in_err-magnitude.was e in
+    c.from_residual.ensures ∙ sym (capped_out _ (omega arith))
 
-pub returns-then-more-le-LARGEST : goal.returns-then-more-le-LARGEST
-returns-then-more-le-LARGEST c n e = rw (value_in n _ c.in-Fits.is e) (sym (capped_in _ c.if-more-le-LARGEST.true))
+pub returns-in_err-checked_mul : goal.returns-in_err-checked_mul
+returns-in_err-checked_mul c n e = let v = value_in n _ c.in_ok-magnitude.was e in
+    c.from_residual-in_err-checked_mul.ensures ∙ sym (capped_out _ (omega (arith, c.in_err-checked_mul.ensures)))
 
-pub returns-else-more-le-LARGEST : goal.returns-else-more-le-LARGEST
-returns-else-more-le-LARGEST c n e = rw (value_in n _ c.in-Fits.is e) (sym (capped_out _ c.if-more-le-LARGEST.false))
+pub returns : goal.returns
+returns c n e = let v = value_in n _ c.in_ok-magnitude.was e in
+    let more = c.in_ok-checked_mul.ensures.1 in
+    capped_sum _ _ (rw (v, ← more, ← c.from.ensures) c.checked_add.ensures)

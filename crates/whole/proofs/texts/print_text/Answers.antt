@@ -5,4 +5,4 @@ use Rattle.whole.proofs.texts.print_text.Goals as goal
 
 pub returns : goal.returns
 returns c = let h = shown_length c.args.word in
-    rw (c.put.ensures, c.str_text-signed.ensures) (held_put _ 32 (omega arith))
+    rw (c.put.ensures, c.str_text.ensures) (held_put _ 32 (omega arith))

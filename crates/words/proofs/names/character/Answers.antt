@@ -14,6 +14,6 @@ outside [] (suc n) i h = refl
 outside (b ∷ s) (suc n) zero h = absurd (omega arith)
 outside (b ∷ s) (suc n) (suc i) h = outside s n i (omega arith)
 
-pub returns-then-name-index : goal.returns-then-name-index
+pub returns-then-from-index : goal.returns-then-from-index
 unfolding capital_of
-returns-then-name-index c = rw (outside (drop c.args.name.at c.args.line.now) c.args.name.len c.args.index c.if-name-index.true)
+returns-then-from-index c = rw (outside (drop c.args.name.at c.args.line.now) c.args.name.len c.args.index (rw c.from.ensures at c.if-from-index.true))

@@ -21,22 +21,21 @@ returns-then-letter-eq0 c =
     let bytes : List ℕ = name_bytes c.args.line.now c.args.name in
     let letter : c.character-letter.result ≡ get_or (map capital_of bytes) c.loop-count.count 0 = c.character-letter.ensures ∙ sym (capital_at bytes c.loop-count.count) in
     let over = told_over (map capital_of (bytes)) c.loop-count.count (sym (letter) ∙ c.if-letter-eq0.true) in
-    c.loop-count.invariant.2 ∙ all_told (bytes) c.loop-count.count (omega (arith, c.loop-count.invariant.1))
+    c.loop-count.invariant.1 ∙ all_told (bytes) c.loop-count.count (omega (arith, c.loop-count.invariant.0))
 
 pub loop-count-preserved : goal.loop-count-preserved
 loop-count-preserved c =
     let bytes : List ℕ = name_bytes c.args.line.now c.args.name in
     let letter : c.character-letter.result ≡ get_or (map capital_of bytes) c.loop-count.count 0 = c.character-letter.ensures ∙ sym (capital_at bytes c.loop-count.count) in
     let t = telling (map capital_of (bytes)) in
-    let more = told_more (map capital_of (bytes)) c.loop-count.count (omega arith) c.loop-count.invariant.1 (λ e. c.if-letter-eq0.false (letter ∙ e)) in
+    let more = told_more (map capital_of (bytes)) c.loop-count.count (omega arith) c.loop-count.invariant.0 (λ e. c.if-letter-eq0.false (letter ∙ e)) in
     let z : name_width - c.loop-count.count ≡ suc (name_width - (c.loop-count.count + 1)) = omega arith in (
       omega arith,
-      omega arith,
-      rw (c.loop-count.invariant.2, z)
+      rw (c.loop-count.invariant.1, z)
           (put_next t c.loop-count.count (name_width - (c.loop-count.count + 1)) c.character-letter.result more
           (told_get (map capital_of (bytes)) c.loop-count.count more ∙ sym (letter))),
     )
 
 pub returns : goal.returns
 returns c = let s = name_bytes c.args.line.now c.args.name in
-    c.loop-count.invariant.2 ∙ all_told s c.loop-count.count (omega (arith, c.loop-count.invariant.1, told_length (map capital_of s)))
+    c.loop-count.invariant.1 ∙ all_told s c.loop-count.count (omega (arith, c.loop-count.invariant.0, told_length (map capital_of s)))

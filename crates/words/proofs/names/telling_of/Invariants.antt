@@ -8,7 +8,4 @@ use Rattle.words.proofs.names.telling_of.Given as goal
 
 abbrev pub invariant-loop-count : goal.invariant-loop-count
 invariant-loop-count l = let t = telling (map capital_of (name_bytes l.line l.name)) in
-    (l.count ≤ name_width) × (l.count ≤ length t) × (l.telling ≡ take l.count t ++ replicate (name_width - l.count) 0)
-
-abbrev pub decreases-loop-count : goal.decreases-loop-count
-decreases-loop-count l = name_width - l.count
+    (l.count ≤ length t) × (l.telling ≡ take l.count t ++ replicate (name_width - l.count) 0)

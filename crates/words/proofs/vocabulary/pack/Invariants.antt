@@ -1,17 +1,17 @@
 use mathlib.Core.Path.{◌≡◌}
-use mathlib.Core.List.{map}
-use Prim.Native.Nat.{ℕ, ◌-◌, ◌*◌, ◌^◌, ◌≤◌, ◌<◌}
-use lib.ListN.{length, drop}
+use mathlib.Core.List.{List, ◌++◌, map}
+use Prim.Native.Nat.{ℕ}
+use lib.ListN.{length}
 use Rattle.words.specs.Classes.{capital_of}
 use Rattle.words.specs.bridge.Packed.{packed}
+use Rattle.words.proofs.Packing.{Bound}
 use Rattle.words.proofs.vocabulary.pack.Given as goal
 
--- a byte for each of k letters below the 1
-abbrev Bound : ℕ → ℕ → Type 0
-Bound k x = x < 2 * 256 ^ k
-
-abbrev pub invariant-loop-left : goal.invariant-loop-left
-invariant-loop-left l = (l.left ≤ length l.letters) × Bound (length l.letters - l.left) l.number × (l.number ≡ packed (map capital_of (drop l.left l.letters)))
-
-abbrev pub decreases-loop-left : goal.decreases-loop-left
-decreases-loop-left l = l.left
+-- the letters that have been passed are in the number
+abbrev pub invariant-loop-letter : goal.invariant-loop-letter
+invariant-loop-letter l = record {
+  passed : List ℕ;
+  all : l.letters ≡ l.letter-iterator.iter.rest.now ++ passed;
+  room : Bound (length passed) l.number;
+  told : l.number ≡ packed (map capital_of passed);
+}

@@ -1,5 +1,0 @@
--- A digit fewer at each call.
-use Rattle.console.proofs.lines.+put_decimal.Given as goal
-
-abbrev pub decreases-put_decimal : goal.decreases-put_decimal
-decreases-put_decimal l = l.value
