@@ -70,7 +70,7 @@ pub fn write<W: Write, E: Write>(out: &mut W, err: &mut E, bytes: &[u8]) -> bool
     }
 }
 
-// The same of a text's bytes.
+// Writes the bytes of a text, in the same way.
 pub fn write_text<W: Write, E: Write>(out: &mut W, err: &mut E, text: Text) -> bool
     ensures bytes { OnTrue result (Appends (W.contents out.old) (W.contents out.new) (take text.len text.bytes)) }
     ensures said { (l : List ℕ) → text ≡ held l → OnTrue result (Appends (W.contents out.old) (W.contents out.new) l) }

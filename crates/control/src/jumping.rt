@@ -5,7 +5,7 @@ ghost use Rattle.machine.specs.Machine as spec;
 ghost use Rattle.machine.specs.bridge.Holding.{state_of, position_of, Positioned, Sound};
 ghost use Rattle.machine.specs.Machine.{is_call};
 ghost use Rattle.machine.specs.bridge.Wanted.{Told};
-ghost use Rattle.rows.specs.bridge.Rows.{Tabled, Ordered};
+ghost use Rattle.rows.specs.bridge.Rows.{Tabled};
 ghost use Rattle.turns.specs.Steps.{do_statement};
 ghost use Rattle.turns.specs.bridge.Turns.{turn_of, after_of, Turns, AnyRecords, FoundBelow};
 ghost use Rattle.loader.specs.declared.lines.LineSpan.{LineSpan};
@@ -14,20 +14,19 @@ ghost use Rattle.variables.specs.declared.tables.Tables.{Tables};
 
 use loader::LineSpan;
 use machine::{Machine, Next, Record, Turned};
-use rows::{Rows, line_numbered};
+use rows::{LineTable, line_numbered};
 use turns::{after, fails, push, turned_to};
 use whole::Error;
 use words::{LineNumber, Place, Scanned};
 
 // A missing line is 8.
-pub fn goto(rows: &Rows, number: LineNumber, machine: Machine) -> Turned
-    requires { Ordered rows.now }
-    ensures { (text input space room : List ℕ) (tables : Tables) (at : ℕ) (after : spec.Position) → Tabled text rows.now
+pub fn goto(table: &LineTable, number: LineNumber, machine: Machine) -> Turned
+    ensures { (text input space room : List ℕ) (tables : Tables) (at : ℕ) (after : spec.Position) → Tabled text table.now.rows
         → Sound (state_of machine tables) input space room
         → Turns text (state_of machine tables) input space room AnyRecords
         (λ n. do_statement text at (tree.goto number) n after) (turn_of result tables) space room }
 {
-    match line_numbered(rows, number) {
+    match line_numbered(table, number) {
         None => fails(machine, Error::UndefinedLine),
         Some(span) => {
             let place = span.place;
@@ -69,14 +68,13 @@ fn place_of(found: Option<LineSpan>) -> Place
 }
 
 pub fn gosub(
-    rows: &Rows,
+    table: &LineTable,
     number: LineNumber,
     here: Place,
     ahead: Scanned,
     machine: Machine,
 ) -> Turned
-    requires { Ordered rows.now }
-    ensures { (text input space room : List ℕ) (tables : Tables) (at : ℕ) → Tabled text rows.now
+    ensures { (text input space room : List ℕ) (tables : Tables) (at : ℕ) → Tabled text table.now.rows
         → Sound (state_of machine tables) input space room
         → Positioned text (after_of here ahead)
         → Turns text (state_of machine tables) input space room AnyRecords
@@ -84,7 +82,7 @@ pub fn gosub(
         (turn_of result tables) space room }
 {
     let full = machine.records <= machine.depth;
-    let found = line_numbered(rows, number);
+    let found = line_numbered(table, number);
     match called(found, full) {
         Calling::NoLine => fails(machine, Error::UndefinedLine),
         Calling::NoRecord => fails(machine, Error::OutOfMemory),

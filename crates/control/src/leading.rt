@@ -3,7 +3,7 @@ ghost use Rattle.std.specs.Prelude.{List, ℕ, ◌≤◌, length, Option};
 ghost use Rattle.machine.specs.bridge.Holding.{state_of, Settled, Sound};
 ghost use Rattle.turns.specs.bridge.Turns.{turn_of, FoundBelow};
 ghost use Rattle.order.specs.bridge.Walking.{Lined};
-ghost use Rattle.rows.specs.bridge.Rows.{Tabled, Ordered};
+ghost use Rattle.rows.specs.bridge.Rows.{Tabled};
 ghost use Rattle.words.specs.declared.symbols.Word.TheVariants as led;
 ghost use Rattle.statements.specs.Statements.{by_word};
 ghost use Rattle.turns.specs.bridge.Doing.{Begins, Does};
@@ -14,7 +14,7 @@ use crate::jumping::{gosub, goto};
 use crate::looping::{for_loop, next_turn};
 use grammar::line_of;
 use machine::{Machine, Record, Turned};
-use rows::Rows;
+use rows::LineTable;
 use scanner::token_at;
 use turns::fails;
 use variables::Tables;
@@ -82,9 +82,8 @@ pub fn next_loop(
     }
 }
 
-pub fn jump(rows: &Rows, target: Scanned, machine: Machine) -> Turned
-    requires { Ordered rows.now }
-    ensures { (text line input space room : List ℕ) (tables : Tables) (here : Place) (at : ℕ) (found : Option ℕ) (entry : Record) → Tabled text rows.now
+pub fn jump(table: &LineTable, target: Scanned, machine: Machine) -> Turned
+    ensures { (text line input space room : List ℕ) (tables : Tables) (here : Place) (at : ℕ) (found : Option ℕ) (entry : Record) → Tabled text table.now.rows
         → Sound (state_of machine tables) input space room
         → Does text line here at (state_of machine tables) found entry input space room
         (turn_of result tables) space room (by_word line led.Goto target) }
@@ -92,13 +91,18 @@ pub fn jump(rows: &Rows, target: Scanned, machine: Machine) -> Turned
     let token = target.token;
     match line_of(token) {
         None => fails(machine, Error::Syntax),
-        Some(number) => goto(rows, number, machine),
+        Some(number) => goto(table, number, machine),
     }
 }
 
-pub fn call(rows: &Rows, line: &[u8], here: Place, target: Scanned, machine: Machine) -> Turned
-    requires { Ordered rows.now }
-    ensures { (text input space room : List ℕ) (tables : Tables) (at : ℕ) (found : Option ℕ) (entry : Record) → Tabled text rows.now
+pub fn call(
+    table: &LineTable,
+    line: &[u8],
+    here: Place,
+    target: Scanned,
+    machine: Machine,
+) -> Turned
+    ensures { (text input space room : List ℕ) (tables : Tables) (at : ℕ) (found : Option ℕ) (entry : Record) → Tabled text table.now.rows
         → Sound (state_of machine tables) input space room
         → Does text line.now here at (state_of machine tables) found entry input space room
         (turn_of result tables) space room (by_word line.now led.Gosub target) }
@@ -106,6 +110,6 @@ pub fn call(rows: &Rows, line: &[u8], here: Place, target: Scanned, machine: Mac
     let token = target.token;
     match line_of(token) {
         None => fails(machine, Error::Syntax),
-        Some(number) => gosub(rows, number, here, token_at(line, target.next), machine),
+        Some(number) => gosub(table, number, here, token_at(line, target.next), machine),
     }
 }

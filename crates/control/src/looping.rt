@@ -21,7 +21,7 @@ use crate::skipping::skip_body;
 use grammar::is_keyword;
 use machine::{Machine, Next, Record, Turned, passed};
 use scanner::token_at;
-use turns::{after, fails, goes_on, push, turned_to, value, with_number};
+use turns::{after, fails, goes_on, push, turned_to, value};
 use variables::{Numbers, Tables, Worked, mismatch};
 use whole::{Error, Operator, apply};
 use words::{Kind, Name, Place, Scanned, Word};
@@ -59,17 +59,15 @@ fn begin_loop(
     ensures { LoopBegun text.now at (state_of machine tables.old) (telling_of (name_bytes line.now name)) from limit step (after_of here ahead) found
         (turn_of result tables.new) }
 {
-    let stored = with_number(machine, tables, line, name, from);
-    let set = stored.machine;
-    if !stored.ok {
-        return fails(set, Error::OutOfMemory);
-    }
-    let under = dropped_to(set, found);
+    let Some(slot) = tables.numbers.store(line, name, from) else {
+        return fails(machine, Error::OutOfMemory);
+    };
+    let under = dropped_to(machine, found);
     if passed(from, limit, step) {
         return turned_to(under, skip_body(text, here, at, line, name));
     }
     let back = after(here, ahead);
-    let held = Record::counts(stored.slot, limit, step, back);
+    let held = Record::counts(slot, limit, step, back);
     push(under, held, Next::On(back))
 }
 

@@ -1,7 +1,7 @@
 -- LINE INPUT: its text is printed, a line of input is taken, and the variable is set to it.
-use Rattle.std.specs.Prelude.{Err, Ok}
+use Rattle.std.specs.Prelude.{Err, Ok, Some, None}
+use Rattle.std.specs.Option.{unwrap_or}
 use mathlib.Core.Path.{◌≡◌, refl, sym, ap, ◌∙◌}
-use mathlib.Core.Bool.{true, false}
 use mathlib.Core.List.{List, [], ◌∷◌}
 use Prim.Native.Nat.{ℕ, zero, suc, ◌+◌, ◌-◌, ◌≤◌, ◌<◌}
 use native.Mathlib.Omega.{arith}
@@ -262,7 +262,7 @@ module _ (program : List ℕ) {m : State} {input space room : List ℕ} (sound :
 module _ (program : List ℕ) {m : State} {input space room : List ℕ} (sound : Sound m input space room) (at : ℕ) (b : List ℕ) (v : Variable)
     (after : spec.Position) where
   -- there is no room for it
-  pub asks_full : (printed_as m.printer (length room) b).ok ≡ false
+  pub asks_full : printed_as m.printer (length room) b ≡ None
       → Turns program m input space room AnyRecords (λ n. do_statement program at (line_input b v) n after) (turned_to m (next.Fails OutputFull))
       space (copied room m.printer.written b)
   asks_full e =
@@ -270,23 +270,23 @@ module _ (program : List ℕ) {m : State} {input space room : List ℕ} (sound :
       (turns_fails (leaves_unprinted sound refl refl refl)
       (λ rs t n s. record { machine = n; is = rw (write-full sound.fitting b n s.column s.output s.output_room e); same = s }))
 
-  printed_leaves_it : {x : Next} → Leaves m input space room (turned_to (with_printer m (printed_as m.printer (length room) b).printer) x)
+  printed_leaves_it : {x : Next} → Leaves m input space room (turned_to (with_printer m (unwrap_or (printed_as m.printer (length room) b) m.printer)) x)
       space (copied room m.printer.written b)
   printed_leaves_it =
       let fit = sound.fitting in
       printed_leaves
-      (printed_more (printed_none sound.settled fit) (printed_as m.printer (length room) b).printer refl
+      (printed_more (printed_none sound.settled fit) (unwrap_or (printed_as m.printer (length room) b) m.printer) refl
       (room_length fit b) (fitting_after fit b) (written_grows fit b) (room_above fit b))
       sound
 
   -- it was printed
-  pub asks_on : (printed_as m.printer (length room) b).ok ≡ true → {m' : State} {room' : List ℕ}
-      → m' ≡ with_printer m (printed_as m.printer (length room) b).printer → room' ≡ copied room m.printer.written b
+  pub asks_on : {q : Printer} → printed_as m.printer (length room) b ≡ Some q → {m' : State} {room' : List ℕ}
+      → m' ≡ with_printer m q → room' ≡ copied room m.printer.written b
       → {r : Turn} {space' : List ℕ}
       → (Sound m' input space room' → Turns program m' input space room' AnyRecords (takes_line v after) r space' room')
       → Turns program m input space room AnyRecords (λ n. do_statement program at (line_input b v) n after) r space' room'
   asks_on e f g t =
-      let l = printed_leaves_it {x = next.Ends} in
+      let l = rw e at (printed_leaves_it {x = next.Ends}) in
       rw g
       (turns_then l
       (λ rs u n s. rw e at (leads_written s sound.fitting b (takes_line v after)))

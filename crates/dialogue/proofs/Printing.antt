@@ -1,17 +1,16 @@
 -- What is printed, and what the definition then does.
+use Rattle.std.specs.Prelude.{Option, Some, None}
+use Rattle.std.specs.Option.{unwrap_or}
 use mathlib.Core.Path.{◌≡◌, refl, sym, ap, ◌∙◌}
-use mathlib.Core.Bool.{Bool, cond}
 use mathlib.Core.List.{List}
 use Prim.Native.Nat.{ℕ, ◌+◌, ◌-◌, ◌≤◌}
 use native.Mathlib.Nat.{le_refl}
 use native.Mathlib.Omega.{arith}
 use lib.ListN.{length, take, drop, replicate}
 use lib.Seq.{take-append_seam, drop-drop}
-use borrow.Author.Tests.{lt-leb}
 use Rattle.whole.specs.Texts.{held, longest_string}
 use Rattle.whole.specs.declared.texts.Text.{Text}
 use Rattle.whole.specs.declared.errors.Error.TheVariants.{OutputFull}
-use Rattle.words.proofs.Choices.{by_test}
 use Rattle.space.specs.Moves.{copied}
 use Rattle.space.proofs.Frames.{copied_past}
 use Rattle.machine.specs.Machine as spec
@@ -20,7 +19,7 @@ use Rattle.machine.specs.bridge.Holding.{printed_as, Settled, Fitting, Sound, Sa
 use Rattle.machine.specs.declared.state.Printer.{Printer}
 use Rattle.machine.specs.declared.positions.Next.{Next}
 use Rattle.machine.specs.declared.records.Record.{Record}
-use Rattle.machine.proofs.Writing.{not_printed, room_length, write-full, write-printed}
+use Rattle.machine.proofs.Writing.{not_printed, room_length, write-full, write-printed, by_printed}
 use Rattle.turns.specs.Steps as step
 use Rattle.turns.specs.Steps.{fails, written}
 use Rattle.turns.specs.bridge.Turns.{turned_to, Leads, Leaves, with_printer}
@@ -32,8 +31,9 @@ unfolding held
 held_front l e = rw e (take-append_seam l (replicate (longest_string - length l) 0))
 
 -- what is done next, by whether there was room
-abbrev pub printed_met : Bool → (spec.Machine → step.Next) → spec.Machine → step.Next
-printed_met ok go = cond ok go (fails OutputFull)
+abbrev pub printed_met : Option Printer → (spec.Machine → step.Next) → spec.Machine → step.Next
+printed_met (Some p) go = go
+printed_met None go = fails OutputFull
 
 module _ {text : List ℕ} {rs : List Record} {m : State} {input space room : List ℕ} {n : spec.Machine}
     (same : Same text rs m input space room n) where
@@ -59,22 +59,22 @@ module _ {text : List ℕ} {rs : List Record} {m : State} {input space room : Li
       }
 
   pub leads_written : Fitting m.printer room → (bytes : List ℕ) (go : spec.Machine → step.Next)
-      → Leads text rs (with_printer m (printed_as m.printer (length room) bytes).printer) input space (copied room m.printer.written bytes)
-      (written n bytes go) (printed_met (printed_as m.printer (length room) bytes).ok go)
+      → Leads text rs (with_printer m (unwrap_or (printed_as m.printer (length room) bytes) m.printer)) input space (copied room m.printer.written bytes)
+      (written n bytes go) (printed_met (printed_as m.printer (length room) bytes) go)
   leads_written fit bytes go =
-      let r = printed_as m.printer (length room) bytes in
       let room' = copied room m.printer.written bytes in
-      by_test r.ok
-      (λ e. record {
-        machine = with_output n (take r.printer.written room') r.printer.column;
-        is = rw (write-printed fit bytes n same.column same.output same.output_room e, e);
-        same = same_printer r.printer (room_length fit bytes);
+      by_printed
+      (λ o. Leads text rs (with_printer m (unwrap_or o m.printer)) input space room' (written n bytes go) (printed_met o go))
+      (printed_as m.printer (length room) bytes)
+      (λ q e. record {
+        machine = with_output n (take q.written room') q.column;
+        is = rw (write-printed fit bytes n same.column same.output same.output_room e);
+        same = same_printer q (room_length fit bytes);
       })
-      (λ e. let h = not_printed m.printer room bytes e in
-      record {
+      (λ e. record {
         machine = n;
-        is = rw (write-full fit bytes n same.column same.output same.output_room e, e);
-        same = rw (lt-leb _ _ h, copied_past room m.printer.written bytes h) same;
+        is = rw (write-full fit bytes n same.column same.output same.output_room e);
+        same = rw (copied_past room m.printer.written bytes (not_printed m.printer room bytes e)) same;
       })
 
 -- ---- the memory that is lent, where something was printed and nothing else changed

@@ -1,5 +1,6 @@
 -- The code's loop over the items of a PRINT.
 use Rattle.std.specs.Prelude.{Err, Ok}
+use Rattle.std.specs.Option.{unwrap_or}
 use mathlib.Core.Path.{◌≡◌, refl, ◌∙◌}
 use mathlib.Core.Bool.{Bool, true, false, cond}
 use mathlib.Core.List.{List, [], ◌∷◌}
@@ -62,10 +63,10 @@ module _ {m : State} {space room : List ℕ} {m' : State} {space' room' : List �
       let go : spec.Machine → step.Next = λ n. goes_on n (position_of text (after_of here u)) in
       let fit = h.fitting in
       let r = printed_as m'.printer (length room') bytes in
-      let k : Printed m space room (with_printer m' r.printer) space' (copied room' m'.printer.written bytes) =
-      printed_more h r.printer refl (room_length fit bytes) (fitting_after fit bytes) (written_grows fit bytes) (room_above fit bytes) in
-      let led : Led text m input space room AnyRecords does (with_printer m' r.printer) space' (copied room' m'.printer.written bytes)
-      (printed_met r.ok go) = λ rs t n same. leads_on (l rs t n same) (λ o q. leads_written q fit bytes go) in
+      let k : Printed m space room (with_printer m' (unwrap_or r m'.printer)) space' (copied room' m'.printer.written bytes) =
+      printed_more h (unwrap_or r m'.printer) refl (room_length fit bytes) (fitting_after fit bytes) (written_grows fit bytes) (room_above fit bytes) in
+      let led : Led text m input space room AnyRecords does (with_printer m' (unwrap_or r m'.printer)) space' (copied room' m'.printer.written bytes)
+      (printed_met r go) = λ rs t n same. leads_on (l rs t n same) (λ o q. leads_written q fit bytes go) in
       by_bound (m'.printer.written + length bytes) (length room')
       (λ b. let y = le-leb (m'.printer.written + length bytes) (length room') b in rw y (turns_on (printed_leaves (rw y at k) sound) p (rw y at led)))
       (λ b. let y = lt-leb (m'.printer.written + length bytes) (length room') b in rw y (turns_fails (printed_leaves (rw y at k) sound) (rw y at led)))

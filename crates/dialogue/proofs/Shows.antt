@@ -1,21 +1,17 @@
 -- What the code shows of one item is what the definition does with it.
-use Rattle.std.specs.Prelude.{Result, Ok, Err}
+use Rattle.std.specs.Prelude.{Option, Some, None, Result, Ok, Err}
+use Rattle.std.specs.Option.{unwrap_or}
 use mathlib.Core.Path.{◌≡◌, refl, sym, ap, subst, ◌∙◌}
 use mathlib.Core.Bool.{true, false, false≢true}
 use mathlib.Core.List.{List}
-use Prim.Native.Nat.{ℕ, ◌+◌, ◌-◌, ◌%◌}
+use Prim.Native.Nat.{ℕ, ◌-◌, ◌%◌}
 use lib.ListN.{length, replicate, take, drop}
 use native.Mathlib.Nat.{le_refl}
-use borrow.Author.Tests.{le-leb, lt-leb}
 use Rattle.whole.specs.Texts as texts
-use Rattle.whole.specs.declared.errors.Error.TheVariants.{OutputFull}
 use Rattle.whole.specs.Bytes.{blank}
-use Rattle.words.specs.declared.places.Place.{Place}
 use Rattle.words.specs.declared.symbols.Scanned.{Scanned}
 use Rattle.words.specs.declared.symbols.Sign.TheVariants.{Comma}
-use Rattle.words.proofs.Choices.{by_test}
 use Rattle.space.specs.Moves.{copied}
-use Rattle.space.proofs.Bounds.{by_bound}
 use Rattle.grammar.specs.Tests.{is_symbol}
 use Rattle.grammar.specs.Trees.{Formula, Item, comma, semicolon, shown}
 use Rattle.grammar.specs.Formulas.{good, after, formula_of}
@@ -25,14 +21,12 @@ use Rattle.variables.specs.declared.values.Worked.TheVariants.{Whole, Text}
 use Rattle.machine.specs.Machine as spec
 use Rattle.machine.specs.bridge.Holding.{printed_as, Settled, Fitting, Same, State}
 use Rattle.machine.specs.declared.state.Printer.{Printer}
-use Rattle.machine.specs.declared.positions.Next.TheVariants as next
-use Rattle.machine.specs.declared.printing.Printed.{Printed}
 use Rattle.machine.specs.declared.records.Record.{Record}
 use Rattle.machine.proofs.Writing.{room_length, written_grows, room_above, fitting_after}
 use Rattle.turns.specs.Steps as step
 use Rattle.turns.specs.Steps.{written, shown_value}
-use Rattle.turns.specs.bridge.Turns.{turned_to, after_of, Valued, Leads, with_printer}
-use Rattle.dialogue.specs.bridge.Showing.{shown_as, ShowsWorked, ItemAt, show_item, shown_met, printer_of, Onward, Shows, end_written}
+use Rattle.turns.specs.bridge.Turns.{Valued, Leads, with_printer}
+use Rattle.dialogue.specs.bridge.Showing.{shown_as, ShowsWorked, ItemAt, show_item, shown_met, printer_of, Onward, Shows}
 use Rattle.turns.proofs.Leading.{leads_on, leads_self}
 use Rattle.turns.proofs.Working.{leads_worked}
 use Rattle.dialogue.proofs.Printing.{printed_met, leads_written}
@@ -40,27 +34,28 @@ use Rattle.whole.specs.declared.errors.Error.{Error}
 
 -- ---- some bytes
 
-shown_printer : (p : Printer) (room bytes : List ℕ) (t : Scanned)
-    → printer_of p (shown_as (printed_as p (length room) bytes) t) ≡ (printed_as p (length room) bytes).printer
-shown_printer p room bytes t =
-    by_bound (p.written + length bytes) (length room) (λ h. rw (le-leb _ _ h)) (λ h. rw (lt-leb _ _ h))
+shown_printer : (p : Printer) (o : Option Printer) (t : Scanned) → printer_of p (shown_as o t) ≡ unwrap_or o p
+shown_printer p (Some q) t = refl
+shown_printer p None t = refl
 
-shown_met_lem : (q : Printed) (t : Scanned) (go : spec.Machine → step.Next) → shown_met (shown_as q t) go ≡ printed_met q.ok go
-shown_met_lem q t go = by_test q.ok (λ e. rw e) (λ e. rw e)
+shown_met_lem : (q : Option Printer) (t : Scanned) (go : spec.Machine → step.Next) → shown_met (shown_as q t) go ≡ printed_met q go
+shown_met_lem (Some p) t go = refl
+shown_met_lem None t go = refl
 
-shown_onward : (q : Printed) (t : Scanned) → Onward (shown_as q t) t
-shown_onward q t = by_test q.ok (λ e. rw e refl) (λ e. rw e tt)
+shown_onward : (q : Option Printer) (t : Scanned) → Onward (shown_as q t) t
+shown_onward (Some p) t = refl
+shown_onward None t = tt
 
 module _ {m : State} {i : Item} {space room space' : List ℕ} (fit : Fitting m.printer room) (bytes : List ℕ) (u : Scanned)
     (long : length space' ≡ length space) where
   pub shows_bytes : ((text : List ℕ) (rs : List Record) (input : List ℕ) (n : spec.Machine) → Same text rs m input space room n
       → (go : spec.Machine → step.Next)
-      → Leads text rs (with_printer m (printed_as m.printer (length room) bytes).printer) input space' (copied room m.printer.written bytes)
-      (show_item i n go) (printed_met (printed_as m.printer (length room) bytes).ok go))
+      → Leads text rs (with_printer m (unwrap_or (printed_as m.printer (length room) bytes) m.printer)) input space' (copied room m.printer.written bytes)
+      (show_item i n go) (printed_met (printed_as m.printer (length room) bytes) go))
       → Shows m i u space room (shown_as (printed_as m.printer (length room) bytes) u) space' (copied room m.printer.written bytes)
   shows_bytes h =
       let r = printed_as m.printer (length room) bytes in
-      let e = shown_printer m.printer room bytes u in
+      let e = shown_printer m.printer r u in
       record {
         space_long = long;
         room_long = room_length fit bytes;
@@ -83,8 +78,8 @@ module _ {m : State} {space room : List ℕ} (fit : Fitting m.printer room) (u :
       let blanks = replicate (14 - m.printer.column % 14) blank in
       let r = printed_as m.printer (length room) blanks in
       subst
-      (λ k. Leads text rs (with_printer m r.printer) input space (copied room m.printer.written blanks)
-      (written n (replicate (14 - k % 14) blank) go) (printed_met r.ok go))
+      (λ k. Leads text rs (with_printer m (unwrap_or r m.printer)) input space (copied room m.printer.written blanks)
+      (written n (replicate (14 - k % 14) blank) go) (printed_met r go))
       (sym same.column) (leads_written same fit blanks go))
 
   pub shows_semicolon : Shows m semicolon u space room (Ok (m.printer, u)) space room
@@ -154,12 +149,3 @@ module _ (line : List ℕ) (t : Scanned) {m : State} {space room space' room' : 
   at_formula e h comma u (a, b) = absurd (false≢true (sym (rw a at e)))
   at_formula e h semicolon u (a, (b, c)) = absurd (false≢true (sym (rw (a, b) at e)))
   at_formula e h (shown f) u (a, (b, c)) = h f u c
-
--- ---- the line's end, by whether there was room for it
-
-module _ (m : State) {p q : Printed} (here : Place) (u : Scanned) (e : p ≡ q) where
-  pub end_refused : p.ok ≡ false → turned_to m (next.Fails OutputFull) ≡ end_written m q here u
-  end_refused f = rw (← e, f)
-
-  pub end_written_lem : p.ok ≡ true → turned_to (with_printer m p.printer) (next.On (after_of here u)) ≡ end_written m q here u
-  end_written_lem f = rw (← e, f)

@@ -45,6 +45,7 @@ fn fill(
     match kind {
         Kind::Whole => fails(machine, Error::TypeMismatch),
         Kind::Text => stored_or_full(
+            machine,
             with_string(machine, tables, line, name, space, len),
             here,
             ahead,
@@ -110,11 +111,9 @@ fn prompt(
         → Turns program (state_of machine tables.old) input.now space.old room.old AnyRecords
         (λ n. do_statement program at (tree.line_input text.now v) n (position_of program (after_of here u))) (turn_of result tables.new) space.new room.new }
 {
-    let printed = write(machine.printer, room, text);
-    if !printed.ok {
+    let Some(printer) = write(machine.printer, room, text) else {
         return fails(machine, Error::OutputFull);
-    }
-    let printer = printed.printer;
+    };
     let m = with_printer(machine, printer);
     let token = target.token;
     match token {

@@ -14,7 +14,7 @@ ghost use Rattle.dialogue.specs.bridge.Showing.{Itemed, Writes, shown_as, ShowsW
 ghost use Rattle.variables.specs.declared.tables.Tables.{Tables};
 
 use grammar::{ends_statement, is_symbol};
-use machine::{Machine, Printed, Printer, Turned, write, write_comma};
+use machine::{Machine, Printer, Turned, write, write_comma};
 use scanner::token_at;
 use space::Offset;
 use turns::{fails, goes_on, value};
@@ -32,7 +32,7 @@ pub(crate) fn with_printer(machine: Machine, printer: Printer) -> Machine
     next
 }
 
-fn print_number(printer: Printer, room: &mut [u8], word: u16) -> Printed
+fn print_number(printer: Printer, room: &mut [u8], word: u16) -> Option<Printer>
     requires { Fitting printer room.old }
     ensures { Writes printer room.old (texts.printed_number word) result room.new }
 {
@@ -49,7 +49,7 @@ fn print_string(
     space: &[u8],
     from: Offset,
     len: usize,
-) -> Printed
+) -> Option<Printer>
     requires { Fitting printer room.old × (from.0 + len ≤ length space.now) }
     ensures { Writes printer room.old (take len (drop from.0 space.now)) result room.new }
 {
@@ -58,14 +58,12 @@ fn print_string(
     write(printer, room, &space[start..end])
 }
 
-fn shown_or_full(printed: Printed, ahead: Scanned) -> Result<(Printer, Scanned), Error>
+fn shown_or_full(printed: Option<Printer>, ahead: Scanned) -> Result<(Printer, Scanned), Error>
     ensures { result ≡ shown_as printed ahead }
 {
-    if printed.ok {
-        let printer = printed.printer;
-        return Ok((printer, ahead));
-    }
-    Err(Error::OutputFull)
+    printed
+        .map(|printer| (printer, ahead))
+        .ok_or(Error::OutputFull)
 }
 
 fn show(
@@ -98,11 +96,10 @@ fn print_end(machine: Machine, quiet: bool, room: &mut [u8], here: Place, ahead:
         return goes_on(machine, here, ahead);
     }
     let line_end = LINE_END;
-    let printed = write(machine.printer, room, &line_end);
-    if !printed.ok {
+    let Some(printer) = write(machine.printer, room, &line_end) else {
         return fails(machine, Error::OutputFull);
-    }
-    goes_on(with_printer(machine, printed.printer), here, ahead)
+    };
+    goes_on(with_printer(machine, printer), here, ahead)
 }
 
 // Whether no item is left.

@@ -1,5 +1,5 @@
 -- One variable of a READ is set to an item.
-use Rattle.std.specs.Prelude.{Err, Ok, Result}
+use Rattle.std.specs.Prelude.{Err, None, Ok, Option, Result, Some}
 use mathlib.Core.Path.{◌≡◌, refl, ap, ◌∙◌}
 use mathlib.Core.List.{List, []}
 use Prim.Native.Nat.{ℕ, ◌+◌, ◌≤◌, ◌<◌}
@@ -13,7 +13,6 @@ use Rattle.whole.specs.declared.errors.Error.TheVariants.{OutOfData, OutOfString
 use Rattle.words.specs.declared.names.Kind.{Kind}
 use Rattle.words.specs.declared.names.Kind.TheVariants as kind
 use Rattle.words.specs.Names.{Telling}
-use Rattle.words.proofs.Choices.{by_test}
 use Rattle.space.specs.Moves.{copied}
 use Rattle.space.proofs.Frames.{copied-length, copied_bytes}
 use Rattle.variables.specs.Tables.{sum_of}
@@ -26,7 +25,6 @@ use Rattle.machine.specs.declared.state.Machine.{Machine}
 use Rattle.turns.specs.Steps as step
 use Rattle.turns.specs.Steps.{given, next_item, store_string}
 use Rattle.turns.specs.bridge.Turns.{storage_of, with_feed, number_set, string_set, Storage}
-use Rattle.turns.specs.declared.setting.Stored.{Stored}
 use Rattle.turns.proofs.Keeping.{settled_kept}
 use Rattle.turns.proofs.Leading.{leads_on}
 use Rattle.turns.proofs.Making.{leads_unmade, leads_made}
@@ -38,19 +36,16 @@ use Rattle.variables.specs.declared.tables.Tables.{Tables}
 
 -- ---- what the code answers
 
-pub set_met : (s : Stored) (go : spec.Machine → step.Next) → given_met (set_as s) go ≡ stored_met s.ok go
-set_met s go = by_test s.ok (λ e. rw e) (λ e. rw e)
-
-pub set_machine : (s : Stored) → machine_of (set_as s) ≡ s.machine
-set_machine s = by_test s.ok (λ e. rw e) (λ e. rw e)
+pub set_met : (x : Machine) (s : Option Machine) (tables : Tables) (go : spec.Machine → step.Next)
+    → given_met (set_as x s) go ≡ stored_met (storage_of x s tables).ok go
+set_met x (Some n) tables go = refl
+set_met x None tables go = refl
 
 -- the machine and the tables that it leaves are those of what was stored
-pub set_state : (s : Stored) {r : Result Machine (Machine × Error)} {tables : Tables} {S : Storage} → r ≡ set_as s → storage_of s tables ≡ S
-    → state_of (machine_of r) tables ≡ S.state
-set_state s {tables = tables} e k =
-    ap (λ x. state_of (machine_of x) tables) e
-    ∙ ap (λ x. state_of x tables) (set_machine s)
-    ∙ ap (λ x. x.state) k
+pub set_state : (x : Machine) (s : Option Machine) {r : Result Machine (Machine × Error)} {tables : Tables} {S : Storage} → r ≡ set_as x s
+    → storage_of x s tables ≡ S → state_of (machine_of r) tables ≡ S.state
+set_state x (Some n) {tables = tables} e k = ap (λ y. state_of (machine_of y) tables) e ∙ ap (λ y. y.state) k
+set_state x None {tables = tables} e k = ap (λ y. state_of (machine_of y) tables) e ∙ ap (λ y. y.state) k
 
 -- ---- nothing is set
 
@@ -68,9 +63,9 @@ module _ {m : State} {space : List ℕ} (settled : Settled m space) (name : Tell
     pub sets_number : Sets m space (number_set m name w).state space
     sets_number = record { settled = number_settled name own w settled; printer = refl; taken = refl; steps = refl; depth = refl; records = refl; long = refl }
 
-    pub gives_number : (text : List ℕ) (s : Stored) → s.ok ≡ (number_set m name w).ok → number_item b ≡ Ok w
-        → Gives text m space (given kind.Whole name b) (set_as s) (number_set m name w).state space
-    gives_number text s ok e = λ rs input room n q go. rw (e, set_met s go, ok) (leads_number name own w settled q go)
+    pub gives_number : (text : List ℕ) (r : Result Machine (Machine × Error)) → ((go : spec.Machine → step.Next) → given_met r go ≡ stored_met (number_set m name w).ok go)
+        → number_item b ≡ Ok w → Gives text m space (given kind.Whole name b) r (number_set m name w).state space
+    gives_number text r met e = λ rs input room n q go. rw (e, met go) (leads_number name own w settled q go)
 
 -- ---- a string
 
@@ -104,11 +99,11 @@ module _ {m : State} {space : List ℕ} (settled : Settled m space) (name : Tell
           long = string_long name own (length b) kept room_for ∙ long;
         }
 
-    pub gives_string : (text : List ℕ) (s : Stored) → s.ok ≡ (string_set m name (length b)).ok
-        → Gives text m space (given kind.Text name b) (set_as s) (string_set m name (length b)).state
+    pub gives_string : (text : List ℕ) (x : Machine) (s : Option Machine) (tables : Tables) → (storage_of x s tables).ok ≡ (string_set m name (length b)).ok
+        → Gives text m space (given kind.Text name b) (set_as x s) (string_set m name (length b)).state
         (space_stored m.tables.strings m.used name (copied space m.used b) (length b))
-    gives_string text s ok = λ rs input room n q go.
-        rw (set_met s go, ok)
+    gives_string text x s tables ok = λ rs input room n q go.
+        rw (set_met x s tables go, ok)
         (leads_on (leads_made settled b (λ o. store_string o name b go) q fits)
         (λ o e. rw (copied_bytes space m.used b fits) at (leads_string name own (length b) kept room_for e go)))
 

@@ -19,20 +19,16 @@ use grammar::is_symbol;
 use machine::{Machine, Turned};
 use scanner::token_at;
 use space::copy_in;
-use turns::{Stored, fails, goes_on, with_number, with_string};
+use turns::{fails, goes_on, with_string};
 use variables::{Tables, has_room};
 use whole::{Error, number_item};
 use words::{Kind, Name, Place, Scanned, Sign, Token};
 
 // Room for a new variable is tested last.
-fn set_or_full(stored: Stored) -> Result<Machine, (Machine, Error)>
-    ensures { result ≡ set_as stored }
+fn set_or_full(machine: Machine, stored: Option<Machine>) -> Result<Machine, (Machine, Error)>
+    ensures { result ≡ set_as machine stored }
 {
-    let machine = stored.machine;
-    if !stored.ok {
-        return Err((machine, Error::OutOfMemory));
-    }
-    Ok(machine)
+    stored.ok_or((machine, Error::OutOfMemory))
 }
 
 // One optional sign and digits only.
@@ -51,7 +47,10 @@ fn give_number(
 {
     match number_item(bytes) {
         Err(error) => Err((machine, error)),
-        Ok(word) => set_or_full(with_number(machine, tables, line, name, word)),
+        Ok(word) => match tables.numbers.store(line, name, word) {
+            None => Err((machine, Error::OutOfMemory)),
+            Some(_) => Ok(machine),
+        },
     }
 }
 
@@ -77,7 +76,10 @@ fn give_string(
         return Err((machine, Error::OutOfStringSpace));
     }
     copy_in(space, used, bytes);
-    set_or_full(with_string(machine, tables, line, name, space, len))
+    set_or_full(
+        machine,
+        with_string(machine, tables, line, name, space, len),
+    )
 }
 
 // The next item is taken, and a variable set to it; past the last is 4.

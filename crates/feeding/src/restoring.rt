@@ -5,7 +5,7 @@ ghost use Rattle.grammar.specs.Trees as tree;
 ghost use Rattle.statements.specs.Statements.{by_word, led_by};
 ghost use Rattle.machine.specs.bridge.Holding.{state_of, position_of, Positioned, Sound};
 ghost use Rattle.machine.specs.declared.records.Record.{Record};
-ghost use Rattle.rows.specs.bridge.Rows.{Tabled, Ordered};
+ghost use Rattle.rows.specs.bridge.Rows.{Tabled};
 ghost use Rattle.turns.specs.Steps.{do_statement};
 ghost use Rattle.turns.specs.bridge.Doing.{Does};
 ghost use Rattle.turns.specs.bridge.Turns.{turn_of, after_of, Turns, AnyRecords, with_feed};
@@ -13,7 +13,7 @@ ghost use Rattle.variables.specs.declared.tables.Tables.{Tables};
 
 use grammar::line_of;
 use machine::{Feed, Machine, Turned};
-use rows::{Rows, line_numbered};
+use rows::{LineTable, line_numbered};
 use scanner::token_at;
 use statements::{Lead, StatementRead, statement_led};
 use turns::{fails, goes_on};
@@ -30,19 +30,18 @@ fn with_feed(machine: Machine, feed: Feed) -> Machine
 
 // The items from a line on; a missing line is 8.
 fn restore_to(
-    rows: &Rows,
+    table: &LineTable,
     number: LineNumber,
     here: Place,
     ahead: Scanned,
     machine: Machine,
 ) -> Turned
-    requires { Ordered rows.now }
-    ensures { (text input space room : List ℕ) (tables : Tables) (at : ℕ) → Tabled text rows.now
+    ensures { (text input space room : List ℕ) (tables : Tables) (at : ℕ) → Tabled text table.now.rows
         → Sound (state_of machine tables) input space room → Positioned text (after_of here ahead)
         → Turns text (state_of machine tables) input space room AnyRecords
         (λ n. do_statement text at (tree.restore_to number) n (position_of text (after_of here ahead))) (turn_of result tables) space room }
 {
-    match line_numbered(rows, number) {
+    match line_numbered(table, number) {
         None => fails(machine, Error::UndefinedLine),
         Some(span) => {
             let place = span.place;
@@ -52,9 +51,14 @@ fn restore_to(
 }
 
 // All items again, or those from a line on.
-pub fn restore(rows: &Rows, line: &[u8], here: Place, from: Scanned, machine: Machine) -> Turned
-    requires { Ordered rows.now }
-    ensures { (text input space room : List ℕ) (tables : Tables) (at : ℕ) (found : Option ℕ) (entry : Record) → Tabled text rows.now
+pub fn restore(
+    table: &LineTable,
+    line: &[u8],
+    here: Place,
+    from: Scanned,
+    machine: Machine,
+) -> Turned
+    ensures { (text input space room : List ℕ) (tables : Tables) (at : ℕ) (found : Option ℕ) (entry : Record) → Tabled text table.now.rows
         → Sound (state_of machine tables) input space room
         → Does text line.now here at (state_of machine tables) found entry input space room (turn_of result tables) space room
         (by_word line.now led.Restore from) }
@@ -62,7 +66,7 @@ pub fn restore(rows: &Rows, line: &[u8], here: Place, from: Scanned, machine: Ma
     let token = from.token;
     match line_of(token) {
         None => goes_on(with_feed(machine, Feed::from_line(Place(0))), here, from),
-        Some(number) => restore_to(rows, number, here, token_at(line, from.next), machine),
+        Some(number) => restore_to(table, number, here, token_at(line, from.next), machine),
     }
 }
 

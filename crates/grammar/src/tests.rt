@@ -68,12 +68,9 @@ fn operator_of(token: Token) -> Option<Operator>
 pub fn tight_operator(level: u8, token: Token) -> Option<Operator>
     ensures { result ≡ tight_operator level token }
 {
-    let found = operator_of(token);
-    let Some(operator) = found else {
-        return None;
-    };
+    let operator = operator_of(token)?;
     if level_of(operator) < level {
         return None;
     }
-    found
+    Some(operator)
 }

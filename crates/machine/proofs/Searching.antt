@@ -24,30 +24,25 @@ use Rattle.machine.specs.bridge.Wanted.{is_sought, found_in, entry_at, FoundAt, 
 use Rattle.machine.specs.bridge.Seeking.{Wish, nothing, call, loop, loop_of, while_at, while_of, test_of, by_slot, sought_for}
 use Rattle.machine.specs.declared.records.Record.{Record}
 use Rattle.machine.specs.declared.records.Sought.{Sought}
+use Rattle.machine.specs.declared.records.Sought.TheVariants as asked
 use Rattle.machine.proofs.Stacking.{by_kind, record_kept, records_kept}
 use Rattle.machine.proofs.Standing.{begins_at, part_place}
 
 -- ---- the code's search
 
--- who asks for nothing is answered by no record,
-none_sought : (k : Sought) (e : Record) → k.kind ≡ 0 → is_sought k e ≡ false
-none_sought k e z = by_test (counts e) (λ f. rw (z, f)) (λ f. rw (z, f))
-
--- and finds nothing
-pub nothing_found : (k : Sought) (rs : List Record) (d : ℕ) → k.kind ≡ 0 → None ≡ found_in k rs d
+-- who asks for nothing finds nothing
+pub nothing_found : (rs : List Record) (d : ℕ) → None ≡ found_in asked.Nothing rs d
 unfolding found_in
-nothing_found k rs zero z = refl
-nothing_found k rs (suc d) z =
-    let x = get_or rs d blank_record in
-    by_test (passes x) (λ f. rw (none_sought k x z, f) (nothing_found k rs d z)) (λ f. rw (none_sought k x z, f))
+nothing_found rs zero = refl
+nothing_found rs (suc d) = by_test (passes (get_or rs d blank_record)) (λ f. rw f (nothing_found rs d)) (λ f. rw f)
 
 not_found : {P : Type 0} {i : ℕ} → None ≡ Some i → P
 not_found e = never (cc)
 
 -- a record that is no FOR's is no loop's
 no_loop : (numbers : ℕ) (x : Option ℕ) (e : Record) → counts e ≡ false → false ≡ is_sought (by_slot numbers x) e
-no_loop numbers None e f = rw f
-no_loop numbers (Some i) e f = by_test (ltb i numbers) (λ t. rw (t, f)) (λ t. rw (t, f))
+no_loop numbers None e f = refl
+no_loop numbers (Some i) e f = by_test (ltb i numbers) (λ t. rw (t, f)) (λ t. rw t)
 
 -- ---- as the definition makes it
 
@@ -116,21 +111,21 @@ module _ (text names : List ℕ) (numbers : ℕ) (few : numbers ≤ most_variabl
         (λ t. rw t (other (Some i) q (λ z. let s : i ≡ e.slot = cc in eqb-false e.slot i t (sym s))))
 
     same_loop : (x : Option ℕ) → slot_in names name ≡ x → counts e ≡ true → alike (name_at names e.slot) name ≡ is_sought (by_slot numbers x) e
-    same_loop None q f = rw f (other None q (λ z. not_at z))
+    same_loop None q f = other None q (λ z. not_at z)
     same_loop (Some i) q f =
         by_test (ltb i numbers) (λ t. rw (t, f) (slot_is i q))
-        (λ t. rw (t, f) (other (Some i) q (λ z. let s : i ≡ e.slot = cc in absurd (omega (arith, ltb-false i numbers t)))))
+        (λ t. rw t (other (Some i) q (λ z. let s : i ≡ e.slot = cc in absurd (omega (arith, ltb-false i numbers t)))))
 
   -- its test on a record is the code's
   same_test : (w : Wish) (e : Record) → Placed text numbers e → test_of w (record_of text names e) ≡ is_sought (sought_for names numbers w) e
-  same_test nothing e h = by_test (counts e) (λ f. rw f) (λ f. rw f)
+  same_test nothing e h = refl
   same_test call e h = same_end text names e
   same_test loop e h = by_kind e (λ f. rw f) (λ f g. rw (f, g)) (λ f g. rw (f, g))
   same_test (loop_of name) e h =
       by_kind e
-      (λ f. rw f (rw f at (same_loop name e (h.known f) (slot_in names name) refl f)))
-      (λ f g. rw (f, g) (rw (f, g) at (no_loop numbers (slot_in names name) e f)))
-      (λ f g. rw (f, g) (rw (f, g) at (no_loop numbers (slot_in names name) e f)))
+      (λ f. rw f (same_loop name e (h.known f) (slot_in names name) refl f))
+      (λ f g. rw (f, g) (no_loop numbers (slot_in names name) e f))
+      (λ f g. rw (f, g) (no_loop numbers (slot_in names name) e f))
   same_test (while_at line at) e h =
       by_kind e (λ f. rw (f, no_while e f)) (λ f g. rw (f, g) (own_place h g line at)) (λ f g. rw (f, g))
   same_test (while_of line at) e h =

@@ -22,7 +22,7 @@ use Rattle.statements.proofs.Findings.{by_name, by_line}
 use Rattle.statements.proofs.Views.{Final, plain, thens, elses, more_view, final_view}
 use Rattle.statements.proofs.Ways.{if_so, by_assign, by_items, by_condition, by_for, by_repeat, by_data, by_read, by_input}
 use Rattle.machine.specs.declared.records.Sought.{Sought}
-use Rattle.machine.specs.bridge.Wanted as sought
+use Rattle.machine.specs.declared.records.Sought.TheVariants as sought
 use Rattle.machine.specs.bridge.Seeking.{wish_of, sought_for, loop_sought, Seeks, sought_loop}
 use Rattle.machine.proofs.Tokens.{word_tag, by_named}
 

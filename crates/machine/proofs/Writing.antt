@@ -1,6 +1,8 @@
 -- What is printed: the column after some bytes, and the room that they are written to.
+use Rattle.std.specs.Prelude.{Option, Some, None}
+use Rattle.std.specs.Option.{unwrap_or}
 use mathlib.Core.Path.{◌≡◌, refl, ap, subst, ◌∙◌}
-use mathlib.Core.Bool.{true, false, cond}
+use mathlib.Core.Bool.{cond}
 use mathlib.Core.List.{List, [], ◌∷◌}
 use Prim.Native.Nat.{ℕ, zero, suc, ◌+◌, ◌≤◌, ◌<◌}
 use native.Mathlib.Numerals.{add-one}
@@ -20,7 +22,6 @@ use Rattle.machine.specs.Machine as spec
 use Rattle.machine.specs.Machine.{column_after, full, printed, with_output}
 use Rattle.machine.specs.bridge.Holding.{printed_as, Fitting}
 use Rattle.machine.specs.declared.state.Printer.{Printer}
-use Rattle.machine.specs.declared.printing.Printed.{Printed}
 
 -- ---- the column
 
@@ -58,28 +59,30 @@ take-replicate b (suc n) (suc m) h = ap (◌∷◌ b) (take-replicate b n m (ome
 
 -- ---- what is printed
 
+-- what holds of any printer that is answered, and where none is, holds
+pub by_printed : (P : Option Printer → Type 0) (o : Option Printer) → ((q : Printer) → o ≡ Some q → P (Some q)) → (o ≡ None → P None) → P o
+by_printed P (Some q) y n = y q refl
+by_printed P None y n = n refl
+
 module _ (p : Printer) (room bytes : List ℕ) where
   -- where there is no room, nothing,
-  pub printed_full : length room < p.written + length bytes → record { ok = false; printer = p } ≡ printed_as p (length room) bytes
+  pub printed_full : length room < p.written + length bytes → None ≡ printed_as p (length room) bytes
   printed_full h = rw (lt-leb _ _ h)
 
   -- and otherwise all
   pub printed_all : p.written + length bytes ≤ length room
-      → record { ok = true; printer = record { column = column_after p.column bytes; written = p.written + length bytes } }
+      → Some (record { column = column_after p.column bytes; written = p.written + length bytes })
       ≡ printed_as p (length room) bytes
   printed_all h = rw (le-leb _ _ h)
 
   -- the answer tells which
-  pub not_printed : (printed_as p (length room) bytes).ok ≡ false → length room < p.written + length bytes
+  pub not_printed : printed_as p (length room) bytes ≡ None → length room < p.written + length bytes
   not_printed e =
-      by_bound (p.written + length bytes) (length room)
-      (λ h. let z : true ≡ false = ap (λ (x : Printed). x.ok) (printed_all h) ∙ e in never (cc))
-      (λ h. h)
+      by_bound (p.written + length bytes) (length room) (λ h. let z = printed_all h ∙ e in never (cc)) (λ h. h)
 
-  pub is_printed : (printed_as p (length room) bytes).ok ≡ true → p.written + length bytes ≤ length room
+  pub is_printed : {q : Printer} → printed_as p (length room) bytes ≡ Some q → p.written + length bytes ≤ length room
   is_printed e =
-      by_bound (p.written + length bytes) (length room) (λ h. h)
-      (λ h. let z : false ≡ true = ap (λ (x : Printed). x.ok) (printed_full h) ∙ e in never (cc))
+      by_bound (p.written + length bytes) (length room) (λ h. h) (λ h. let z = printed_full h ∙ e in never (cc))
 
 -- the room and the printer afterwards
 module _ {p : Printer} {room : List ℕ} (fit : Fitting p room) (bytes : List ℕ) where
@@ -87,29 +90,29 @@ module _ {p : Printer} {room : List ℕ} (fit : Fitting p room) (bytes : List �
   either : (P : Printer → Type 0)
       → (p.written + length bytes ≤ length room → P (record { column = column_after p.column bytes; written = p.written + length bytes }))
       → (length room < p.written + length bytes → P p)
-      → P (printed_as p (length room) bytes).printer
+      → P (unwrap_or (printed_as p (length room) bytes) p)
   either P y n =
       by_bound (p.written + length bytes) (length room)
-      (λ h. subst P (ap (λ (x : Printed). x.printer) (printed_all p room bytes h)) (y h))
-      (λ h. subst P (ap (λ (x : Printed). x.printer) (printed_full p room bytes h)) (n h))
+      (λ h. subst P (ap (λ (x : Option Printer). unwrap_or x p) (printed_all p room bytes h)) (y h))
+      (λ h. subst P (ap (λ (x : Option Printer). unwrap_or x p) (printed_full p room bytes h)) (n h))
 
   -- the room is as long as it was
   pub room_length : length (copied room p.written bytes) ≡ length room
   room_length = copied-length room p.written bytes
 
   -- no less of it is written
-  pub written_grows : p.written ≤ (printed_as p (length room) bytes).printer.written
+  pub written_grows : p.written ≤ (unwrap_or (printed_as p (length room) bytes) p).written
   written_grows = either (λ q. p.written ≤ q.written) (λ h. omega arith) (λ h. omega arith)
 
   -- what stands above what is written is kept
-  pub room_above : drop (printed_as p (length room) bytes).printer.written (copied room p.written bytes)
-      ≡ drop (printed_as p (length room) bytes).printer.written room
+  pub room_above : drop (unwrap_or (printed_as p (length room) bytes) p).written (copied room p.written bytes)
+      ≡ drop (unwrap_or (printed_as p (length room) bytes) p).written room
   room_above =
       either (λ q. drop q.written (copied room p.written bytes) ≡ drop q.written room)
       (λ h. copied_above room p.written bytes (p.written + length bytes) (omega arith))
       (λ h. rw (copied_past room p.written bytes h))
 
-  pub fitting_after : Fitting (printed_as p (length room) bytes).printer (copied room p.written bytes)
+  pub fitting_after : Fitting (unwrap_or (printed_as p (length room) bytes) p) (copied room p.written bytes)
   fitting_after =
       let l = room_length in
       either (λ q. Fitting q (copied room p.written bytes))
@@ -123,22 +126,22 @@ module _ {p : Printer} {room : List ℕ} (fit : Fitting p room) (bytes : List �
     wrote : length n.output ≡ p.written
     wrote = ap length output ∙ length-take-le p.written room fit.within
 
-    pub write-full : (printed_as p (length room) bytes).ok ≡ false → spec.write n bytes ≡ full
+    pub write-full : printed_as p (length room) bytes ≡ None → spec.write n bytes ≡ full
     unfolding spec.write
     write-full e =
         let w = wrote in let h = not_printed p room bytes e in
         rw (lt-ltb n.output_room (length n.output + length bytes) (omega arith))
 
-    pub write-printed : (printed_as p (length room) bytes).ok ≡ true
-        → spec.write n bytes
-        ≡ printed (with_output n (take (printed_as p (length room) bytes).printer.written (copied room p.written bytes))
-        (printed_as p (length room) bytes).printer.column)
+    pub write-printed : {q : Printer} → printed_as p (length room) bytes ≡ Some q
+        → spec.write n bytes ≡ printed (with_output n (take q.written (copied room p.written bytes)) q.column)
     unfolding spec.write
-    write-printed e =
+    write-printed {q} e =
         let w = wrote in let h = is_printed p room bytes e in
+        let after : record { column = column_after p.column bytes; written = p.written + length bytes } ≡ q =
+        ap (λ (o : Option Printer). unwrap_or o p) (printed_all p room bytes h ∙ e) in
         rw (
           le-ltb n.output_room (length n.output + length bytes) (omega arith),
-          le-leb _ _ h,
+          ← after,
           copied_lies room p.written bytes h,
           overlaid_front room p.written bytes fit.within,
           output,

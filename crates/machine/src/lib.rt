@@ -11,7 +11,7 @@ mod taking;
 
 pub use loops::passed;
 pub use positions::{Next, Position, Turned};
-pub use printing::{Printed, write, write_comma};
+pub use printing::{write, write_comma};
 pub use records::{Record, Sought, is_sought, passes};
 pub use sought::sought_record;
 pub use state::{Feed, Machine, Printer};

@@ -8,12 +8,6 @@ ghost use Rattle.whole.specs.Bytes.{blank};
 use crate::state::Printer;
 use space::{Offset, copy_in};
 
-#[derive(Clone, Copy)]
-pub struct Printed {
-    pub ok: bool,
-    pub printer: Printer,
-}
-
 const LINE_FEED: u8 = 10;
 
 const BLANKS: [u8; 14] = [b' '; 14];
@@ -24,41 +18,35 @@ fn column_after(column: usize, bytes: &[u8]) -> usize
     ensures { result ≡ column_after column bytes.now }
 {
     let mut count = column;
-    let mut i = 0;
-    while i < bytes.len() {
-        if bytes[i] == LINE_FEED {
+    for byte in bytes {
+        if *byte == LINE_FEED {
             count = 0;
         } else {
             count += 1;
         }
-        i += 1;
     }
     count
 }
 
-// If there is no room for all bytes, none is written.
-pub fn write(printer: Printer, room: &mut [u8], bytes: &[u8]) -> Printed
+// The printer after the bytes. If there is no room for all, none is written, and the printer before stands.
+pub fn write(printer: Printer, room: &mut [u8], bytes: &[u8]) -> Option<Printer>
     requires { Fitting printer room.old }
     ensures { (result ≡ printed_as printer (length room.old) bytes.now)
         × (room.new ≡ copied room.old printer.written bytes.now) }
 {
     let at = printer.written;
     if room.len() - at < bytes.len() {
-        return Printed { ok: false, printer };
+        return None;
     }
     copy_in(room, Offset(at), bytes);
-    let next = Printer {
+    Some(Printer {
         column: column_after(printer.column, bytes),
         written: at + bytes.len(),
-    };
-    Printed {
-        ok: true,
-        printer: next,
-    }
+    })
 }
 
 // A comma gives 14 minus (column mod 14) blanks.
-pub fn write_comma(printer: Printer, room: &mut [u8]) -> Printed
+pub fn write_comma(printer: Printer, room: &mut [u8]) -> Option<Printer>
     requires { Fitting printer room.old }
     ensures { (result ≡ printed_as printer (length room.old) (replicate (14 - printer.column % 14) blank))
         × (room.new ≡ copied room.old printer.written (replicate (14 - printer.column % 14) blank)) }

@@ -1,7 +1,7 @@
 // The records that FOR, GOSUB and WHILE leave, the topmost last.
 ghost use Rattle.std.specs.Prelude.{◌≡◌};
 ghost use Rattle.machine.specs.bridge.Holding.{blank_record, back_of, over_number, call_record, loop_record, while_record, passes};
-ghost use Rattle.machine.specs.bridge.Wanted.{LoopOf, WhileAt, WhileOf, is_there, is_while_sought, is_loop_sought, is_sought};
+ghost use Rattle.machine.specs.bridge.Wanted.{is_sought};
 
 use crate::positions::Position;
 use words::Place;
@@ -25,84 +25,16 @@ pub struct Record {
     pub close: usize,
 }
 
-// The record that a statement asks for, by its kind: none, the nearest GOSUB's, the topmost loop's, or that of the loop of the variable
-// at an entry.
-#[derive(Clone, Copy)]
-pub struct Sought {
-    pub kind: u8,
-    pub slot: usize,
-    pub line: Place,
-    pub at: Place,
-}
-
-impl Sought {
-    pub const NONE: u8 = 0;
-
-    const NEAREST_CALL: u8 = 1;
-
-    const ANY_LOOP: u8 = 2;
-
-    const NAMED_LOOP: u8 = 3;
-
-    const WHILE_AT: u8 = 4;
-
-    const WHILE_OF: u8 = 5;
-
-    pub const NOTHING: Sought = Sought {
-        kind: Sought::NONE,
-        slot: 0,
-        line: Place(0),
-        at: Place(0),
-    };
-
-    pub const CALL: Sought = Sought {
-        kind: Sought::NEAREST_CALL,
-        slot: 0,
-        line: Place(0),
-        at: Place(0),
-    };
-
-    pub const LOOP: Sought = Sought {
-        kind: Sought::ANY_LOOP,
-        slot: 0,
-        line: Place(0),
-        at: Place(0),
-    };
-
-    pub fn loop_of(slot: usize) -> Sought
-        ensures { result ≡ LoopOf slot }
-    {
-        Sought {
-            kind: Sought::NAMED_LOOP,
-            slot,
-            line: Place(0),
-            at: Place(0),
-        }
-    }
-
-    // The WHILE that stands at a place of the line that begins at another.
-    pub fn while_at(line: Place, at: Place) -> Sought
-        ensures { result ≡ WhileAt line at }
-    {
-        Sought {
-            kind: Sought::WHILE_AT,
-            slot: 0,
-            line,
-            at,
-        }
-    }
-
-    // The WHILE whose WEND stands there.
-    pub fn while_of(line: Place, at: Place) -> Sought
-        ensures { result ≡ WhileOf line at }
-    {
-        Sought {
-            kind: Sought::WHILE_OF,
-            slot: 0,
-            line,
-            at,
-        }
-    }
+// The record that a statement asks for: none, the nearest GOSUB's, the topmost FOR's, that of the loop of the variable at an entry, that of
+// the WHILE at a place of the line that begins at another, or that of the WHILE whose WEND stands there.
+#[derive(Clone, Copy, PartialEq, Eq)]
+pub enum Sought {
+    Nothing,
+    Call,
+    Loop,
+    LoopOf(usize),
+    WhileAt(Place, Place),
+    WhileOf(Place, Place),
 }
 
 impl Record {
@@ -218,54 +150,20 @@ pub fn passes(entry: Record) -> bool
     entry.kind == Record::REPEAT
 }
 
-// Whether a place of a line is the one that is asked for.
-fn is_there(line: usize, at: usize, sought: Sought) -> bool
-    ensures { result ≡ is_there line at sought }
-{
-    if line != sought.line.0 {
-        return false;
-    }
-    at == sought.at.0
-}
-
-// Whether it is a WHILE's that is asked for by its own place, or by that of its WEND.
-fn is_while(sought: Sought, entry: Record) -> bool
-    ensures { result ≡ is_while_sought sought entry }
-{
-    if entry.kind != Record::REPEAT {
-        return false;
-    }
-    if sought.kind == Sought::WHILE_AT {
-        return is_there(entry.line, entry.at, sought);
-    }
-    is_there(entry.ending, entry.close, sought)
-}
-
-// Whether it is a FOR's that is asked for, any or that of a variable.
-fn is_loop(sought: Sought, entry: Record) -> bool
-    ensures { result ≡ is_loop_sought sought entry }
-{
-    if entry.kind != Record::COUNT {
-        return false;
-    }
-    if sought.kind == Sought::ANY_LOOP {
-        return true;
-    }
-    if sought.kind == Sought::NAMED_LOOP {
-        return entry.slot == sought.slot;
-    }
-    false
-}
-
 // Whether a record is the one that is asked for.
 pub fn is_sought(sought: Sought, entry: Record) -> bool
     ensures { result ≡ is_sought sought entry }
 {
-    if sought.kind == Sought::NEAREST_CALL {
-        return !passes(entry);
+    match sought {
+        Sought::Nothing => false,
+        Sought::Call => !passes(entry),
+        Sought::Loop => entry.kind == Record::COUNT,
+        Sought::LoopOf(slot) => entry.kind == Record::COUNT && entry.slot == slot,
+        Sought::WhileAt(line, at) => entry.kind == Record::REPEAT
+            && entry.line == line.0
+            && entry.at == at.0,
+        Sought::WhileOf(line, at) => entry.kind == Record::REPEAT
+            && entry.ending == line.0
+            && entry.close == at.0,
     }
-    if Sought::NAMED_LOOP < sought.kind {
-        return is_while(sought, entry);
-    }
-    is_loop(sought, entry)
 }

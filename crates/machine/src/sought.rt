@@ -20,14 +20,14 @@ pub fn sought_record(
     ensures { Seeks numbers.now.names numbers.now.count here at result (begun_by line.now lead) }
 {
     match lead {
-        None => Sought::NOTHING,
+        None => Sought::Nothing,
         Some(lead) => match lead.word {
-            Word::Return => Sought::CALL,
+            Word::Return => Sought::Call,
             Word::For => sought_loop(line, lead.ahead, numbers),
             Word::Next => sought_loop(line, lead.ahead, numbers),
-            Word::While => Sought::while_at(here, at),
-            Word::Wend => Sought::while_of(here, at),
-            _ => Sought::NOTHING,
+            Word::While => Sought::WhileAt(here, at),
+            Word::Wend => Sought::WhileOf(here, at),
+            _ => Sought::Nothing,
         },
     }
 }
@@ -38,7 +38,7 @@ fn sought_loop(line: &[u8], target: Scanned, numbers: &Numbers) -> Sought
     let token = target.token;
     match token {
         Token::Named(name) => loop_of(line, name, numbers),
-        _ => Sought::LOOP,
+        _ => Sought::Loop,
     }
 }
 
@@ -47,11 +47,11 @@ fn loop_of(line: &[u8], name: Name, numbers: &Numbers) -> Sought
     ensures { result ≡ loop_sought numbers.now.names numbers.now.count (telling_of (name_bytes line.now name)) }
 {
     match slot_of(&numbers.names, line, name) {
-        None => Sought::NOTHING,
+        None => Sought::Nothing,
         Some(slot) => if slot < numbers.count {
-            Sought::loop_of(slot)
+            Sought::LoopOf(slot)
         } else {
-            Sought::NOTHING
+            Sought::Nothing
         },
     }
 }

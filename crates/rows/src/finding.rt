@@ -2,9 +2,10 @@
 ghost use Rattle.std.specs.Prelude.{◌≡◌, List, [], ℕ, ◌<◌, ◌≤◌, length, get_or};
 ghost use Rattle.loader.specs.Lines.{find_line};
 ghost use Rattle.loader.specs.Loading.{most_lines};
-ghost use Rattle.rows.specs.bridge.Rows.{width, count_of, cell, Rises, Finds, Ordered, Tabled};
+ghost use Rattle.rows.specs.bridge.Rows.{width, count_of, cell, Rises, Finds, Tabled};
 
 use crate::cells::{Row, Rows, count_of};
+use crate::table::LineTable;
 use crate::telling::span_in;
 use loader::LineSpan;
 use words::{LineNumber, Place};
@@ -31,18 +32,16 @@ pub(crate) fn row_with(rows: &Rows, column: usize, wanted: usize) -> Option<Row>
 }
 
 // The line with a number.
-pub fn line_numbered(rows: &Rows, number: LineNumber) -> Option<LineSpan>
-    requires { Ordered rows.now }
-    ensures { (text : List ℕ) → Tabled text rows.now → result ≡ find_line text number }
+pub fn line_numbered(table: &LineTable, number: LineNumber) -> Option<LineSpan>
+    ensures { (text : List ℕ) → Tabled text table.now.rows → result ≡ find_line text number }
 {
-    let row = row_with(rows, Row::NUMBER, usize::from(number.0))?;
-    Some(span_in(rows, row))
+    let row = row_with(&table.rows, Row::NUMBER, usize::from(number.0))?;
+    Some(span_in(&table.rows, row))
 }
 
 // The row of the line that begins at a place.
-pub fn row_at(rows: &Rows, place: Place) -> Option<Row>
-    requires { Ordered rows.now }
-    ensures { Finds rows.now 1 place.0 result }
+pub fn row_at(table: &LineTable, place: Place) -> Option<Row>
+    ensures { Finds table.now.rows 1 place.0 result }
 {
-    row_with(rows, Row::PLACE, place.0)
+    row_with(&table.rows, Row::PLACE, place.0)
 }

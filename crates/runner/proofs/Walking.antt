@@ -13,8 +13,7 @@ use Rattle.whole.proofs.Numbers.{less}
 use Rattle.words.proofs.Choices.{by_test}
 use Rattle.space.specs.Moves.{cleared}
 use Rattle.loader.specs.Lines.{lines_of}
-use Rattle.rows.specs.bridge.Rows.{Ordered, Tabled}
-use Rattle.rows.proofs.Ordering.{ordered}
+use Rattle.rows.specs.bridge.Rows.{Tabled}
 use Rattle.variables.specs.Strings.{longest_space}
 use Rattle.variables.specs.declared.tables.Tables.{Tables}
 use Rattle.machine.specs.Machine.{lent_by, most_records}
@@ -48,8 +47,8 @@ module _ (text rows input : List ℕ) (budget : ℕ) (space room : List ℕ) (st
 
   module _ (g : Going) (tb : Tables) (sp rm : List ℕ) (st : List Record) (k : Keeps text rows input budget space room stack g tb sp rm st) where
     -- its end
-    pub keeps_told : Ordered rows × Rowed rows g.standing
-    keeps_told = (ordered k.tabled, k.kept.rowed)
+    pub keeps_told : Rowed rows g.standing
+    keeps_told = k.kept.rowed
 
     pub keeps_over : length st ≡ length stack → goes_of g.standing g.machine.steps budget ≡ false → (done : Done) (sp' : List ℕ) (st' : List Record)
         → (done ≡ done_as (outcome_of rows g.standing) g.machine) × (sp' ≡ cleared sp g.machine.used.0) → st' ≡ replicate (length st) blank_record

@@ -2,7 +2,6 @@
 ghost use Rattle.std.specs.Prelude.{◌≡◌};
 ghost use Rattle.space.specs.Moves.{cleared};
 ghost use Rattle.loader.specs.Lines.{lines_of};
-ghost use Rattle.rows.specs.bridge.Rows.{Ordered};
 ghost use Rattle.machine.specs.bridge.Holding.{fresh_machine, state_of};
 ghost use Rattle.runner.specs.Run as run;
 ghost use Rattle.runner.specs.bridge.Standings.{Rowed, StandsIn};
@@ -12,7 +11,7 @@ ghost use Rattle.runner.specs.bridge.Endings.{outcome_of, done_as};
 use crate::running::{Done, Outcome};
 use crate::standing::{Standing, entered, following};
 use machine::{Machine, Record, Sought, sought_record};
-use rows::{Row, Rows, number_in, span_in};
+use rows::{LineTable, Row, number_in, span_in};
 use statements::{Lead, lead_at};
 use steps::do_statement;
 use variables::{Numbers, Tables, clean_up};
@@ -46,13 +45,12 @@ pub struct Acted {
 }
 
 // The run at its first line.
-pub(crate) fn begins(rows: &Rows, records: usize) -> Going
-    requires { Ordered rows.now }
+pub(crate) fn begins(table: &LineTable, records: usize) -> Going
     ensures { (result.machine ≡ fresh_machine records)
-        × StandsIn rows.now result.standing (λ text. Unit {0}) (λ text m. run.entering m (lines_of text)) }
+        × StandsIn table.now.rows result.standing (λ text. Unit {0}) (λ text m. run.entering m (lines_of text)) }
 {
     let machine = Machine::fresh(records);
-    let standing = entered(rows, Row(0));
+    let standing = entered(table, Row(0));
     Going { machine, standing }
 }
 
@@ -64,17 +62,17 @@ pub(crate) fn goes(going: Going, budget: u32) -> bool
 }
 
 // What the statement asks for.
-pub(crate) fn asks(text: &[u8], rows: &Rows, going: Going, numbers: &Numbers) -> Asked
-    requires { StandsAt text.now rows.now going.standing }
-    ensures { AsksAt text.now rows.now numbers.now going.standing result }
+pub(crate) fn asks(text: &[u8], table: &LineTable, going: Going, numbers: &Numbers) -> Asked
+    requires { StandsAt text.now table.now.rows going.standing }
+    ensures { AsksAt text.now table.now.rows numbers.now going.standing result }
 {
     let Standing::At(row, at) = going.standing else {
         return Asked {
             lead: None,
-            sought: Sought::NOTHING,
+            sought: Sought::Nothing,
         };
     };
-    let span = span_in(rows, row);
+    let span = span_in(&table.rows, row);
     let line = &text[span.body.0..span.end.0];
     let lead = lead_at(line, at, true);
     let sought = sought_record(line, span.place, at, lead, numbers);
@@ -84,7 +82,7 @@ pub(crate) fn asks(text: &[u8], rows: &Rows, going: Going, numbers: &Numbers) ->
 // The statement is done, and counts one step when begun.
 pub(crate) fn act(
     text: &[u8],
-    rows: &Rows,
+    table: &LineTable,
     going: Going,
     tables: &mut Tables,
     asked: Asked,
@@ -93,10 +91,10 @@ pub(crate) fn act(
     space: &mut [u8],
     room: &mut [u8],
 ) -> Acted
-    requires { StandsAt text.now rows.now going.standing
-        × (AsksAt text.now rows.now tables.old.numbers going.standing asked
+    requires { StandsAt text.now table.now.rows going.standing
+        × (AsksAt text.now table.now.rows tables.old.numbers going.standing asked
         × Ready text.now (state_of going.machine tables.old) lookup input.now space.old room.old) }
-    ensures { ActsAt text.now rows.now going.standing (state_of going.machine tables.old) asked lookup input.now space.old room.old result
+    ensures { ActsAt text.now table.now.rows going.standing (state_of going.machine tables.old) asked lookup input.now space.old room.old result
         (state_of result.going.machine tables.new) space.new room.new }
 {
     let Standing::At(row, at) = going.standing else {
@@ -106,12 +104,12 @@ pub(crate) fn act(
             held: Record::blank(),
         };
     };
-    let span = span_in(rows, row);
+    let span = span_in(&table.rows, row);
     let mut begun = going.machine;
     begun.steps += 1;
     let turned = do_statement(
         text,
-        rows,
+        table,
         &text[span.body.0..span.end.0],
         span.place,
         at,
@@ -124,7 +122,7 @@ pub(crate) fn act(
         space,
         room,
     );
-    let standing = following(rows, row, turned.next);
+    let standing = following(table, row, turned.next);
     Acted {
         going: Going {
             machine: turned.machine,
@@ -136,24 +134,24 @@ pub(crate) fn act(
 }
 
 // How a run ends that makes no further step.
-fn outcome_of(rows: &Rows, standing: Standing) -> Outcome
-    requires { Ordered rows.now × Rowed rows.now standing }
-    ensures { result ≡ outcome_of rows.now standing }
+fn outcome_of(table: &LineTable, standing: Standing) -> Outcome
+    requires { Rowed table.now.rows standing }
+    ensures { result ≡ outcome_of table.now.rows standing }
 {
     match standing {
         Standing::Over(outcome) => outcome,
-        Standing::At(row, _) => Outcome::Out(number_in(rows, row)),
+        Standing::At(row, _) => Outcome::Out(number_in(&table.rows, row)),
     }
 }
 
 // What it answers: the strings' bytes are left in the space, and zeros after them.
-pub(crate) fn told(rows: &Rows, going: Going, space: &mut [u8]) -> Done
-    requires { Ordered rows.now × Rowed rows.now going.standing }
-    ensures { (result ≡ done_as (outcome_of rows.now going.standing) going.machine)
+pub(crate) fn told(table: &LineTable, going: Going, space: &mut [u8]) -> Done
+    requires { Rowed table.now.rows going.standing }
+    ensures { (result ≡ done_as (outcome_of table.now.rows going.standing) going.machine)
         × (space.new ≡ cleared space.old going.machine.used.0) }
 {
     let machine = going.machine;
-    let outcome = outcome_of(rows, going.standing);
+    let outcome = outcome_of(table, going.standing);
     clean_up(space, machine.used);
     Done {
         outcome,

@@ -11,7 +11,7 @@ use crate::going::{Going, Lookup, act, asks, begins, goes, told};
 use crate::running::{Done, Ran, admits, refused};
 use index::rows_by;
 use machine::{Machine, Record, Sought};
-use rows::{Row, Rows};
+use rows::{LineTable, Row};
 use variables::Tables;
 
 // The record that is asked for, among the first so many.
@@ -29,7 +29,7 @@ fn look_up(stack: &[Record], depth: usize, sought: Sought) -> Lookup
 // One statement: the record that it asks for is looked up before it, and the one that it leaves is written after it.
 pub(crate) fn step(
     text: &[u8],
-    rows: &Rows,
+    table: &LineTable,
     tables: &mut Tables,
     input: &[u8],
     space: &mut [u8],
@@ -37,13 +37,15 @@ pub(crate) fn step(
     stack: &mut [Record],
     going: Going,
 ) -> Going
-    requires { Awaits text.now rows.now input.now going.standing (state_of going.machine tables.old) space.old room.old }
-    ensures { StepsAs text.now rows.now input.now going.standing (state_of going.machine tables.old) space.old room.old stack.old
+    requires { Awaits text.now table.now.rows input.now going.standing (state_of going.machine tables.old) space.old room.old }
+    ensures { StepsAs text.now table.now.rows input.now going.standing (state_of going.machine tables.old) space.old room.old stack.old
         result (state_of result.machine tables.new) space.new room.new stack.new }
 {
-    let asked = asks(text, rows, going, &tables.numbers);
+    let asked = asks(text, table, going, &tables.numbers);
     let lookup = look_up(stack, going.machine.depth, asked.sought);
-    let acted = act(text, rows, going, tables, asked, lookup, input, space, room);
+    let acted = act(
+        text, table, going, tables, asked, lookup, input, space, room,
+    );
     stack::put(stack, acted.slot, acted.held);
     acted.going
 }
@@ -51,7 +53,7 @@ pub(crate) fn step(
 // A run of a text that loads, by the table of its lines.
 pub(crate) fn run_loaded(
     text: &[u8],
-    rows: &Rows,
+    table: &LineTable,
     tables: &mut Tables,
     input: &[u8],
     space: &mut [u8],
@@ -59,16 +61,16 @@ pub(crate) fn run_loaded(
     stack: &mut [Record],
     budget: u32,
 ) -> Done
-    requires { Loadable text.now rows.now tables.old space.old stack.old }
+    requires { Loadable text.now table.now.rows tables.old space.old stack.old }
     ensures { LoadedAs (run_in text.now input.now (lent_by space.old room.old (length stack.old)) budget) space.old room.old stack.old
         (ran_of result tables.new) space.new room.new stack.new }
 {
-    let mut going = begins(rows, stack.len());
+    let mut going = begins(table, stack.len());
     while goes(going, budget) {
-        going = step(text, rows, tables, input, space, room, stack, going);
+        going = step(text, table, tables, input, space, room, stack, going);
     }
     stack::wipe(stack);
-    told(rows, going, space)
+    told(table, going, space)
 }
 
 // The tables are blank at first, and those of the lines are made.
@@ -87,9 +89,11 @@ pub(crate) fn run_fine(
         (ran_of result tables.new) space.new room.new stack.new }
 {
     *tables = Tables::empty();
-    let mut rows = [0; Row::CELLS];
-    rows_by(text, index, &mut rows);
-    run_loaded(text, &rows, tables, input, space, room, stack, budget)
+    let mut table = LineTable {
+        rows: [0; Row::CELLS],
+    };
+    rows_by(text, index, &mut table.rows);
+    run_loaded(text, &table, tables, input, space, room, stack, budget)
 }
 
 // A run over tables that are lent, whatever they hold: a refusal leaves them as they were. No index changes its answer.

@@ -6,14 +6,12 @@ use mathlib.Core.Bool.{Bool, true, false, cond}
 use mathlib.Core.List.{List}
 use native.Mathlib.Numerals.{unary_clauses}
 use native.Mathlib.Omega.{arith}
-use borrow.Author.Tests.{eqb-true}
-use lib.Dec.{eqb}
 use lib.ListN.{get_or}
-use Rattle.words.proofs.Choices.{by_test}
 use Rattle.machine.specs.bridge.Holding.{blank_record, passes}
 use Rattle.machine.specs.bridge.Wanted.{is_sought, found_in}
 use Rattle.machine.specs.declared.records.Record.{Record}
 use Rattle.machine.specs.declared.records.Sought.{Sought}
+use Rattle.machine.specs.declared.records.Sought.TheVariants as sought
 use Rattle.machine.proofs.Searching.{nothing_found}
 use Rattle.stack.specs.declared.seeking.Seek.{Seek}
 use Rattle.stack.specs.bridge.Seeking.{seeking, seek_from, look_of}
@@ -23,24 +21,27 @@ pub record Good (ys : List Record) (k : Sought) (F : Option ℕ) (s : Seek) : Ty
   pub over : s.left ≡ 0 → s.found ≡ F
   pub more : 0 < s.left → found_in k ys s.left ≡ F
 
-module _ (ys : List Record) (k : Sought) (F : Option ℕ) where
-  goes : (n : ℕ) → found_in k ys n ≡ F → Good ys k F (seeking n None)
+module _ (ys : List Record) (F : Option ℕ) where
+  goes : (k : Sought) (n : ℕ) → found_in k ys n ≡ F → Good ys k F (seeking n None)
   unfolding found_in
-  goes n e = record { over = λ h. subst (λ (m : ℕ). found_in k ys m ≡ F) h e; more = λ _. e }
+  goes k n e = record { over = λ h. subst (λ (m : ℕ). found_in k ys m ≡ F) h e; more = λ _. e }
 
-  pub start : (n : ℕ) → found_in k ys n ≡ F → Good ys k F (seek_from n k)
+  pub start : (k : Sought) (n : ℕ) → found_in k ys n ≡ F → Good ys k F (seek_from n k)
   unfolding seek_from
-  start n e =
-      by_test (eqb k.kind 0)
-      (λ z. rw z (record { over = λ _. nothing_found k ys n (eqb-true k.kind 0 z) ∙ e; more = λ h. absurd (omega arith) }))
-      (λ z. rw z (goes n e))
+  start sought.Nothing n e = record { over = λ _. nothing_found ys n ∙ e; more = λ h. absurd (omega arith) }
+  start sought.Call n e = goes sought.Call n e
+  start sought.Loop n e = goes sought.Loop n e
+  start (sought.LoopOf slot) n e = goes (sought.LoopOf slot) n e
+  start (sought.WhileAt line at) n e = goes (sought.WhileAt line at) n e
+  start (sought.WhileOf line at) n e = goes (sought.WhileOf line at) n e
 
+module _ (ys : List Record) (k : Sought) (F : Option ℕ) where
   -- a record is looked at
   keeps : (n : ℕ) (b c : Bool) → cond b (Some n) (cond c (found_in k ys n) None) ≡ F
       → Good ys k F (cond b (seeking 0 (Some n)) (cond c (seeking n None) (seeking 0 None)))
       × ((cond b (seeking 0 (Some n)) (cond c (seeking n None) (seeking 0 None))).left < suc n)
   keeps n true c e = (record { over = λ _. e; more = λ h. absurd (omega arith) }, omega arith)
-  keeps n false true e = (goes n e, omega arith)
+  keeps n false true e = (goes ys F k n e, omega arith)
   keeps n false false e = (record { over = λ _. e; more = λ h. absurd (omega arith) }, omega arith)
 
   looks : (n : ℕ) (f : Option ℕ) → 0 < n → found_in k ys n ≡ F

@@ -18,16 +18,11 @@ pub struct Seek {
 pub(crate) fn seek_from(depth: usize, sought: Sought) -> Seek
     ensures { result ≡ seek_from depth sought }
 {
-    if sought.kind == Sought::NONE {
-        return Seek {
-            left: 0,
-            found: None,
-        };
-    }
-    Seek {
-        left: depth,
-        found: None,
-    }
+    let left = match sought {
+        Sought::Nothing => 0,
+        _ => depth,
+    };
+    Seek { left, found: None }
 }
 
 // One record is looked at: the search ends at the one that is asked for, and at a GOSUB's.

@@ -6,7 +6,7 @@ ghost use Rattle.statements.specs.Statements.{led_by_word, led_by_sign, lead_of}
 use scanner::token_at;
 use words::{Place, Scanned, Sign, Token, Word};
 
-// By its word, given or understood, and from this token on it then reads. ELSE leads an empty statement, and the token is what follows
+// How a statement is led: by its word, given or understood, and the token from which on it then reads. ELSE leads an empty statement, and the token is what follows
 // that; DATA's is its own word, since no token follows it.
 #[derive(Clone, Copy)]
 pub struct Lead {

@@ -16,7 +16,7 @@ use dialogue::{line_input, print};
 use feeding::{pass, read, restore};
 use machine::{Machine, Next, Record, Turned};
 use repeating::{repeat, turn_back};
-use rows::Rows;
+use rows::LineTable;
 use scanner::token_at;
 use statements::Lead;
 use turns::{fails, goes_on, set, turned_to};
@@ -28,7 +28,7 @@ use words::{Place, Scanned, Word};
 // line that reads has none that is led by nothing.
 pub fn do_statement(
     text: &[u8],
-    rows: &Rows,
+    table: &LineTable,
     line: &[u8],
     here: Place,
     at: Place,
@@ -45,7 +45,7 @@ pub fn do_statement(
         × (Parted line.now at.0
         × (Sound (state_of machine tables.old) input.now space.old room.old
         × (FoundBelow machine.depth found
-        × ((lead ≡ lead_of line.now true (token_at line.now at)) × (Tabled text.now rows.now × Fed text.now machine.feed))))) }
+        × ((lead ≡ lead_of line.now true (token_at line.now at)) × (Tabled text.now table.now.rows × Fed text.now machine.feed))))) }
     ensures { (p : Part) (end : Scanned) → part_of line.now true at.0 ≡ good_part p end
         → Turns text.now (state_of machine tables.old) input.now space.old room.old
         (Told text.now tables.old.numbers.names (test_of (wish_of here.0 (place_of p) (head_of p))) machine.depth found entry)
@@ -57,8 +57,8 @@ pub fn do_statement(
             Word::Let => set(line, here, led.ahead, machine, tables, space),
             Word::Print => print(line, here, led.ahead, machine, tables, space, room),
             Word::If => choose(line, here, led.ahead, machine, tables, space),
-            Word::Goto => jump(rows, led.ahead, machine),
-            Word::Gosub => call(rows, line, here, led.ahead, machine),
+            Word::Goto => jump(table, led.ahead, machine),
+            Word::Gosub => call(table, line, here, led.ahead, machine),
             Word::Return => come_back(machine, found, entry),
             Word::For => count(
                 text, line, here, at, led.ahead, machine, tables, found, space,
@@ -80,7 +80,7 @@ pub fn do_statement(
             ),
             Word::Data => pass(line, here, lead, machine),
             Word::Read => read(text, line, here, led.ahead, machine, tables, space),
-            Word::Restore => restore(rows, line, here, led.ahead, machine),
+            Word::Restore => restore(table, line, here, led.ahead, machine),
             Word::End => turned_to(machine, Next::Ends),
             Word::Stop => turned_to(machine, Next::Stops),
             _ => goes_on(machine, here, led.ahead),

@@ -1,4 +1,5 @@
 -- A machine with a variable set is what assignment makes of the definition's.
+use Rattle.std.specs.Prelude.{None, Option, Some}
 use mathlib.Core.Path.{◌≡◌, refl, sym, ap, ◌∙◌}
 use mathlib.Core.Bool.{Bool, true, false, cond, not}
 use mathlib.Core.List.{List}
@@ -11,18 +12,20 @@ use Rattle.words.specs.declared.places.Place.{Place}
 use Rattle.words.specs.declared.symbols.Scanned.{Scanned}
 use Rattle.words.proofs.Choices.{by_test}
 use Rattle.variables.specs.Variables.{numbers_full, strings_full}
-use Rattle.variables.specs.bridge.Memory.{Tells, numbers_held, strings_held, number_stored, string_stored, space_stored}
+use Rattle.variables.specs.bridge.Memory.{Tells, numbers_held, strings_held, number_stored, string_stored, space_stored, numbers_left}
+use Rattle.variables.specs.declared.tables.Numbers.{Numbers}
 use Rattle.variables.specs.declared.tables.Tables.{Tables}
 use Rattle.variables.proofs.StoredNumbers.{NumberKept, number_stored_lem}
 use Rattle.variables.proofs.StoredStrings.{StringKept, string_stored_lem}
 use Rattle.machine.specs.Machine as spec
-use Rattle.machine.specs.bridge.Holding.{Settled, Sound, Same, position_of, Positioned, State}
+use Rattle.machine.specs.bridge.Holding.{Settled, Sound, Same, position_of, Positioned, State, state_of}
 use Rattle.machine.specs.declared.records.Record.{Record}
 use Rattle.turns.specs.Steps as step
 use Rattle.turns.specs.Steps.{goes_on, fails, store_number, store_string, with_number, with_string}
-use Rattle.turns.specs.bridge.Turns.{turn_of, storage_of, stored_as, after_of, with_tables, Turns, number_set, string_set, stored_turn, Storage}
+use Rattle.turns.specs.bridge.Turns.{turn_of, storage_of, stored_as, after_of, with_tables, Turns, came_to, number_kept, number_set, string_set, stored_turn, Storage}
+use Rattle.machine.specs.declared.positions.Next.TheVariants as next
+use Rattle.machine.specs.declared.state.Machine.{Machine}
 use Rattle.machine.specs.declared.positions.Turned.{Turned}
-use Rattle.turns.specs.declared.setting.Stored.{Stored}
 use Rattle.turns.proofs.Keeping.{same_tables, leaves_unprinted}
 use Rattle.turns.proofs.Leading.{Leads, Led, turns_fails, turns_on}
 
@@ -135,6 +138,17 @@ module _ {m : State} {input space room space' : List ℕ} where
       (λ e. rw e (turns_fails (leaves_unprinted h long steps printer) (rw e at l)))
 
 -- what the code answers is that turn
-pub stored_turn_lem : {r : Turned} (s : Stored) (here : Place) (u : Scanned) {S : Storage} {tables : Tables} → r ≡ stored_as s here u
-    → storage_of s tables ≡ S → turn_of r tables ≡ stored_turn S here u
-stored_turn_lem s here u e k = rw e (by_test s.ok (λ f. rw f) (λ f. rw f) ∙ ap (λ x. stored_turn x here u) k)
+pub stored_turn_lem : {r : Turned} (m : Machine) (s : Option Machine) (here : Place) (u : Scanned) {S : Storage} {tables : Tables} → r ≡ stored_as m s here u
+    → storage_of m s tables ≡ S → turn_of r tables ≡ stored_turn S here u
+stored_turn_lem m None here u e k = rw e (ap (λ x. stored_turn x here u) k)
+stored_turn_lem m (Some n) here u e k = rw e (ap (λ x. stored_turn x here u) k)
+
+-- so with a number, where the table told whether there was room
+module _ {r : Turned} {n : Numbers} (m : Machine) (t : Tables) (name : Telling) (w : ℕ) (here : Place) (u : Scanned) where
+  pub number_full : r ≡ came_to m (next.Fails OutOfMemory) → numbers_left None n ≡ number_stored t.numbers name w
+      → turn_of r (record { numbers = n; strings = t.strings }) ≡ stored_turn (number_set (state_of m t) name w) here u
+  number_full e k = rw e (ap (λ s. stored_turn (number_kept (state_of m t) s) here u) k)
+
+  pub number_turn : {slot : ℕ} → r ≡ came_to m (next.On (after_of here u)) → numbers_left (Some slot) n ≡ number_stored t.numbers name w
+      → turn_of r (record { numbers = n; strings = t.strings }) ≡ stored_turn (number_set (state_of m t) name w) here u
+  number_turn e k = rw e (ap (λ s. stored_turn (number_kept (state_of m t) s) here u) k)

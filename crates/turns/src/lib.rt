@@ -4,5 +4,5 @@
 mod setting;
 mod turning;
 
-pub use setting::{Stored, set, stored_or_full, with_number, with_string};
+pub use setting::{set, stored_or_full, with_string};
 pub use turning::{after, fails, goes_on, push, turned_to, value};

@@ -8,7 +8,7 @@ ghost use Rattle.statements.specs.Statements.{variable_of, by_word};
 ghost use Rattle.machine.specs.bridge.Holding.{state_of, position_of, Positioned, Settled, Sound};
 ghost use Rattle.turns.specs.Steps.{do_statement};
 ghost use Rattle.turns.specs.bridge.Doing.{Begins, Does};
-ghost use Rattle.turns.specs.bridge.Turns.{turn_of, storage_of, after_of, Turns, AnyRecords, Formed, number_set, string_set, stored_as};
+ghost use Rattle.turns.specs.bridge.Turns.{turn_of, storage_of, after_of, Turns, AnyRecords, Formed, string_set, stored_as};
 ghost use Rattle.whole.specs.Texts.{longest_string};
 ghost use Rattle.words.specs.Names.{name_bytes, telling_of};
 ghost use Rattle.words.specs.Places.{longest_line};
@@ -20,39 +20,8 @@ use variables::{Tables, Worked};
 use whole::Error;
 use words::{Kind, Name, Place, Scanned, Token};
 
-// The machine after an assignment, and the variable's entry; or no room for a new variable.
-#[derive(Clone, Copy)]
-pub struct Stored {
-    pub ok: bool,
-    pub slot: usize,
-    pub machine: Machine,
-}
-
-pub fn with_number(
-    machine: Machine,
-    tables: &mut Tables,
-    line: &[u8],
-    name: Name,
-    word: u16,
-) -> Stored
-    ensures { storage_of result tables.new
-        ≡ number_set (state_of machine tables.old) (telling_of (name_bytes line.now name)) word }
-{
-    let Some(slot) = tables.numbers.store(line, name, word) else {
-        return Stored {
-            ok: false,
-            slot: tables.numbers.count,
-            machine,
-        };
-    };
-    Stored {
-        ok: true,
-        slot,
-        machine,
-    }
-}
-
-// The finished text of `len` bytes stands right after the variables' bytes.
+// The machine after a string is assigned; without room for a new variable all stays as it was. The finished text of `len` bytes stands right
+// after the variables' bytes.
 pub fn with_string(
     machine: Machine,
     tables: &mut Tables,
@@ -60,37 +29,32 @@ pub fn with_string(
     name: Name,
     space: &mut [u8],
     len: usize,
-) -> Stored
+) -> Option<Machine>
     requires { Storable tables.old.strings.lengths machine.used.0 space.old len × (len ≤ longest_string) }
-    ensures { (storage_of result tables.new
+    ensures { (storage_of machine result tables.new
         ≡ string_set (state_of machine tables.old) (telling_of (name_bytes line.now name)) len)
         × (space.new ≡ space_stored tables.old.strings machine.used.0 (telling_of (name_bytes line.now name)) space.old len) }
 {
     let used = machine.used;
-    let Some(end) = tables.strings.store(used, line, name, space, len as u8) else {
-        return Stored {
-            ok: false,
-            slot: 0,
-            machine,
-        };
-    };
+    let end = tables.strings.store(used, line, name, space, len as u8)?;
     let mut next = machine;
     next.used = end;
-    Stored {
-        ok: true,
-        slot: 0,
-        machine: next,
-    }
+    Some(next)
 }
 
 // Room for a new variable is tested last.
-pub fn stored_or_full(stored: Stored, line: Place, ahead: Scanned) -> Turned
-    ensures { result ≡ stored_as stored line ahead }
+pub fn stored_or_full(
+    machine: Machine,
+    stored: Option<Machine>,
+    line: Place,
+    ahead: Scanned,
+) -> Turned
+    ensures { result ≡ stored_as machine stored line ahead }
 {
-    if !stored.ok {
-        return fails(stored.machine, Error::OutOfMemory);
-    }
-    goes_on(stored.machine, line, ahead)
+    let Some(next) = stored else {
+        return fails(machine, Error::OutOfMemory);
+    };
+    goes_on(next, line, ahead)
 }
 
 // The variable's name, and the formula from its first token on; the type is tested after the formula.
@@ -118,15 +82,15 @@ fn assign(
         Err(error) => fails(machine, error),
         Ok(Worked::Whole(word, ahead)) => match kind {
             Kind::Text => fails(machine, Error::TypeMismatch),
-            Kind::Whole => stored_or_full(
-                with_number(machine, tables, line, name, word),
-                here,
-                ahead,
-            ),
+            Kind::Whole => match tables.numbers.store(line, name, word) {
+                None => fails(machine, Error::OutOfMemory),
+                Some(_) => goes_on(machine, here, ahead),
+            },
         },
         Ok(Worked::Text(len, ahead)) => match kind {
             Kind::Whole => fails(machine, Error::TypeMismatch),
             Kind::Text => stored_or_full(
+                machine,
                 with_string(machine, tables, line, name, space, len),
                 here,
                 ahead,

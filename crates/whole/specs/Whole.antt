@@ -1,4 +1,4 @@
--- Ok numbers are -32768 to 32767. A whole number is held as a word, a number below 65536, in two's complement.
+-- Whole numbers are -32768 to 32767. A whole number is held as a word, a number below 65536, in two's complement.
 -- What an operator answers is said over ℤ: `num` is the number that a word holds, `word` the word that holds a number,
 -- and `fit` the answer of an operation whose result is z.
 use Rattle.whole.specs.declared.errors.Error.{Error}

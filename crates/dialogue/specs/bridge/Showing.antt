@@ -1,6 +1,6 @@
 -- Bridge: what the code of a PRINT is asked, and what it leaves, item by item.
 -- The contracts of functions that crates use among themselves cite it; no demand and no promise of run, check_recipe or ask rests on it.
-use Rattle.std.specs.Prelude.{◌≡◌, Bool, true, false, cond, List, [], ◌∷◌, ℕ, ◌≤◌, length, take, drop, Result, Ok, Err}
+use Rattle.std.specs.Prelude.{◌≡◌, Bool, true, false, cond, List, [], ◌∷◌, ℕ, ◌≤◌, length, take, drop, Option, Some, None, Result, Ok, Err}
 use Rattle.whole.specs.Texts as texts
 use Rattle.whole.specs.declared.errors.Error.TheVariants.{OutputFull}
 use Rattle.words.specs.declared.places.Place.{Place}
@@ -24,7 +24,6 @@ use Rattle.machine.specs.Machine.{room_of, comma_blanks}
 use Rattle.machine.specs.bridge.Holding.{State, printed_as, Fitting, Same}
 use Rattle.machine.specs.declared.state.Printer.{Printer}
 use Rattle.machine.specs.declared.positions.Next.TheVariants as next
-use Rattle.machine.specs.declared.printing.Printed.{Printed}
 use Rattle.machine.specs.declared.records.Record.{Record}
 use Rattle.turns.specs.Steps as step
 use Rattle.turns.specs.Steps.{fails, written, shown_value}
@@ -32,11 +31,12 @@ use Rattle.turns.specs.bridge.Turns.{Turn, turned_to, after_of, Leads, with_prin
 use Rattle.whole.specs.declared.errors.Error.{Error}
 
 -- some bytes are written, if there is room for all
-abbrev pub Writes : Printer → List ℕ → List ℕ → Printed → List ℕ → Type 0
+abbrev pub Writes : Printer → List ℕ → List ℕ → Option Printer → List ℕ → Type 0
 Writes p room bytes r room' = (r ≡ printed_as p (length room) bytes) × (room' ≡ copied room p.written bytes)
 
-abbrev pub shown_as : Printed → Scanned → Result (Printer × Scanned) Error
-shown_as p t = cond p.ok (Ok (p.printer, t)) (Err OutputFull)
+abbrev pub shown_as : Option Printer → Scanned → Result (Printer × Scanned) Error
+shown_as (Some p) t = Ok (p, t)
+shown_as None t = Err OutputFull
 
 -- what was worked out is shown, where a text stands from `used` on
 abbrev pub ShowsWorked : Result Worked Error → ℕ → Printer → List ℕ → List ℕ → Result (Printer × Scanned) Error → List ℕ → Type 0
@@ -101,9 +101,9 @@ pub record Shows (m : State) (i : Item) (u : Scanned) (space room : List ℕ) (r
 abbrev pub line_end : List ℕ
 line_end = 13 ∷ 10 ∷ []
 
-abbrev pub end_written : State → Printed → Place → Scanned → Turn
-end_written m p here t =
-    cond p.ok (turned_to (with_printer m p.printer) (next.On (after_of here t))) (turned_to m (next.Fails OutputFull))
+abbrev pub end_written : State → Option Printer → Place → Scanned → Turn
+end_written m (Some p) here t = turned_to (with_printer m p) (next.On (after_of here t))
+end_written m None here t = turned_to m (next.Fails OutputFull)
 
 -- without a final `,` or `;` it is written
 abbrev pub ended_turn : State → Bool → ℕ → Place → Scanned → Turn

@@ -1,7 +1,7 @@
 -- Bridge: what the code of a READ is asked, and what it leaves, variable by variable.
 -- The contracts of functions that crates use among themselves cite it; no demand and no promise of run, check_recipe or ask rests on it.
 use Rattle.whole.specs.declared.errors.Error.{Error}
-use Rattle.std.specs.Prelude.{◌≡◌, cond, List, ℕ, length, Err, Ok, Result}
+use Rattle.std.specs.Prelude.{◌≡◌, List, ℕ, length, Err, None, Ok, Option, Result, Some}
 use Rattle.whole.specs.declared.errors.Error.TheVariants.{OutOfMemory}
 use Rattle.words.specs.declared.symbols.Scanned.{Scanned}
 use Rattle.grammar.specs.Trees.{Variable}
@@ -14,7 +14,6 @@ use Rattle.machine.specs.declared.records.Record.{Record}
 use Rattle.turns.specs.Steps as step
 use Rattle.turns.specs.Steps.{fails}
 use Rattle.turns.specs.bridge.Turns.{Leads}
-use Rattle.turns.specs.declared.setting.Stored.{Stored}
 
 -- the variables of a READ that read from a token of the line on
 pub record Listed (line : List ℕ) (first : Scanned) : Type 0 where
@@ -23,8 +22,9 @@ pub record Listed (line : List ℕ) (first : Scanned) : Type 0 where
   pub is : names_at (enough line) line first ≡ listed all end
 
 -- room for a new variable is tested last
-abbrev pub set_as : Stored → Result Machine (Machine × Error)
-set_as s = cond s.ok (Ok s.machine) (Err (s.machine, OutOfMemory))
+abbrev pub set_as : Machine → Option Machine → Result Machine (Machine × Error)
+set_as m (Some n) = Ok n
+set_as m None = Err (m, OutOfMemory)
 
 -- by the code's answer: the machine, and what is done next
 abbrev pub machine_of : Result Machine (Machine × Error) → Machine

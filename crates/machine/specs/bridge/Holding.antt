@@ -1,6 +1,6 @@
 -- Bridge: how the code's machine, records and positions hold the definition's.
 -- The contracts of functions that crates use among themselves cite it; no demand and no promise of run, check_recipe or ask rests on it.
-use Rattle.std.specs.Prelude.{◌≡◌, Bool, true, false, cond, not, ◌||◌, List, [], ◌∷◌, ◌++◌, ℕ, zero, suc, ◌+◌, ◌≤◌, ◌<◌, leb, eqb, length, get_or, take, drop}
+use Rattle.std.specs.Prelude.{◌≡◌, Bool, true, false, cond, not, ◌||◌, List, [], ◌∷◌, ◌++◌, ℕ, zero, suc, ◌+◌, ◌≤◌, ◌<◌, leb, eqb, length, get_or, take, drop, Option, Some, None}
 use Rattle.words.specs.Places.{place}
 use Rattle.words.specs.declared.places.Place.{Place}
 use Rattle.words.specs.declared.symbols.Scanned.{Scanned}
@@ -30,7 +30,6 @@ use Rattle.machine.specs.declared.state.Feed.{Feed}
 use Rattle.machine.specs.declared.state.Machine.{Machine}
 use Rattle.machine.specs.declared.state.Printer.{Printer}
 use Rattle.machine.specs.declared.positions.Position.{Position}
-use Rattle.machine.specs.declared.printing.Printed.{Printed}
 use Rattle.machine.specs.declared.records.Record.{Record}
 
 -- ---- positions: a line by its place in the text, a statement by its place in the line
@@ -137,11 +136,11 @@ records_in text names rs (suc d) = record_of text names (get_or rs d blank_recor
 
 -- ---- printing
 
-abbrev pub printed_as : Printer → ℕ → List ℕ → Printed
+abbrev pub printed_as : Printer → ℕ → List ℕ → Option Printer
 printed_as p long bytes =
     cond (leb (p.written + length bytes) long)
-    (record { ok = true; printer = record { column = column_after p.column bytes; written = p.written + length bytes } })
-    (record { ok = false; printer = p })
+    (Some (record { column = column_after p.column bytes; written = p.written + length bytes }))
+    None
 
 -- ---- the items of DATA that are left
 

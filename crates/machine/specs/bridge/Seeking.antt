@@ -14,7 +14,7 @@ use Rattle.machine.specs.Machine as spec
 use Rattle.machine.specs.Machine.{is_call, is_loop, is_loop_of}
 use Rattle.machine.specs.Repeats.{is_while, is_while_of}
 use Rattle.machine.specs.declared.records.Sought.{Sought}
-use Rattle.machine.specs.bridge.Wanted as sought
+use Rattle.machine.specs.declared.records.Sought.TheVariants as sought
 
 -- what a statement may ask for
 pub data Wish : Type 0 where

@@ -34,15 +34,6 @@ record_repeats κs a p z z' ws ws' e e' = (same e e', refl)
 pub record_back : Unique machine.records.Record.back.Kinds.ps machine.records.Record.back.Kinds.r machine.records.Record.back.Reads.Pre machine.records.Record.back.Reads.Post
 record_back κs a p z z' ws ws' e e' = (same e e', refl)
 
-pub sought_loop_of : Unique machine.records.Sought.loop_of.Kinds.ps machine.records.Sought.loop_of.Kinds.r machine.records.Sought.loop_of.Reads.Pre machine.records.Sought.loop_of.Reads.Post
-sought_loop_of κs a p z z' ws ws' e e' = (same e e', refl)
-
-pub sought_while_at : Unique machine.records.Sought.while_at.Kinds.ps machine.records.Sought.while_at.Kinds.r machine.records.Sought.while_at.Reads.Pre machine.records.Sought.while_at.Reads.Post
-sought_while_at κs a p z z' ws ws' e e' = (same e e', refl)
-
-pub sought_while_of : Unique machine.records.Sought.while_of.Kinds.ps machine.records.Sought.while_of.Kinds.r machine.records.Sought.while_of.Reads.Pre machine.records.Sought.while_of.Reads.Post
-sought_while_of κs a p z z' ws ws' e e' = (same e e', refl)
-
 pub is_sought : Unique machine.is_sought.Kinds.ps machine.is_sought.Kinds.r machine.is_sought.Reads.Pre machine.is_sought.Reads.Post
 is_sought κs a p z z' ws ws' e e' = (same e e', refl)
 

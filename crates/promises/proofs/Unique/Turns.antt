@@ -1,12 +1,14 @@
 -- The public functions of `turns`.
-use mathlib.Core.Path.{◌≡◌, refl}
+use Rattle.std.specs.Prelude.{None, Option, Some}
+use mathlib.Core.Bool.{cond}
+use mathlib.Core.Path.{◌≡◌, refl, sym, ap, ◌∙◌}
 use Rattle.variables.specs.Tables.{empty_tables}
+use Rattle.variables.specs.declared.tables.Tables.{Tables}
 use Rattle.turns.proofs as turns
 use Rattle.machine.specs.bridge.Holding.{State}
 use Rattle.machine.specs.declared.positions.Turned.{Turned}
 use Rattle.machine.specs.declared.state.Machine.{Machine}
 use Rattle.turns.specs.bridge.Turns.{Turn, turn_of, Storage, storage_of}
-use Rattle.turns.specs.declared.setting.Stored.{Stored}
 use Rattle.promises.specs.Calls.{Unique}
 use Rattle.promises.proofs.Unique.{same, pair}
 
@@ -23,8 +25,22 @@ machine_from s = record {
 }
 
 -- and its answers, by the storage and the turn that they are
-abbrev stored_from : Storage → Stored
-stored_from s = record { ok = s.ok; slot = s.slot; machine = machine_from s.state }
+abbrev stored_from : Storage → Option Machine
+stored_from s = cond s.ok (Some (machine_from s.state)) None
+
+stored_is : (m : Machine) (s : Option Machine) (t : Tables) → s ≡ stored_from (storage_of m s t)
+stored_is m (Some n) t = refl
+stored_is m None t = refl
+
+stored_same : (m : Machine) (s s' : Option Machine) (t t' : Tables) → storage_of m s t ≡ storage_of m s' t' → s ≡ s'
+stored_same m s s' t t' e = stored_is m s t ∙ ap stored_from e ∙ sym (stored_is m s' t')
+
+tables_is : (m : Machine) (s : Option Machine) (t : Tables) → t ≡ (storage_of m s t).state.tables
+tables_is m (Some n) t = refl
+tables_is m None t = refl
+
+tables_same : (m : Machine) (s s' : Option Machine) (t t' : Tables) → storage_of m s t ≡ storage_of m s' t' → t ≡ t'
+tables_same m s s' t t' e = tables_is m s t ∙ ap (λ x. x.state.tables) e ∙ sym (tables_is m s' t')
 
 abbrev turned_from : Turn → Turned
 turned_from t = record { machine = machine_from t.state; next = t.next; slot = t.slot; held = t.held }
@@ -49,13 +65,9 @@ push κs a p z z' ws ws' e e' =
 pub stored_or_full : Unique turns.stored_or_full.Kinds.ps turns.stored_or_full.Kinds.r turns.stored_or_full.Reads.Pre turns.stored_or_full.Reads.Post
 stored_or_full κs a p z z' ws ws' e e' = (same e e', refl)
 
-pub with_number : Unique turns.with_number.Kinds.ps turns.with_number.Kinds.r turns.with_number.Reads.Pre turns.with_number.Reads.Post
-with_number κs a p z z' ws ws' e e' =
-    let q : storage_of z ws.1.0 ≡ storage_of z' ws'.1.0 = same e e' in (λ i. stored_from (q i), pair refl (pair (λ i. (q i).state.tables) refl))
-
 pub with_string : Unique turns.with_string.Kinds.ps turns.with_string.Kinds.r turns.with_string.Reads.Pre turns.with_string.Reads.Post
 with_string κs a p z z' ws ws' e e' =
-    let q : storage_of z ws.1.0 ≡ storage_of z' ws'.1.0 = same e.0 e'.0 in (
-      λ i. stored_from (q i),
-      pair refl (pair (λ i. (q i).state.tables) (pair refl (pair refl (pair (same e.1 e'.1) refl)))),
+    let q : storage_of a.0 z ws.1.0 ≡ storage_of a.0 z' ws'.1.0 = same e.0 e'.0 in (
+      stored_same a.0 z z' ws.1.0 ws'.1.0 q,
+      pair refl (pair (tables_same a.0 z z' ws.1.0 ws'.1.0 q) (pair refl (pair refl (pair (same e.1 e'.1) refl)))),
     )

@@ -1,6 +1,6 @@
 -- Bridge: what the code of a statement is asked, and what it leaves, beside what the definition says.
 -- The contracts of functions that crates use among themselves cite it; no demand and no promise of run, check_recipe or ask rests on it.
-use Rattle.std.specs.Prelude.{◌≡◌, Bool, cond, not, List, ℕ, ◌+◌, ◌≤◌, ◌<◌, leb, length, set, drop, None, Ok, Option, Some, Result}
+use Rattle.std.specs.Prelude.{◌≡◌, Bool, true, false, cond, not, List, ℕ, ◌+◌, ◌≤◌, ◌<◌, leb, length, set, drop, None, Ok, Option, Some, Result}
 use Rattle.whole.specs.declared.errors.Error.TheVariants.{OutOfMemory}
 use Rattle.words.specs.Names.{Telling}
 use Rattle.words.specs.declared.places.Place.{Place}
@@ -31,7 +31,6 @@ use Rattle.machine.specs.declared.positions.Next.TheVariants as next
 use Rattle.machine.specs.declared.records.Record.{Record}
 use Rattle.machine.specs.Machine.{most_records}
 use Rattle.turns.specs.Steps as step
-use Rattle.turns.specs.declared.setting.Stored.{Stored}
 use Rattle.turns.specs.Steps.{goes_on, enters, ends, stops, fails}
 use Rattle.whole.specs.declared.errors.Error.{Error}
 
@@ -165,9 +164,10 @@ pub record Storage : Type 0 where
   pub slot : ℕ
   pub state : State
 
-abbrev pub storage_of : Stored → Tables → Storage
-storage_of s tables =
-    record { ok = s.ok; slot = s.slot; state = state_of s.machine tables }
+-- by the machine before, and the one after, if there was room: then a string's; without room the machine is as it was
+abbrev pub storage_of : Machine → Option Machine → Tables → Storage
+storage_of m (Some n) tables = record { ok = true; slot = 0; state = state_of n tables }
+storage_of m None tables = record { ok = false; slot = 0; state = state_of m tables }
 
 abbrev pub number_kept : State → NumberStored → Storage
 number_kept m s =
@@ -184,9 +184,9 @@ abbrev pub string_set : State → Telling → ℕ → Storage
 string_set m name len = string_kept m (string_stored m.tables.strings m.used name len)
 
 -- room for a new variable is tested last: what the code answers, and the turn
-abbrev pub stored_as : Stored → Place → Scanned → Turned
-stored_as s line ahead =
-    cond s.ok (came_to s.machine (next.On (after_of line ahead))) (came_to s.machine (next.Fails OutOfMemory))
+abbrev pub stored_as : Machine → Option Machine → Place → Scanned → Turned
+stored_as m (Some n) line ahead = came_to n (next.On (after_of line ahead))
+stored_as m None line ahead = came_to m (next.Fails OutOfMemory)
 
 abbrev pub stored_turn : Storage → Place → Scanned → Turn
 stored_turn s line ahead =

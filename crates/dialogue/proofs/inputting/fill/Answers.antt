@@ -28,5 +28,5 @@ shape_of-space-in-Text c = search (rules, c.space-1)
 
 pub returns-in-Text : goal.returns-in-Text
 returns-in-Text c = λ text input room sound p.
-    rw (stored_turn_lem c.with_string.result c.args.here c.args.ahead c.stored_or_full.ensures c.with_string.ensures.0, c.with_string.ensures.1, c.in-Text.is, c.copy_in.ensures)
+    rw (stored_turn_lem c.args.machine c.with_string.result c.args.here c.args.ahead c.stored_or_full.ensures c.with_string.ensures.0, c.with_string.ensures.1, c.in-Text.is, c.copy_in.ensures)
     (fills_string text sound c.args.bytes.now (leb-true _ _ (sym c.has_room.ensures ∙ not-false c.has_room.result c.if-not-has_room.false-raw)) _ (telling_told _) c.args.here c.args.ahead p)

@@ -16,7 +16,7 @@ pub returns : goal.returns
 returns c = let h = leb-true _ _ (sym c.has_room.ensures ∙ not-false c.has_room.result c.if-not-has_room.false-raw) in (
   λ text settled.
       let k = c.with_string.ensures.0 in
-      rw (set_state c.with_string.result c.set_or_full.ensures k, c.set_or_full.ensures, c.with_string.ensures.1, c.copy_in.ensures)
-      (sets_string settled _ (telling_told _) c.args.bytes.now h, gives_string settled _ (telling_told _) c.args.bytes.now h text c.with_string.result (ap (λ x. x.ok) k)),
-  ap (λ x. x.feed) (set_state c.with_string.result c.set_or_full.ensures c.with_string.ensures.0),
+      rw (set_state c.args.machine c.with_string.result c.set_or_full.ensures k, c.set_or_full.ensures, c.with_string.ensures.1, c.copy_in.ensures)
+      (sets_string settled _ (telling_told _) c.args.bytes.now h, gives_string settled _ (telling_told _) c.args.bytes.now h text c.args.machine c.with_string.result _ (ap (λ x. x.ok) k)),
+  ap (λ x. x.feed) (set_state c.args.machine c.with_string.result c.set_or_full.ensures c.with_string.ensures.0),
 )

@@ -5,7 +5,7 @@ pub returns-in-None : goal.returns-in-None
 returns-in-None c = rw (← c.slot_of.ensures, c.in-None.is)
 
 pub returns-then-slot-numbers : goal.returns-then-slot-numbers
-returns-then-slot-numbers c = rw (← c.slot_of.ensures, c.in-Some.is, lt-ltb _ _ c.if-slot-numbers.true) c.loop_of.ensures
+returns-then-slot-numbers c = rw (← c.slot_of.ensures, c.in-Some.is, lt-ltb _ _ c.if-slot-numbers.true)
 
 pub returns-else-slot-numbers : goal.returns-else-slot-numbers
 returns-else-slot-numbers c = rw (← c.slot_of.ensures, c.in-Some.is, le-ltb _ _ c.if-slot-numbers.false)

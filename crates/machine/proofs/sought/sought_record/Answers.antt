@@ -16,10 +16,10 @@ pub returns-in-Next : goal.returns-in-Next
 returns-in-Next c = rw (c.in-Some.is, c.in-Next.is, c.sought_loop-in-Next.ensures) (next_seeks c.args.numbers.now.names c.args.numbers.now.count c.args.here c.args.at c.args.line.now c.in-Some.lead.ahead)
 
 pub returns-in-While : goal.returns-in-While
-returns-in-While c = rw (c.in-Some.is, c.in-While.is, c.while_at.ensures) (while_seeks c.args.numbers.now.names c.args.numbers.now.count c.args.here c.args.at c.args.line.now c.in-Some.lead.ahead)
+returns-in-While c = rw (c.in-Some.is, c.in-While.is) (while_seeks c.args.numbers.now.names c.args.numbers.now.count c.args.here c.args.at c.args.line.now c.in-Some.lead.ahead)
 
 pub returns-in-Wend : goal.returns-in-Wend
-returns-in-Wend c = rw (c.in-Some.is, c.in-Wend.is, c.while_of.ensures) (wend_seeks c.args.numbers.now.names c.args.numbers.now.count c.args.here c.args.at c.args.line.now c.in-Some.lead.ahead)
+returns-in-Wend c = rw (c.in-Some.is, c.in-Wend.is) (wend_seeks c.args.numbers.now.names c.args.numbers.now.count c.args.here c.args.at c.args.line.now c.in-Some.lead.ahead)
 
 pub returns-in_default : goal.returns-in_default
 returns-in_default c = rw c.in-Some.is (word_seeks c.args.numbers.now.names c.args.numbers.now.count c.args.here c.args.at c.args.line.now c.in-Some.lead.ahead c.in-Some.lead.word (unsealed c.in_default.in_default-own.keys6))

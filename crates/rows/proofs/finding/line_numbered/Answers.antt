@@ -8,7 +8,7 @@ use Rattle.rows.proofs.finding.line_numbered.Goals as goal
 pub span_in-requires : goal.span_in-requires
 span_in-requires c =
     let q : c.row_with.result ≡ Some c.in_ok-row.row = c.in_ok-row.was in
-    let f = rw q at c.row_with.ensures in omega (arith, f.0, c.requires.few)
+    let f = rw q at c.row_with.ensures in omega (arith, f.0, c.args.table.now.ordered.few)
 
 pub returns-in_err-row : goal.returns-in_err-row
 returns-in_err-row c = λ text t.

@@ -1,11 +1,7 @@
 -- What the loop keeps holds at the start, a turn keeps it, and at the end it is what the run comes to.
 use Rattle.std.proofs.Common.{◌<◌, ◌^◌, sym, ◌∙◌, arith}
-use Rattle.rows.proofs.Ordering.{ordered}
 use Rattle.runner.proofs.Walking.{keeps_begun, keeps_awaits, keeps_on, keeps_nearer, keeps_told, keeps_over}
 use Rattle.runner.proofs.lending.run_loaded.Goals as goal
-
-pub begins-going-requires : goal.begins-going-requires
-begins-going-requires c = ordered c.requires.tabled
 
 pub loop-tables-init : goal.loop-tables-init
 loop-tables-init c = keeps_begun _ _ _ _ _ _ _ _ c.requires c.begins-going.result c.begins-going.ensures

@@ -1,8 +1,6 @@
 -- Each arm does what the definition does of the statements that its word leads.
-use Rattle.std.specs.Prelude.{Some}
 use Rattle.statements.specs.Statements.{led_by}
 use mathlib.Core.Path.{refl, ap}
-use Rattle.rows.proofs.Ordering.{ordered}
 use Rattle.machine.specs.bridge.Holding.{state_of, position_of}
 use Rattle.turns.specs.bridge.Turns.{turn_of, after_of}
 use Rattle.machine.proofs.Standing.{begins_at}
@@ -22,12 +20,6 @@ pub choose-requires : goal.choose-requires
 choose-requires c = let f = lead_from c.args.line.now c.args.at.0 c.requires.1.1.1.1.0 c.in-Some.is in
     (if_formed c.args.line.now c.requires.0.short f.place f.is (rw c.in-If.is at (lead_begins c.args.line.now c.args.at.0 c.requires.1.1.1.1.0 c.in-Some.is c.requires.1.0)), c.requires.1.1.0.settled)
 
-pub jump-requires : goal.jump-requires
-jump-requires c = ordered c.requires.1.1.1.1.1.0
-
-pub call-requires : goal.call-requires
-call-requires c = ordered c.requires.1.1.1.1.1.0
-
 pub count-requires : goal.count-requires
 count-requires c = (rw c.in-For.is at (lead_begins c.args.line.now c.args.at.0 c.requires.1.1.1.1.0 c.in-Some.is c.requires.1.0), (c.requires.0.short, (c.requires.1.1.0.settled, (c.requires.1.1.1.0, record { loads = c.requires.0.loads; begins = c.requires.0.begins }))))
 
@@ -43,9 +35,6 @@ line_input-requires c = (
 
 pub read-requires : goal.read-requires
 read-requires c = (read_listed c.args.line.now c.in-Some.led.ahead (rw c.in-Read.is at (lead_begins c.args.line.now c.args.at.0 c.requires.1.1.1.1.0 c.in-Some.is c.requires.1.0)), (record { loads = c.requires.0.loads; fed = c.requires.1.1.1.1.1.1 }, c.requires.1.1.0.settled))
-
-pub restore-requires : goal.restore-requires
-restore-requires c = ordered c.requires.1.1.1.1.1.0
 
 pub returns-in-Let : goal.returns-in-Let
 returns-in-Let c = lead_does c.args.text.now c.args.line.now c.args.here c.args.at.0 (state_of c.args.machine c.args.tables.now) c.args.found c.args.entry c.args.input.now c.args.space.now c.args.room.now _ _ _ c.requires.0 c.requires.1.1.1.1.0 c.in-Some.is c.requires.1.0

@@ -1,9 +1,0 @@
--- Room for a new variable is tested last.
-use borrow.Author.Tests.{not-true, not-false}
-use Rattle.turns.proofs.setting.stored_or_full.Goals as goal
-
-pub returns-then-not-stored : goal.returns-then-not-stored
-returns-then-not-stored c = rw (not-true c.args.stored.ok c.if-not-stored.true) c.fails.ensures
-
-pub returns : goal.returns
-returns c = rw (not-false c.args.stored.ok c.if-not-stored.false) c.goes_on.ensures
