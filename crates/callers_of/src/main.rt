@@ -6,15 +6,10 @@ mod answers;
 
 ghost use Rattle.std.specs.Bool.{OnTrue};
 ghost use Rattle.std.specs.Io.KnownBytes.{Appends};
-ghost use Rattle.callers_of.specs.Answers.{caller_lines, answer_to};
-ghost use Rattle.callers_of.specs.bridge.Telling.{told_by};
+ghost use Rattle.callers_of.specs.Answers.{answer_to};
 
-use answers::{caller, started};
-use console::{
-    NumberArgument, argument_count, complain, recipe_room, refused_line, take_front, write_text,
-};
-use index::{Index, Layout, callers_in, index_of, line_in};
-use loader::{Recipe, RefusedAt, refusal_number};
+use answers::answer_of;
+use console::{NumberArgument, argument_count, complain, recipe_room, room, take_front, write};
 use std::io::Write;
 use words::LineNumber;
 
@@ -28,40 +23,14 @@ const LINE: NumberArgument<'static> = NumberArgument {
     most: LineNumber::LARGEST as u32,
 };
 
-// Writes a line for each line that names one, or says on standard error why it can't; whether they were written.
-fn tell_callers<W: Write, E: Write>(out: &mut W, err: &mut E, callers: &[u16]) -> bool
-    ensures { OnTrue result (Appends (W.contents out.old) (W.contents out.new) (caller_lines callers.now)) }
-{
-    for number in callers {
-        if !write_text(out, err, caller(*number)) {
-            return false;
-        }
-    }
-    true
-}
-
-// What an index says of a line.
-fn tell_by<W: Write, E: Write>(out: &mut W, err: &mut E, index: &Index, number: LineNumber) -> bool
-    ensures { OnTrue result (Appends (W.contents out.old) (W.contents out.new) (told_by index.now number)) }
-{
-    let mut callers = [0; Recipe::MOST_LINES];
-    let count = callers_in(index, number, &mut callers);
-    write_text(out, err, started(number, line_in(index, number)))
-        && tell_callers(out, err, &callers[..count])
-}
-
-// What a recipe says of a line.
+// Writes what a recipe says of a line, or says on standard error why it can't; whether it was written.
 fn tell<W: Write, E: Write>(out: &mut W, err: &mut E, text: &[u8], number: LineNumber) -> bool
     ensures { OnTrue result (Appends (W.contents out.old) (W.contents out.new) (answer_to text.now number)) }
 {
-    let mut index = [0; Layout::WORDS];
-    match index_of(text, &mut index) {
-        Ok(()) => tell_by(out, err, &index, number),
-        Err(RefusedAt { refusal, place }) => {
-            let line = refused_line(refusal_number(refusal), place.0 as u64);
-            write_text(out, err, line)
-        }
-    }
+    // room for a line and 512 callers, each in at most 255 bytes
+    let mut room = room::<131072>();
+    let count = answer_of(text, number, &mut room);
+    write(out, err, &room[..count])
 }
 
 fn main(rt: HostRuntime) {

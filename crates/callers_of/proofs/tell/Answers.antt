@@ -1,8 +1,6 @@
--- The index of the text tells what the text does (`told_text`).
-use Rattle.std.proofs.Common.{sym, ◌∙◌}
-use Rattle.callers_of.proofs.Telling.{told_text}
+-- What is written are the first bytes of the room.
+use Rattle.callers_of.proofs.Telling.{front_callers}
 use Rattle.callers_of.proofs.tell.Goals as goal
 
-pub returns-in-Ok : goal.returns-in-Ok
-returns-in-Ok g c =
-    rw (told_text c.args.text.now _ c.args.number (sym c.index_of.ensures.value ∙ c.in-Ok.is) c.index_of.ensures.index_after) at c.tell_by.ensures
+pub returns : goal.returns
+returns g c = rw (front_callers _ _ c.answer_of-count.ensures.upper_bound.1 c.answer_of-count.ensures.out_after) at c.write.ensures
