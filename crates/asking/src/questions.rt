@@ -19,24 +19,26 @@ pub enum Asked {
 }
 
 // An unset number is 0.
-fn number_asked(numbers: &Numbers, given: &[u8], name: Name) -> Asked
-    ensures { result ≡ Asked.Whole (word_of (numbers_in (names_in numbers.now.names) numbers.now.words) (telling_of (name_bytes given.now name))) }
+fn number_asked(numbers: Numbers, given: &[u8], name: Name) -> Asked
+    ensures { result ≡ Asked.Whole (word_of (numbers_in (names_in numbers.names) numbers.words) (telling_of (name_bytes given.now name))) }
 {
-    match slot_of(&numbers.names, given, name) {
+    let Numbers { names, words, .. } = numbers;
+    match slot_of(&names, given, name) {
         None => Asked::Whole(0),
-        Some(slot) => Asked::Whole(numbers.words[slot]),
+        Some(slot) => Asked::Whole(words[slot]),
     }
 }
 
 // An unset string is empty; the space handed in may end before another's bytes.
-fn string_asked(strings: &Strings, space: &[u8], given: &[u8], name: Name) -> Result<Asked, Refusal>
-    ensures { result ≡ string_asked (slot_in strings.now.names (telling_of (name_bytes given.now name))) strings.now.lengths (length space.now) }
+fn string_asked(strings: Strings, space: &[u8], given: &[u8], name: Name) -> Result<Asked, Refusal>
+    ensures { result ≡ string_asked (slot_in strings.names (telling_of (name_bytes given.now name))) strings.lengths (length space.now) }
 {
-    let Some(slot) = slot_of(&strings.names, given, name) else {
+    let Strings { names, lengths, .. } = strings;
+    let Some(slot) = slot_of(&names, given, name) else {
         return Ok(Asked::Text(Offset(0), 0));
     };
-    let from = offset_of(&strings.lengths, slot);
-    let len = usize::from(strings.lengths[slot]);
+    let from = offset_of(&lengths, slot);
+    let len = usize::from(lengths[slot]);
     if !fits(space.len(), from, len) {
         return Err(Refusal::NoVariable);
     }
@@ -59,7 +61,7 @@ pub fn ask(tables: Tables, space: &[u8], name: &[u8]) -> Result<Asked, Refusal>
         return Err(Refusal::NoVariable);
     }
     match found.kind {
-        Kind::Whole => Ok(number_asked(&tables.numbers, name, found)),
-        Kind::Text => string_asked(&tables.strings, space, name, found),
+        Kind::Whole => Ok(number_asked(tables.numbers, name, found)),
+        Kind::Text => string_asked(tables.strings, space, name, found),
     }
 }

@@ -16,7 +16,9 @@ pub fn copy_in(space: &mut [u8], to: Offset, bytes: &[u8])
     ensures { space.new ≡ copied space.old to.0 bytes.now }
 {
     if fits(space.len(), to, bytes.len()) {
-        space[to.0..to.0 + bytes.len()].copy_from_slice(bytes);
+        for (i, byte) in bytes.iter().enumerate() {
+            space[to.0 + i] = *byte;
+        }
     }
 }
 

@@ -13,7 +13,7 @@ const QUOTE: ByteClass = ByteClass::Quote;
 
 const OTHER: ByteClass = ByteClass::Other;
 
-pub(crate) const CLASSES: [ByteClass; 256] = [
+pub(crate) static CLASSES: [ByteClass; 256] = [
     OTHER, OTHER, OTHER, OTHER, OTHER, OTHER, OTHER, OTHER, OTHER, OTHER, OTHER, OTHER, OTHER,
     OTHER, OTHER, OTHER, OTHER, OTHER, OTHER, OTHER, OTHER, OTHER, OTHER, OTHER, OTHER, OTHER,
     OTHER, OTHER, OTHER, OTHER, OTHER, OTHER, BLANK, OTHER, QUOTE, OTHER, OTHER, OTHER, OTHER,

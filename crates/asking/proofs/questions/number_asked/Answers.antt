@@ -5,11 +5,11 @@ use Rattle.variables.proofs.Lookups.{slot_word, no_slot_word, slot_below}
 use Rattle.asking.specs.declared.questions.Asked.TheVariants.{Whole}
 use Rattle.asking.proofs.questions.number_asked.Goals as goal
 
-pub offset_bounds-numbers-slot : goal.offset_bounds-numbers-slot
-offset_bounds-numbers-slot c = omega (arith, slot_below _ _ _ (sym c.slot_of.ensures ∙ c.in-Some.is))
+pub offset_bounds-words-slot : goal.offset_bounds-words-slot
+offset_bounds-words-slot c = omega (arith, slot_below _ _ _ (sym c.slot_of.ensures ∙ c.in-Some.is))
 
-pub bounds-numbers-slot : goal.bounds-numbers-slot
-bounds-numbers-slot c = slot_below _ _ _ (sym c.slot_of.ensures ∙ c.in-Some.is)
+pub bounds-words-slot : goal.bounds-words-slot
+bounds-words-slot c = slot_below _ _ _ (sym c.slot_of.ensures ∙ c.in-Some.is)
 
 pub returns-in-None : goal.returns-in-None
 returns-in-None c = ap Whole (sym (no_slot_word _ _ _ (sym c.slot_of.ensures ∙ c.in-None.is)))
