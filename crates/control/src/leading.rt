@@ -1,5 +1,5 @@
 // GOTO, GOSUB, FOR and NEXT, from the token after the word on.
-ghost use Rattle.std.specs.Prelude.{List, ℕ, ◌≤◌, length, Option};
+ghost use Rattle.std.specs.Prelude.{◌≡◌, List, ℕ, ◌≤◌, length, Option};
 ghost use Rattle.machine.specs.bridge.Holding.{state_of, Settled, Sound};
 ghost use Rattle.turns.specs.bridge.Turns.{turn_of, FoundBelow};
 ghost use Rattle.order.specs.bridge.Walking.{Lined};
@@ -34,8 +34,9 @@ pub fn count(
     space: &mut [u8],
 ) -> Turned
     requires { Begins (by_word line.now led.For target) × ((length line.now ≤ longest_line) × (Settled (state_of machine tables.old) space.old × (FoundBelow machine.depth found × Lined text.now here.0))) }
-    ensures { (input room : List ℕ) (entry : Record) → Sound (state_of machine tables.old) input space.old room
+    ensures does { (input room : List ℕ) (entry : Record) → Sound (state_of machine tables.old) input space.old room
         → Does text.now line.now here at.0 (state_of machine tables.old) found entry input space.old room (turn_of result tables.new) space.new room (by_word line.now led.For target) }
+    ensures kept { tables.new.strings ≡ tables.old.strings }
 {
     let token = target.token;
     let equals = token_at(line, target.next);
@@ -58,9 +59,10 @@ pub fn next_loop(
     entry: Record,
 ) -> Turned
     requires { FoundBelow machine.depth found }
-    ensures { (text input space room : List ℕ) (at : ℕ) → Sound (state_of machine tables.old) input space room
+    ensures does { (text input space room : List ℕ) (at : ℕ) → Sound (state_of machine tables.old) input space room
         → Does text line.now here at (state_of machine tables.old) found entry input space room
         (turn_of result tables.new) space room (by_word line.now led.Next target) }
+    ensures kept { (tables.new.strings ≡ tables.old.strings) × ((tables.new.numbers.names ≡ tables.old.numbers.names) × (tables.new.numbers.count ≡ tables.old.numbers.count)) }
 {
     let token = target.token;
     match token {

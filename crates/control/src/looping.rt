@@ -56,8 +56,9 @@ fn begin_loop(
     found: Option<usize>,
 ) -> Turned
     requires { Lined text.now here.0 }
-    ensures { LoopBegun text.now at (state_of machine tables.old) (telling_of (name_bytes line.now name)) from limit step (after_of here ahead) found
+    ensures does { LoopBegun text.now at (state_of machine tables.old) (telling_of (name_bytes line.now name)) from limit step (after_of here ahead) found
         (turn_of result tables.new) }
+    ensures kept { tables.new.strings ≡ tables.old.strings }
 {
     let Some(slot) = tables.numbers.store(line, name, from) else {
         return fails(machine, Error::OutOfMemory);
@@ -87,10 +88,11 @@ fn with_step(
     space: &mut [u8],
 ) -> Turned
     requires { Stepped line.now follow × (Settled (state_of machine tables.old) space.old × (FoundBelow machine.depth found × Lined text.now here.0)) }
-    ensures { (input room : List ℕ) (by : Formula) (u : Scanned) → Sound (state_of machine tables.old) input space.old room → Positioned text.now (after_of here u)
+    ensures does { (input room : List ℕ) (by : Formula) (u : Scanned) → Sound (state_of machine tables.old) input space.old room → Positioned text.now (after_of here u)
         → step_of line.now follow ≡ formulas.good by u → (entry : Record)
         → Turns text.now (state_of machine tables.old) input space.old room (Told text.now tables.old.numbers.names (is_loop_of (telling_of (name_bytes line.now name))) machine.depth found entry)
         (from_step (telling_of (name_bytes line.now name)) at.0 (position_of text.now (after_of here u)) by from limit) (turn_of result tables.new) space.new room }
+    ensures kept { tables.new.strings ≡ tables.old.strings }
 {
     let token = follow.token;
     if !is_keyword(Word::Step, token) {
@@ -123,11 +125,12 @@ fn with_limit(
     space: &mut [u8],
 ) -> Turned
     requires { Limited line.now first × (Settled (state_of machine tables.old) space.old × (FoundBelow machine.depth found × Lined text.now here.0)) }
-    ensures { (input room : List ℕ) (to by : Formula) (t u : Scanned) → Sound (state_of machine tables.old) input space.old room
+    ensures does { (input room : List ℕ) (to by : Formula) (t u : Scanned) → Sound (state_of machine tables.old) input space.old room
         → Positioned text.now (after_of here u) → formula_of line.now first ≡ formulas.good to t
         → step_of line.now t ≡ formulas.good by u → (entry : Record)
         → Turns text.now (state_of machine tables.old) input space.old room (Told text.now tables.old.numbers.names (is_loop_of (telling_of (name_bytes line.now name))) machine.depth found entry)
         (from_limit (telling_of (name_bytes line.now name)) at.0 (position_of text.now (after_of here u)) to by from) (turn_of result tables.new) space.new room }
+    ensures kept { tables.new.strings ≡ tables.old.strings }
 {
     let worked = value(line, first, machine, tables, space);
     let Ok(Worked::Whole(limit, follow)) = worked else {
@@ -152,11 +155,12 @@ pub fn for_loop(
     space: &mut [u8],
 ) -> Turned
     requires { Counts line.now name equals × (Settled (state_of machine tables.old) space.old × (FoundBelow machine.depth found × Lined text.now here.0)) }
-    ensures { (input room : List ℕ) (a b c : Formula) (u : Scanned) → Sound (state_of machine tables.old) input space.old room → Positioned text.now (after_of here u)
+    ensures does { (input room : List ℕ) (a b c : Formula) (u : Scanned) → Sound (state_of machine tables.old) input space.old room → Positioned text.now (after_of here u)
         → for_at line.now (variable_of line.now name) equals ≡ done (tree.for (variable_of line.now name) a b c) u
         → (entry : Record) → Turns text.now (state_of machine tables.old) input space.old room
         (Told text.now tables.old.numbers.names (is_loop_of (telling_of (name_bytes line.now name))) machine.depth found entry)
         (λ n. do_statement text.now at.0 (tree.for (variable_of line.now name) a b c) n (position_of text.now (after_of here u))) (turn_of result tables.new) space.new room }
+    ensures kept { tables.new.strings ≡ tables.old.strings }
 {
     let kind = name.kind;
     let Kind::Whole = kind else {
@@ -203,10 +207,11 @@ fn turn(
     entry: Record,
 ) -> Turned
     requires { slot < machine.depth }
-    ensures { (text input space room : List ℕ) (test : spec.Record → Bool) → LoopsOnly test
+    ensures does { (text input space room : List ℕ) (test : spec.Record → Bool) → LoopsOnly test
         → Sound (state_of machine tables.old) input space room → Positioned text (after_of here ahead)
         → Turns text (state_of machine tables.old) input space room (Told text tables.old.numbers.names test machine.depth (Some slot) entry)
         (λ n. next_on n (sought test n.records) (position_of text (after_of here ahead))) (turn_of result tables.new) space room }
+    ensures kept { (tables.new.strings ≡ tables.old.strings) × ((tables.new.numbers.names ≡ tables.old.numbers.names) × (tables.new.numbers.count ≡ tables.old.numbers.count)) }
 {
     let variable = entry.slot;
     match apply(
@@ -238,10 +243,11 @@ pub fn next_turn(
     entry: Record,
 ) -> Turned
     requires { FoundBelow machine.depth found }
-    ensures { (text input space room : List ℕ) (test : spec.Record → Bool) → LoopsOnly test
+    ensures does { (text input space room : List ℕ) (test : spec.Record → Bool) → LoopsOnly test
         → Sound (state_of machine tables.old) input space room → Positioned text (after_of here ahead)
         → Turns text (state_of machine tables.old) input space room (Told text tables.old.numbers.names test machine.depth found entry)
         (λ n. next_on n (sought test n.records) (position_of text (after_of here ahead))) (turn_of result tables.new) space room }
+    ensures kept { (tables.new.strings ≡ tables.old.strings) × ((tables.new.numbers.names ≡ tables.old.numbers.names) × (tables.new.numbers.count ≡ tables.old.numbers.count)) }
 {
     match found {
         None => fails(machine, Error::NextWithoutFor),

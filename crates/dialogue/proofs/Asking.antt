@@ -1,5 +1,5 @@
 -- LINE INPUT: its text is printed, a line of input is taken, and the variable is set to it.
-use Rattle.std.specs.Prelude.{Err, Ok, Some, None}
+use Rattle.std.specs.Prelude.{Err, Ok, Option, Some, None}
 use Rattle.std.specs.Option.{unwrap_or}
 use mathlib.Core.Path.{◌≡◌, refl, sym, ap, ◌∙◌}
 use mathlib.Core.List.{List, [], ◌∷◌}
@@ -48,7 +48,7 @@ use Rattle.machine.specs.bridge.Taking.{taken_at}
 use Rattle.machine.specs.declared.state.Printer.{Printer}
 use Rattle.machine.specs.declared.positions.Next.{Next}
 use Rattle.machine.specs.declared.positions.Next.TheVariants as next
-use Rattle.turns.specs.bridge.Turns.{Turn, turned_to, after_of, Leaves, Leads, Turns, AnyRecords, with_printer, with_taken, string_set, stored_turn}
+use Rattle.turns.specs.bridge.Turns.{Turn, turned_to, after_of, Leaves, Leads, Turns, AnyRecords, with_printer, with_taken, Storage, storage_of, string_set, stored_turn}
 use Rattle.machine.specs.declared.records.Record.{Record}
 use Rattle.machine.proofs.Takes.{took, untaken}
 use Rattle.machine.proofs.Writing.{not_printed, room_length, written_grows, room_above, fitting_after, write-full}
@@ -352,3 +352,8 @@ quoted_part s a n = let e : a + n - a ≡ n = omega arith in rw e
 pub fills_storable : (lengths : List ℕ) (used : ℕ) (space : List ℕ) {space' : List ℕ} (b : List ℕ) → sum_of lengths ≡ used → space' ≡ copied space used b
     → used + length b ≤ length space → length b ≤ longest_input_line → Storable lengths used space' (length b) × (length b ≤ longest_string)
 fills_storable lengths used space b s e f h = let l = copied-length space used b in (record { all = s; fits = rw (e, l) f }, omega arith)
+
+-- the tables after a string is stored, or was not for lack of room
+pub storage_tables : (m : Machine) (s : Option Machine) {S : Storage} {tables : Tables} → storage_of m s tables ≡ S → tables ≡ S.state.tables
+storage_tables m None e = ap (λ x. x.state.tables) e
+storage_tables m (Some n) e = ap (λ x. x.state.tables) e

@@ -31,9 +31,10 @@ fn fill(
     space: &mut [u8],
 ) -> Turned
     requires { Laid machine tables.old.strings.lengths space.old × (length bytes.now ≤ longest_input_line) }
-    ensures { (text input room : List ℕ) → Sound (state_of machine tables.old) input space.old room → Positioned text (after_of here ahead)
+    ensures does { (text input room : List ℕ) → Sound (state_of machine tables.old) input space.old room → Positioned text (after_of here ahead)
         → Turns text (state_of machine tables.old) input space.old room AnyRecords
         (fills_in (variable_of line.now name) bytes.now (position_of text (after_of here ahead))) (turn_of result tables.new) space.new room }
+    ensures kept { tables.new.numbers ≡ tables.old.numbers }
 {
     let used = machine.used;
     let kind = name.kind;
@@ -65,9 +66,10 @@ fn take_in(
     space: &mut [u8],
 ) -> Turned
     requires { Laid machine tables.old.strings.lengths space.old }
-    ensures { (text room : List ℕ) → Sound (state_of machine tables.old) input.now space.old room → Positioned text (after_of here ahead)
+    ensures does { (text room : List ℕ) → Sound (state_of machine tables.old) input.now space.old room → Positioned text (after_of here ahead)
         → Turns text (state_of machine tables.old) input.now space.old room AnyRecords
         (takes_line (variable_of line.now name) (position_of text (after_of here ahead))) (turn_of result tables.new) space.new room }
+    ensures kept { tables.new.numbers ≡ tables.old.numbers }
 {
     let from = machine.taken;
     match take_line(input, from) {
@@ -105,11 +107,12 @@ fn prompt(
     room: &mut [u8],
 ) -> Turned
     requires { Laid machine tables.old.strings.lengths space.old × Fitting machine.printer room.old }
-    ensures { (program : List ℕ) (at : ℕ) (v : Variable) (u : Scanned) → Sound (state_of machine tables.old) input.now space.old room.old
+    ensures does { (program : List ℕ) (at : ℕ) (v : Variable) (u : Scanned) → Sound (state_of machine tables.old) input.now space.old room.old
         → Positioned program (after_of here u)
         → target_at line.now text.now target ≡ done (tree.line_input text.now v) u
         → Turns program (state_of machine tables.old) input.now space.old room.old AnyRecords
         (λ n. do_statement program at (tree.line_input text.now v) n (position_of program (after_of here u))) (turn_of result tables.new) space.new room.new }
+    ensures kept { tables.new.numbers ≡ tables.old.numbers }
 {
     let Some(printer) = write(machine.printer, room, text) else {
         return fails(machine, Error::OutputFull);
@@ -186,10 +189,11 @@ pub fn line_input(
     room: &mut [u8],
 ) -> Turned
     requires { Asks line.now first × (Laid machine tables.old.strings.lengths space.old × Fitting machine.printer room.old) }
-    ensures { (text prompt : List ℕ) (at : ℕ) (v : Variable) (u : Scanned) → Sound (state_of machine tables.old) input.now space.old room.old
+    ensures does { (text prompt : List ℕ) (at : ℕ) (v : Variable) (u : Scanned) → Sound (state_of machine tables.old) input.now space.old room.old
         → Positioned text (after_of here u) → input_at line.now first ≡ done (tree.line_input prompt v) u
         → Turns text (state_of machine tables.old) input.now space.old room.old AnyRecords
         (λ n. do_statement text at (tree.line_input prompt v) n (position_of text (after_of here u))) (turn_of result tables.new) space.new room.new }
+    ensures kept { tables.new.numbers ≡ tables.old.numbers }
 {
     let asked = asked_at(line, first);
     let from = asked.from.0;

@@ -29,10 +29,10 @@ fill-requires c =
     let k = line_took _ c.in-Ok.is in
     (record { all = c.requires.all; within = c.requires.within }, search (rules, k.short))
 
-pub returns-in-Err : goal.returns-in-Err
-returns-in-Err c text room sound p = rw c.fails.ensures
+pub returns-in-Err-clause-does : goal.returns-in-Err-clause-does
+returns-in-Err-clause-does c text room sound p = rw c.fails.ensures
     (takes_fault text sound (variable_of c.args.line.now c.args.name) _ (sym c.take_line.ensures ∙ c.in-Err.is))
 
-pub returns-in-Ok : goal.returns-in-Ok
-returns-in-Ok c text room sound p = takes_line_lem text sound (variable_of c.args.line.now c.args.name) _ (sym c.take_line.ensures ∙ c.in-Ok.is)
-    (λ s. c.fill.ensures text c.args.input.now room s p)
+pub returns-in-Ok-clause-does : goal.returns-in-Ok-clause-does
+returns-in-Ok-clause-does c text room sound p = takes_line_lem text sound (variable_of c.args.line.now c.args.name) _ (sym c.take_line.ensures ∙ c.in-Ok.is)
+    (λ s. c.fill.ensures.does text c.args.input.now room s p)

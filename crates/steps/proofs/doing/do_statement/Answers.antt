@@ -62,11 +62,11 @@ returns-in-Return c = lead_does c.args.text.now c.args.line.now c.args.here c.ar
 
 pub returns-in-For : goal.returns-in-For
 returns-in-For c = lead_does c.args.text.now c.args.line.now c.args.here c.args.at.0 (state_of c.args.machine c.args.tables.now) c.args.found c.args.entry c.args.input.now c.args.space.now c.args.room.now _ _ _ c.requires.0 c.requires.1.1.1.1.0 c.in-Some.is c.requires.1.0
-    (rw c.in-For.is (c.count.ensures c.args.input.now c.args.room.now c.args.entry c.requires.1.1.0))
+    (rw c.in-For.is (c.count.ensures.does c.args.input.now c.args.room.now c.args.entry c.requires.1.1.0))
 
 pub returns-in-Next : goal.returns-in-Next
 returns-in-Next c = lead_does c.args.text.now c.args.line.now c.args.here c.args.at.0 (state_of c.args.machine c.args.tables.now) c.args.found c.args.entry c.args.input.now c.args.space.now c.args.room.now _ _ _ c.requires.0 c.requires.1.1.1.1.0 c.in-Some.is c.requires.1.0
-    (rw c.in-Next.is (c.next_loop.ensures c.args.text.now c.args.input.now c.args.space.now c.args.room.now c.args.at.0 c.requires.1.1.0))
+    (rw c.in-Next.is (c.next_loop.ensures.does c.args.text.now c.args.input.now c.args.space.now c.args.room.now c.args.at.0 c.requires.1.1.0))
 
 pub returns-in-While : goal.returns-in-While
 returns-in-While c = lead_does c.args.text.now c.args.line.now c.args.here c.args.at.0 (state_of c.args.machine c.args.tables.now) c.args.found c.args.entry c.args.input.now c.args.space.now c.args.room.now _ _ _ c.requires.0 c.requires.1.1.1.1.0 c.in-Some.is c.requires.1.0
@@ -78,7 +78,7 @@ returns-in-Wend c = lead_does c.args.text.now c.args.line.now c.args.here c.args
 
 pub returns-in-Line : goal.returns-in-Line
 returns-in-Line c = lead_does c.args.text.now c.args.line.now c.args.here c.args.at.0 (state_of c.args.machine c.args.tables.now) c.args.found c.args.entry c.args.input.now c.args.space.now c.args.room.now _ _ _ c.requires.0 c.requires.1.1.1.1.0 c.in-Some.is c.requires.1.0
-    (rw c.in-Line.is (input_does c.args.text.now c.args.line.now c.args.here c.args.at.0 (state_of c.args.machine c.args.tables.now) c.args.found c.args.entry c.args.input.now c.args.space.now c.args.room.now _ _ _ c.in-Some.led.ahead (λ prompt v u p e. c.line_input.ensures c.args.text.now prompt c.args.at.0 v u c.requires.1.1.0 p (rw (← c.token_at.ensures) at e))))
+    (rw c.in-Line.is (input_does c.args.text.now c.args.line.now c.args.here c.args.at.0 (state_of c.args.machine c.args.tables.now) c.args.found c.args.entry c.args.input.now c.args.space.now c.args.room.now _ _ _ c.in-Some.led.ahead (λ prompt v u p e. c.line_input.ensures.does c.args.text.now prompt c.args.at.0 v u c.requires.1.1.0 p (rw (← c.token_at.ensures) at e))))
 
 pub returns-in-Data : goal.returns-in-Data
 returns-in-Data c = let w = ap (λ x. led_by x c.in-Some.led.ahead) c.in-Data.is in
