@@ -13,6 +13,7 @@ use whole::{Error, Operator, Text, apply, truth};
 use words::{Place, Scanned};
 
 // Strings compare by bytes, and a proper prefix is less. The right one stands right after the left one.
+#[tactic(auto, using(crate::proofs::Orders::order_told))]
 fn compare(space: &[u8], used: Offset, first: usize, second: usize) -> Ordering
     requires { used.0 + first + second ≤ length space.now }
     ensures { result ≡ order_of (take first (drop used.0 space.now)) (take second (drop (used.0 + first) space.now)) }

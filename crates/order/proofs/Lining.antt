@@ -1,7 +1,7 @@
 -- A line that passes, and the step from one of its statements to the next.
 use Rattle.std.specs.Prelude.{Option, Result, is_ok}
 use Rattle.words.specs.declared.places.Place.{Place}
-use mathlib.Core.Path.{◌≡◌, sym}
+use mathlib.Core.Path.{◌≡◌, refl, sym}
 use mathlib.Core.Bool.{Bool, true, false, not, false≢true}
 use mathlib.Core.List.{List, [], ◌∷◌}
 use Prim.Native.Nat.{ℕ}
@@ -37,6 +37,9 @@ pub pass_judged : (s : List ℕ) (g : Judgement) → judgement s ≡ g → {j : 
 pass_judged s unreadable q e = rw (e, q)
 pass_judged s too_deep q e = rw (e, q)
 pass_judged s (holds part) q e = rw e (record { part = part; is = q })
+
+pub passes_told : (s : List ℕ) (b : Bool) {j : Result Bool LineFault} → j ≡ judged_as (judgement s) → is_ok j ≡ b → PassesIf s b
+passes_told s b e i = rw i at (pass_judged s (judgement s) refl e)
 
 pub fails_if : (s : List ℕ) (b : Bool) → not b ≡ true → PassesIf s b → parts_held (judgement s) ≡ []
 fails_if s true e k = absurd (false≢true e)

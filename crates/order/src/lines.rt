@@ -12,6 +12,7 @@ use statements::statement_at;
 use words::Place;
 
 // Whether a line reads and does not nest too deep.
+#[tactic(auto, using(crate::proofs::Lining::passes_told))]
 pub(crate) fn passes(line: &[u8]) -> bool
     ensures { PassesIf line.now result }
 {

@@ -1,6 +1,7 @@
 -- How large a result is: it fits the 32 bits in which the code works, so that the code works on the numbers themselves.
-use Rattle.std.specs.Prelude.{Result, ℕ}
+use Rattle.std.specs.Prelude.{Result, Ok, Err, ℕ}
 use Rattle.whole.specs.declared.errors.Error.{Error}
+use Rattle.whole.specs.declared.errors.Error.TheVariants.{Overflow}
 use borrow.Author.Tests.{lt-ltb, le-ltb}
 use mathlib.Core.Logic.{⊎_elim}
 use mathlib.Core.Path.{◌≡◌, refl, sym, ap, ap₂, ◌∙◌}
@@ -17,7 +18,7 @@ use mir.Val.{Fits, SFits, to_z, of_z}
 use mir.Facts.{to_z-of_z}
 use Rattle.whole.specs.Whole.{num, word, fit, sign_of}
 use Rattle.whole.specs.bridge.Wide.{back}
-use Rattle.whole.proofs.Numbers.{less, num_low, num_high, num_either, num_small}
+use Rattle.whole.proofs.Numbers.{less, num_low, num_high, num_either, num_small, fit_in, fit_out}
 
 -- ---- how large a result is
 
@@ -92,6 +93,16 @@ signed_back z h = to_z-of_z {w = w16} {z = z} (record { sfits = h })
 pub signed_word : (z : ℤ) → mag z < 32768 → of_z w16 z ≡ word z
 signed_word (pos n) h = refl
 signed_word (negsuc n) h = omega arith
+
+-- so what 16 bits do not hold is overflow, and what they hold is answered by its bits
+pub fitted_out : (z : ℤ) → SFits w32 z → (SFits w16 (back z) → ⊥) → fit z ≡ Err Overflow
+fitted_out z r none = ⊎_elim (λ l. absurd (none (rw (to_z-of_z r) (record { sfits = l })))) (λ l. fit_out z l) (less (mag z) 32768)
+
+pub fitted_in : (z n : ℤ) (w : ℕ) → SFits w32 z → SFits w16 (back z) → n ≡ back z → w ≡ of_z w16 (to_z w16 (of_z w16 n)) → fit z ≡ Ok w
+fitted_in z n w r fits e i =
+    let small = (rw (to_z-of_z r) at fits).sfits in
+    let told : n ≡ z = e ∙ to_z-of_z r in
+    rw (i, told, signed_back z small, signed_word z small) (fit_in z small)
 
 -- of its sign, too
 pub sign_back : (z : ℤ) → mag (sign_of z) < 32768

@@ -35,6 +35,7 @@ fn number(word: u16) -> i32
 }
 
 // A result outside -32768 to 32767 is overflow.
+#[tactic(auto, using(crate::proofs::Sizes::fitted_out, crate::proofs::Sizes::fitted_in))]
 fn fitted(z: i32) -> Result<u16, Error>
     ensures { result ≡ fit z }
 {
