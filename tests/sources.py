@@ -1,4 +1,5 @@
 """What the tests that look at sources share: code without its comments, definitions of specs/, functions with their contracts, and the crates by floors."""
+import glob
 import os
 import re
 import textwrap
@@ -130,9 +131,10 @@ def passed_on(root):
 
 
 def proofs_of(crate, module, function):
-    """The files of a function's own proof; none where the toolchain finds it itself."""
-    among = f'crates/{crate}/proofs/' + '/'.join(filter(None, (module, function.owner)))
-    folders = [f'{among}/+{function.cycle}' if function.cycle else f'{among}/{function.name}', f'{among}/+{function.name}']
+    """The files of a function's own proof; none where the toolchain finds it itself. A method's stand below its type, which may be another module's."""
+    among = [f'crates/{crate}/proofs/' + '/'.join(filter(None, (module, function.owner)))]
+    if function.owner: among += sorted(set(glob.glob(f'crates/{crate}/proofs/*/{function.owner}')) - set(among))
+    folders = [f'{there}/{name}' for there in among for name in (f'+{function.cycle}' if function.cycle else function.name, f'+{function.name}')]
     found = [f'{folder}/{name}.antt' for folder in folders for name in ('Answers', 'Invariants', 'Proof')]
     return [path for path in found if os.path.isfile(path)]
 
